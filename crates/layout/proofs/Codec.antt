@@ -1,0 +1,37 @@
+-- The leaves against the store's codec and header. Assumes nothing.
+use mathlib.Core.Path.{_≡_, refl, sym, ap, _∙_}
+use mathlib.Core.Bool.{Bool, true, false, cond}
+use mathlib.Core.List.{List, [], _∷_, _++_}
+use Prim.Native.Nat.{ℕ, zero, suc, _+_, _-_, _*_, _/_, _%_, _^_, _≤_, _<_}
+use native.Mathlib.Omega.{arith}
+use lib.ListN.{length}
+use borrow.Author.Tests.{lt-ltb}
+use Rattle.store.specs.Numbers.{cut, put, be, toBE}
+use Rattle.store.specs.Slots.{ofKind, slotOf}
+use Rattle.store.specs.Page.{view, count, slotAt}
+use Rattle.store.specs.declared.Slot.{Slot}
+use Rattle.store.specs.declared.Slot.the-variants.{Ordinary, Free, Redirect, Target}
+use Rattle.layout.specs.Run.{headOf}
+use Rattle.layout.proofs.Writes.{write-append}
+
+pub kind-three : (k w : ℕ) → 3 ≤ k → ofKind k w ≡ Target (w / 2 ^ 32) (w % 2 ^ 32)
+kind-three zero w h = absurd (omega arith)
+kind-three (suc zero) w h = absurd (omega arith)
+kind-three (suc (suc zero)) w h = absurd (omega arith)
+kind-three (suc (suc (suc k))) w h = refl
+
+-- a slot that is counted
+pub counted-slot : (p : List ℕ) (k : ℕ) → k < view p .slotCount → slotOf (be (cut p (12 + 8 * k) 8)) ≡ view p .at k
+unfolding view
+counted-slot p k h = sym (rw (lt-ltb k (count p) h))
+
+-- the four numbers of the header
+pub header-put : (c f d n : ℕ) (p q₁ q₂ q₃ q₄ : List ℕ)
+    → q₁ ≡ put p 0 (toBE 2 c) → q₂ ≡ put q₁ 2 (toBE 2 f) → q₃ ≡ put q₂ 4 (toBE 4 d) → q₄ ≡ put q₃ 8 (toBE 4 n)
+    → q₄ ≡ put p 0 (headOf c f d n)
+unfolding headOf
+header-put c f d n p q₁ q₂ q₃ q₄ e₁ e₂ e₃ e₄ =
+    sym (write-append 0 (toBE 2 c) (toBE 2 f ++ (toBE 4 d ++ toBE 4 n)) p
+    ∙ write-append 2 (toBE 2 f) (toBE 4 d ++ toBE 4 n) (put p 0 (toBE 2 c))
+    ∙ write-append 4 (toBE 4 d) (toBE 4 n) (put (put p 0 (toBE 2 c)) 2 (toBE 2 f))
+    ∙ sym (rw (e₄, e₃, e₂, e₁)))

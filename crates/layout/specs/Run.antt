@@ -1,0 +1,14 @@
+-- What the leaves read and write, in the store's own words: `cut`, `put`, `be`, `toBE`. Assumes nothing.
+use mathlib.Core.Path.{_≡_}
+use mathlib.Core.List.{List, _++_}
+use Prim.Native.Nat.{ℕ, _^_, _<_}
+use Rattle.store.specs.Numbers.{cut, be, toBE}
+
+-- what a reader of w bytes finds
+pub record Read (w at : ℕ) (p : List ℕ) (r : ℕ) : Type 0 where
+  pub is : r ≡ be (cut p at w)
+  pub small : r < 256 ^ w
+
+-- the header's twelve bytes; shut, so that provers see one atom
+unfoldable pub headOf : ℕ → ℕ → ℕ → ℕ → List ℕ
+headOf c f d n = toBE 2 c ++ (toBE 2 f ++ (toBE 4 d ++ toBE 4 n))

@@ -1,0 +1,129 @@
+// The leaves: numbers at an offset, runs of bytes, the slot codec and the header.
+pub mod header;
+pub mod slots;
+
+ghost use mathlib.Core.Path.{_≡_};
+ghost use Prim.Native.Nat.{_+_, _≤_, _<_};
+ghost use lib.ListN.{length};
+ghost use Rattle.store.specs.Numbers.{cut, put, toBE, zeros};
+ghost use Rattle.layout.specs.Run.{Read};
+
+// n zeros from `at` on.
+pub fn zero_fill(page: &mut [u8], at: usize, n: usize)
+    requires { ⌜ at + n ≤ length (now page) ⌝ }
+    ensures { λ _. ⌜ now (page .exit) ≡ put (now (page .entry)) at (zeros n) ⌝ }
+{
+    let mut j = 0;
+    while j < n {
+        page[at + j] = 0;
+        j += 1;
+    }
+}
+
+// All of src from `at` on.
+pub fn copy_in(page: &mut [u8], at: usize, src: &[u8])
+    requires { ⌜ at + length (now src) ≤ length (now page) ⌝ }
+    ensures { λ _. ⌜ now (page .exit) ≡ put (now (page .entry)) at (now (src .entry)) ⌝ }
+{
+    let mut j = 0;
+    while j < src.len() {
+        page[at + j] = src[j];
+        j += 1;
+    }
+}
+
+// The n bytes at `from` to `to`, which is not above it: the lowest byte first.
+pub fn move_down(page: &mut [u8], from: usize, n: usize, to: usize)
+    requires { ⌜ (from + n ≤ length (now page)) × (to ≤ from) ⌝ }
+    ensures { λ _. ⌜ now (page .exit) ≡ put (now (page .entry)) to (cut (now (page .entry)) from n) ⌝ }
+{
+    let mut j = 0;
+    while j < n {
+        page[to + j] = page[from + j];
+        j += 1;
+    }
+}
+
+// The n bytes at `from` to `to`, which is not below it: the highest byte first.
+pub fn move_up(page: &mut [u8], from: usize, n: usize, to: usize)
+    requires { ⌜ (to + n ≤ length (now page)) × (from ≤ to) ⌝ }
+    ensures { λ _. ⌜ now (page .exit) ≡ put (now (page .entry)) to (cut (now (page .entry)) from n) ⌝ }
+{
+    let mut j = n;
+    while 0 < j {
+        j -= 1;
+        page[to + j] = page[from + j];
+    }
+}
+
+// The n bytes at `from` to `to`, also where the two runs overlap.
+pub fn move_within(page: &mut [u8], from: usize, n: usize, to: usize)
+    requires { ⌜ (from + n ≤ length (now page)) × (to + n ≤ length (now page)) ⌝ }
+    ensures { λ _. ⌜ now (page .exit) ≡ put (now (page .entry)) to (cut (now (page .entry)) from n) ⌝ }
+{
+    if to <= from {
+        move_down(page, from, n, to);
+    } else {
+        move_up(page, from, n, to);
+    }
+}
+
+fn wide(b: u8) -> usize
+    ensures { λ r. ⌜ (r ≡ b) × (r < 256) ⌝ }
+{
+    b as usize
+}
+
+// The number of two bytes at `at`, the highest first.
+pub fn get_u16(page: &[u8], at: usize) -> usize
+    requires { ⌜ at + 2 ≤ length (now page) ⌝ }
+    ensures { λ r. ⌜ Read 2 at (now (page .entry)) r ⌝ }
+{
+    wide(page[at]) * 256 + wide(page[at + 1])
+}
+
+// The number of four bytes at `at`, the highest first.
+pub fn get_u32(page: &[u8], at: usize) -> usize
+    requires { ⌜ at + 4 ≤ length (now page) ⌝ }
+    ensures { λ r. ⌜ Read 4 at (now (page .entry)) r ⌝ }
+{
+    let high = wide(page[at]) * 256 + wide(page[at + 1]);
+    (high * 256 + wide(page[at + 2])) * 256 + wide(page[at + 3])
+}
+
+// The lowest two bytes of v to `at`.
+pub fn put_u16(page: &mut [u8], at: usize, v: usize)
+    requires { ⌜ at + 2 ≤ length (now page) ⌝ }
+    ensures { λ _. ⌜ now (page .exit) ≡ put (now (page .entry)) at (toBE 2 v) ⌝ }
+{
+    page[at] = (v / 256 % 256) as u8;
+    page[at + 1] = (v % 256) as u8;
+}
+
+// The lowest four bytes of v to `at`.
+pub fn put_u32(page: &mut [u8], at: usize, v: usize)
+    requires { ⌜ at + 4 ≤ length (now page) ⌝ }
+    ensures { λ _. ⌜ now (page .exit) ≡ put (now (page .entry)) at (toBE 4 v) ⌝ }
+{
+    page[at] = (v / 16777216 % 256) as u8;
+    page[at + 1] = (v / 65536 % 256) as u8;
+    page[at + 2] = (v / 256 % 256) as u8;
+    page[at + 3] = (v % 256) as u8;
+}
+
+// The number of eight bytes at `at`, the highest first.
+pub fn get_u64(page: &[u8], at: usize) -> usize
+    requires { ⌜ at + 8 ≤ length (now page) ⌝ }
+    ensures { λ r. ⌜ Read 8 at (now (page .entry)) r ⌝ }
+{
+    get_u32(page, at) * 4294967296 + get_u32(page, at + 4)
+}
+
+// The eight bytes of v to `at`.
+pub fn put_u64(page: &mut [u8], at: usize, v: usize)
+    requires { ⌜ at + 8 ≤ length (now page) ⌝ }
+    ensures { λ _. ⌜ now (page .exit) ≡ put (now (page .entry)) at (toBE 8 v) ⌝ }
+{
+    put_u32(page, at, v / 4294967296);
+    put_u32(page, at + 4, v);
+}

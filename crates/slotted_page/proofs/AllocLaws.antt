@@ -1,0 +1,123 @@
+-- Making room and allocate against the store's plans. Assumes nothing.
+use mathlib.Core.Path.{_≡_, refl, sym, ap, _∙_}
+use mathlib.Core.Bool.{Bool, true, false, cond}
+use mathlib.Core.List.{List, [], _∷_, _++_}
+use Prim.Native.Nat.{ℕ, zero, suc, _+_, _-_, _*_, _/_, _≤_, _<_}
+use native.Mathlib.Omega.{arith}
+use lib.ListN.{length}
+use lib.Dec.{ltb, eqb}
+use borrow.Author.Tests.{lt-ltb, le-ltb, eq-eqb, ne-eqb}
+use Rattle.store.specs.Numbers.{put, zeros, upd}
+use Rattle.store.specs.Slots.{slotBytes, off, len, isFree}
+use Rattle.store.specs.Page.{View, view}
+use Rattle.store.specs.PageSteps.{apply, commit, run, withHead, withSlot, Plan, stay, andThen, gap, makeRoom, compactify, nextFree, isNew, cost, allocated, noRoom, got, allocate}
+use Rattle.store.specs.Laws.Views.{Sound, upd-same}
+use Rattle.store.specs.Laws.Exact.{run-append}
+use Rattle.store.specs.Laws.Compactify.{Kept, compact-exact, compact-keeps, compact-gap}
+use Rattle.store.specs.declared.Slot.{Slot}
+use Rattle.store.specs.declared.Slot.the-variants.{Ordinary, Free, Redirect, Target}
+use Rattle.store.specs.declared.Place.{Place}
+use Rattle.store.specs.declared.Place.the-variants.{At, NoRoom}
+use Rattle.layout.specs.Run.{headOf}
+use Rattle.slotted_page.specs.Words.{Roomed, pageAfter, placeOf}
+use Rattle.slotted_page.proofs.StepLaws.{commit-writes}
+
+-- ---- room
+
+module _ (p : List ℕ) (n r : ℕ) (whole : length p ≡ 16384) (s : Sound (view p)) where
+  pub room-made : (q : List ℕ) → n ≤ view p .freeSpace → gap (view p) < n → q ≡ run (compactify (view p) .edits) p → r ≡ compactify (view p) .after .dataStart → Roomed n p q r
+  room-made q h g e b =
+      let x = compact-exact p (view p) whole refl s .sound in
+      let k = compact-keeps (view p) s in
+      let t : ltb (gap (view p)) n ≡ true = lt-ltb (gap (view p)) n g in
+      record {
+        is = rw t e;
+        begins = rw t b;
+        low = omega (arith, x .dir, k .slotCount, compact-gap (view p) s);
+        high = omega (arith, x .start≤);
+      }
+
+  pub room-there : n ≤ gap (view p) → r ≡ view p .dataStart → Roomed n p p r
+  room-there g b =
+      let t : ltb (gap (view p)) n ≡ false = le-ltb (gap (view p)) n g in
+      record { is = rw t; begins = rw t b; low = omega (arith, s .dir); high = omega (arith, s .start≤) }
+
+pub roomy-keeps : (v : View) (n : ℕ) → Sound v → Kept v (makeRoom v n .after)
+roomy-keeps v n s = go (ltb (gap v) n)
+  where
+    go : (b : Bool) → Kept v (cond b (compactify v) (stay v) .after)
+    go true = compact-keeps v s
+    go false = record { slotCount = refl; firstFree = refl; freeSpace = refl; bytes = λ j. refl; lens = λ j. refl; kinds = λ j. refl; tags = λ j. refl }
+
+-- ---- the next free slot
+
+module _ (at : ℕ → Slot) (c i : ℕ) (h : i < c) where
+  suc-sub : c - i ≡ suc (c - (i + 1))
+  suc-sub = omega arith
+
+  pub next-here : true ≡ isFree (at i) → nextFree (c - i) at i ≡ i
+  next-here e = rw (suc-sub, ← e)
+
+  pub next-past : false ≡ isFree (at i) → nextFree (c - i) at i ≡ nextFree (c - (i + 1)) at (i + 1)
+  next-past e = rw (suc-sub, ← e)
+
+pub next-end : (at : ℕ → Slot) (c i : ℕ) → c ≤ i → nextFree (c - i) at i ≡ i
+next-end at c i h = let e : c - i ≡ 0 = omega arith in rw e
+
+next-same : (n : ℕ) (at bt : ℕ → Slot) (j : ℕ) → ((i : ℕ) → isFree (bt i) ≡ isFree (at i)) → nextFree n bt j ≡ nextFree n at j
+next-same zero at bt j h = refl
+next-same (suc n) at bt j h = rw (h j, next-same n at bt (j + 1) h)
+
+-- ---- allocate
+
+new-count : (b : Bool) (c : ℕ) → cond b (c + 1) c ≡ c + cond b 8 0 / 8
+new-count true c = omega arith
+new-count false c = omega arith
+
+new-cost : (b : Bool) (n : ℕ) → cond b (n + 8) n ≡ n + cond b 8 0
+new-cost true n = refl
+new-cost false n = omega arith
+
+module _ (v : View) (size c f n m : ℕ) (ec : c ≡ v .slotCount) (ef : f ≡ v .firstFree) (en : n ≡ v .freeSpace) (em : m ≡ cond (eqb f c) 8 0) where
+  cost-is : cost v size ≡ size + m
+  cost-is = rw (em, ec, ef) (new-cost (isNew v) size)
+
+  pub allocate-none : (p : List ℕ) → n < size + m → (p ≡ pageAfter (allocate v size) p) × (NoRoom ≡ placeOf (allocate v size))
+  unfolding allocate
+  allocate-none p h =
+      let t : ltb (v .freeSpace) (cost v size) ≡ true = lt-ltb (v .freeSpace) (cost v size) (omega (arith, cost-is)) in
+      rw t (refl, refl)
+
+  -- the commit, on a page that shows w, which keeps v's numbers
+  commit-done : (w : View) → Kept v w → (r next : ℕ) (q₁ q₂ q₃ q₄ : List ℕ) → r ≡ w .dataStart → next ≡ nextFree (c - (f + 1)) (v .at) (f + 1)
+      → q₂ ≡ put q₁ 0 (headOf (c + m / 8) next (r - size) (n - (size + m)))
+      → q₃ ≡ put q₂ (12 + 8 * f) (slotBytes (Ordinary (r - size) size))
+      → q₄ ≡ put q₃ (r - size) (zeros size)
+      → q₄ ≡ apply (commit (w .firstFree) (allocated w size)) q₁
+  commit-done w k r next q₁ q₂ q₃ q₄ er ex e₂ e₃ e₄ =
+      let a : w .firstFree ≡ f = k .firstFree ∙ sym ef in
+      let b : w .slotCount ≡ c = k .slotCount ∙ sym ec in
+      let y : w .freeSpace ≡ n = k .freeSpace ∙ sym en in
+      let g : cond (isNew w) (w .slotCount + 1) (w .slotCount) ≡ c + m / 8 = rw (a, b, em) (new-count (eqb f c) c) in
+      let h : cost w size ≡ size + m = rw (a, b, em) (new-cost (eqb f c) size) in
+      let x : nextFree (w .slotCount - (w .firstFree + 1)) (w .at) (w .firstFree + 1) ≡ next = rw (a, b) (next-same (c - (f + 1)) (v .at) (w .at) (f + 1) (k .kinds) ∙ sym ex) in
+      let u : View = withHead w (cond (isNew w) (w .slotCount + 1) (w .slotCount)) (nextFree (w .slotCount - (w .firstFree + 1)) (w .at) (w .firstFree + 1)) (w .dataStart - size) (w .freeSpace - cost w size) in
+      sym (commit-writes u (w .firstFree) (Ordinary (w .dataStart - size) size) (zeros size) q₁ ∙ rw (g, x, h, a, y, ← er, ← e₂, ← e₃) (sym e₄))
+
+  pub allocate-done : Sound v → (r next : ℕ) (p q₁ q₂ q₃ q₄ : List ℕ) → size + m ≤ n
+      → next ≡ nextFree (c - (f + 1)) (v .at) (f + 1)
+      → q₁ ≡ run (makeRoom v (size + m) .edits) p → r ≡ makeRoom v (size + m) .after .dataStart
+      → q₂ ≡ put q₁ 0 (headOf (c + m / 8) next (r - size) (n - (size + m)))
+      → q₃ ≡ put q₂ (12 + 8 * f) (slotBytes (Ordinary (r - size) size))
+      → q₄ ≡ put q₃ (r - size) (zeros size)
+      → (q₄ ≡ pageAfter (allocate v size) p) × (At f (r - size) ≡ placeOf (allocate v size))
+  unfolding allocate
+  allocate-done s r next p q₁ q₂ q₃ q₄ h ex e₁ er e₂ e₃ e₄ =
+      let t : ltb (v .freeSpace) (cost v size) ≡ false = le-ltb (v .freeSpace) (cost v size) (omega (arith, cost-is)) in
+      let w : View = makeRoom v (size + m) .after in
+      let k : Kept v w = roomy-keeps v (size + m) s in
+      let d = commit-done w k r next q₁ q₂ q₃ q₄ er ex e₂ e₃ e₄ in
+      let j : off (upd (w .at) (w .firstFree) (Ordinary (w .dataStart - size) size) (v .firstFree)) ≡ r - size =
+      rw (k .firstFree) (ap off (upd-same (w .at) (v .firstFree) (Ordinary (w .dataStart - size) size)) ∙ rw er) in
+      rw (t, cost-is)
+      (d ∙ sym (run-append (makeRoom v (size + m) .edits) (commit (w .firstFree) (allocated w size) ∷ []) p ∙ rw (← e₁)), λ i. At (ef i) (sym j i))

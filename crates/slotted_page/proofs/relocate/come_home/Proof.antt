@@ -1,0 +1,54 @@
+-- `slotted_page::relocate::come_home` meets its contract. Assumes nothing.
+use Rattle.store.specs.Page.{view}
+use Rattle.slotted_page.proofs.RelocLaws.{home-none, home-done}
+use borrow.Author.Needs.{needs}
+use Rattle.slotted_page.proofs.relocate.come_home.Statement.{statement}
+use Rattle.slotted_page.proofs.relocate.come_home.Tie as tie
+use Rattle.slotted_page.proofs.relocate.come_home.Reads as reads
+use Rattle.slotted_page.proofs.relocate.come_home.Lts as lts
+use Rattle.layout.proofs.header.get_free_space.Reads as get-free-space-reads
+use Rattle.slotted_page.proofs.relocate.put_under.Reads as put-under-reads
+use Rattle.layout.proofs.zero_fill.Reads as zero-fill-reads
+
+get-free-space-requires : tie.Need-get-free-space-requires
+get-free-space-requires c κs = search needs
+
+same-length : tie.Need-same-length
+same-length c = search needs
+
+returns : tie.Need-returns
+returns c =
+    let r = c .before in
+    let a = r .before .before .before .args in
+    home-none (view (a .page .now)) (a .k) (a .size) (r .get-free-space .result) (a .page .now) (r .get-free-space .ensures .0) (c .if1 .taken)
+
+put-under-requires : tie.Need-put-under-requires
+put-under-requires c κs = search needs
+
+zero-fill-requires : tie.Need-zero-fill-requires
+zero-fill-requires c κs = search needs
+
+same-length-2 : tie.Need-same-length-2
+same-length-2 c = search needs
+
+returns-2 : tie.Need-returns-2
+returns-2 c =
+    let z = c .before .before in
+    let u = z .before .before .before .before in
+    let e = u .before .before in
+    let r = e .before in
+    let a = r .before .before .before .args in
+    home-done (view (a .page .now)) (a .k) (a .size) (r .get-free-space .result) (u .put-under .result) (a .page .now) (u .put-under .last .0) (z .zero-fill .last .0)
+    (r .get-free-space .ensures .0) (e .if1 .left) (u .put-under .ensures .0) (u .put-under .ensures .1) (z .zero-fill .ensures)
+
+pub come-home-spec : {M : Type 1} → statement M
+come-home-spec =
+    tie.close
+    (tie.spec
+    get-free-space-requires
+    same-length
+    returns
+    put-under-requires
+    zero-fill-requires
+    same-length-2
+    returns-2)

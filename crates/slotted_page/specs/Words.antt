@@ -1,0 +1,66 @@
+-- Words for the contracts of the page's functions. Assumes nothing.
+use mathlib.Core.Path.{_≡_}
+use mathlib.Core.List.{List, [], _∷_, _++_}
+use mathlib.Core.Bool.{Bool, true, false, cond}
+use Prim.Native.Nat.{ℕ, _+_, _-_, _*_, _≤_}
+use lib.Dec.{ltb}
+use Rattle.store.specs.Numbers.{put, zeros, fit}
+use Rattle.layout.specs.Run.{headOf}
+use Rattle.store.specs.Slots.{off, slotBytes, placed}
+use Rattle.store.specs.Page.{View, view}
+use Rattle.store.specs.PageSteps.{Plan, run, filled, commit, andThen, makeRoom, moveUnder, shrunk, parked, Alloc, noRoom, got, Relocated, refused, moved, plan}
+use Rattle.store.specs.declared.Slot.{Slot}
+use Rattle.store.specs.declared.Slot.the-variants.{Ordinary}
+use Rattle.store.specs.declared.Place.{Place}
+use Rattle.store.specs.declared.Place.the-variants.{At, NoRoom}
+
+-- what making room for n bytes leaves: the page q, with data start r
+pub record Roomed (n : ℕ) (p q : List ℕ) (r : ℕ) : Type 0 where
+  pub is : q ≡ run (makeRoom (view p) n .edits) p
+  pub begins : r ≡ makeRoom (view p) n .after .dataStart
+  pub low : 12 + 8 * view p .slotCount + n ≤ r
+  pub high : r ≤ 16384
+
+-- what allocate leaves and answers: a refusal has no edit
+abbrev pub pageAfter : Alloc → List ℕ → List ℕ
+pageAfter noRoom p = p
+pageAfter (got k a) p = run (a .edits) p
+
+abbrev pub placeOf : Alloc → Place
+placeOf noRoom = NoRoom
+placeOf (got k a) = At k (off (a .after .at k))
+
+-- the record lies in the page
+abbrev pub Inside : Place → ℕ → Type 0
+Inside (At k o) n = o + n ≤ 16384
+Inside NoRoom n = Unit {0}
+
+-- its bytes written where it stands
+abbrev pub filledAt : Alloc → List ℕ → Alloc
+filledAt noRoom bs = noRoom
+filledAt (got k a) bs = got k (filled a k bs)
+
+-- ---- relocate: its plans by name, and what it leaves and answers
+
+abbrev pub shrinkPlan : View → ℕ → ℕ → Plan
+shrinkPlan v k n = plan (commit k (shrunk v k n) ∷ []) (shrunk v k n)
+
+abbrev pub growPlan : View → ℕ → ℕ → Plan
+growPlan v k n = andThen (plan (commit k (parked v k) ∷ []) (parked v k)) (λ w. moveUnder w k (v .at k) n (fit n (v .bytes k)))
+
+abbrev pub homeOf : View → ℕ → ℕ → Relocated
+homeOf v k n = cond (ltb (v .freeSpace) n) refused (moved (moveUnder v k (Ordinary 0 0) n (zeros n)))
+
+abbrev pub pageMoved : Relocated → List ℕ → List ℕ
+pageMoved refused p = p
+pageMoved (moved a) p = run (a .edits) p
+
+abbrev pub wasMoved : Relocated → Bool
+wasMoved refused = false
+wasMoved (moved a) = true
+
+-- room is made, and slot k's entry is a record of kind s just under data start; its bytes are not written yet
+unfoldable pub underPage : View → ℕ → Slot → ℕ → List ℕ → List ℕ
+underPage v k s n p =
+    let w = makeRoom v n .after in
+    put (put (run (makeRoom v n .edits) p) 0 (headOf (w .slotCount) (w .firstFree) (w .dataStart - n) (w .freeSpace - n))) (12 + 8 * k) (slotBytes (placed s (w .dataStart - n) n))

@@ -1,0 +1,30 @@
+// Allocate on any sound page: a fresh one is initialised first.
+use store::Place;
+ghost use mathlib.Core.Path.{_≡_};
+ghost use mathlib.Core.Bool.{true};
+ghost use Prim.Native.Nat.{_≤_};
+ghost use lib.ListN.{length};
+ghost use Rattle.store.specs.Page.{view, sound};
+ghost use Rattle.store.specs.PageSteps.{opened, putHead, initialised, allocate};
+ghost use Rattle.slotted_page.specs.Words.{pageAfter, placeOf, Inside};
+
+// The header of a page just initialised.
+pub fn initialize(page: &mut [u8])
+    requires { ⌜ length (now page) ≡ 16384 ⌝ }
+    ensures { λ _. ⌜ now (page .exit) ≡ putHead initialised (now (page .entry)) ⌝ }
+{
+    layout::header::set_header(page, 0, 0, 16384, 16372);
+}
+
+pub fn allocate_opened(page: &mut [u8], size: usize) -> Place
+    requires { ⌜ (length (now page) ≡ 16384) × (sound (view (now page)) ≡ true) × (size ≤ 16364) ⌝ }
+    ensures { λ r. ⌜ (now (page .exit) ≡ pageAfter (allocate (opened (view (now (page .entry)))) size) (now (page .entry)))
+        × (r ≡ placeOf (allocate (opened (view (now (page .entry)))) size)) × Inside r size ⌝ }
+{
+    let c = layout::header::get_slot_count(page);
+    if c == 0 {
+        initialize(page);
+        return crate::alloc::allocate(page, size);
+    }
+    crate::alloc::allocate(page, size)
+}

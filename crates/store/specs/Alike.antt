@@ -1,0 +1,39 @@
+-- Demand 3: when two segments are alike, and when the same calls have left them so. Assumes nothing.
+use Prim.Native.Nat.{ℕ, _+_, _*_, _/_, _<_, _≤_}
+use mathlib.Core.Path.{_≡_}
+use mathlib.Core.List.{List, [], _∷_}
+use lib.ListN.{length}
+use Rattle.store.specs.Numbers.{cut}
+use Rattle.store.specs.Page.{count, bytesAt}
+use Rattle.store.specs.Segment.{segView, pageOf, Result}
+
+-- "equal slot entries and equal record bytes, with equal headers on pages in use": headers by their 12 bytes, entries below the count by
+-- their 8; fresh in both or in neither
+pub data AlikePage (p q : List ℕ) : Type 0 where
+  both-fresh : count p ≡ 0 → count q ≡ 0 → AlikePage p q
+  both-used : 0 < count p → 0 < count q → cut p 0 12 ≡ cut q 0 12
+      → ((k : ℕ) → k < count p → cut p (12 + 8 * k) 8 ≡ cut q (12 + 8 * k) 8) → ((k : ℕ) → k < count p → bytesAt p k ≡ bytesAt q k)
+      → AlikePage p q
+
+-- "two .. segments of equally many pages .. differing in any other bytes"
+pub record Alike (s t : List ℕ) : Type 0 where
+  pub long : length s ≡ length t
+  pub pages : (p : ℕ) → p < length s / 16384 → AlikePage (pageOf s p) (pageOf t p)
+
+-- the companion: entries by kind and values, so that free slots may differ in the bits that are ignored on reading
+pub record AlikeByKind (s t : List ℕ) : Type 0 where
+  pub long : length s ≡ length t
+  pub seen : segView s ≡ segView t
+
+-- "equal answers, ids, refusals .. and leave the two alike in the same sense"; with equal inventories
+pub record Same (like : List ℕ → List ℕ → Type 0) (a b : Result) : Type 0 where
+  pub answer : a .answer ≡ b .answer
+  pub id : a .id ≡ b .id
+  pub inv : a .inv ≡ b .inv
+  pub seg : like (a .seg) (b .seg)
+
+abbrev pub AllSame : (List ℕ → List ℕ → Type 0) → List Result → List Result → Type 0
+AllSame like [] [] = Unit {0}
+AllSame like [] (b ∷ bs) = ⊥
+AllSame like (a ∷ xs) [] = ⊥
+AllSame like (a ∷ xs) (b ∷ bs) = Same like a b × AllSame like xs bs

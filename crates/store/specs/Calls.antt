@@ -1,0 +1,23 @@
+-- The calls that write, each with its data, and any sequence of them. Assumes nothing.
+use Prim.Native.Nat.{ℕ}
+use mathlib.Core.List.{List, [], _∷_}
+use Rattle.store.specs.Segment.{Result, insertStep, allocateStep, writeStep, resizeStep, eraseStep}
+
+pub data Call : Type 0 where
+  insert : List ℕ → Call
+  allocate : ℕ → Call
+  write : ℕ → List ℕ → Call
+  resize : ℕ → ℕ → Call
+  erase : ℕ → Call
+
+abbrev pub called : Call → List ℕ → List ℕ → Result
+called (insert bs) s v = insertStep s v bs
+called (allocate n) s v = allocateStep s v n
+called (write i bs) s v = writeStep s v i bs
+called (resize i n) s v = resizeStep s v i n
+called (erase i) s v = eraseStep s v i
+
+-- what each call of the sequence answers and leaves
+abbrev pub results : List Call → List ℕ → List ℕ → List Result
+results [] s v = []
+results (c ∷ cs) s v = called c s v ∷ results cs (called c s v .seg) (called c s v .inv)

@@ -1,0 +1,98 @@
+-- Read after write: from a sound segment, what a read gives after a call that is carried out, by the answer's id and by every other root. Assumes nothing.
+use Prim.Native.Nat.{ℕ, zero, suc, _+_, _-_, _*_, _/_, _%_, _≤_, _<_}
+use mathlib.Core.Path.{_≡_, refl, sym, ap, _∙_, subst}
+use mathlib.Core.Bool.{Bool, true, false, cond, not, _&&_}
+use mathlib.Core.List.{List, [], _∷_}
+use mathlib.Core.Logic.{_≢_}
+use native.Mathlib.Omega.{arith}
+use lib.ListN.{length}
+use lib.Dec.{eqb, ltb, leb}
+use borrow.Author.Tests.{lt-leb}
+use Rattle.store.specs.PageSteps.{plan}
+use Rattle.store.specs.Numbers.{zeros, fit, pageNo, slotNo}
+use Rattle.store.specs.Laws.Slots.{tag}
+use Rattle.store.specs.Page.{View, sound}
+use Rattle.store.specs.Segment.{SegView, segView, pageOf, sizeOk, invOk, Out, Result, result, carried, step, refuse, refuseIf, insertPlan, insertStep, allocateStep, pointsBack, Read, noRead, readBy, readPlan, readStep}
+use Rattle.store.specs.Laws.SoundPage.{sound-test}
+use Rattle.store.specs.Laws.Segments.{AllExact, settled}
+use Rattle.store.specs.Laws.Calls.{by-test}
+use Rattle.store.specs.Laws.AlikeByKind.{Exacting}
+use Rattle.store.specs.Calls.{Call, insert, allocate, write, resize, erase, called}
+use Rattle.store.specs.SoundSegment.{slotOn, bytesOn, SoundSegment}
+use Rattle.store.specs.Laws.Pairs.{tagOn, look, Root}
+use Rattle.store.specs.Laws.Stays.{Stays, wrote, oldBytes, insert-new, points-back}
+use Rattle.store.specs.Laws.SoundSegment.{Seen, seen-sound, seen-pages, sized, stays-right, after-seen, page-count, Staying, planOf, rowOf, called-plan, call-exacting, call-staying}
+use Rattle.store.specs.declared.Slot.{Slot}
+use Rattle.store.specs.declared.Slot.the-variants.{Ordinary, Free, Redirect, Target}
+
+-- ---- a read of a sound segment
+
+module _ (s v : List ℕ) (h : SoundSegment s v) where
+  pub read-look : (i : ℕ) → pageNo i < length s / 16384 → readStep s i ≡ look (bytesOn (segView s)) i (tagOn (segView s) i)
+  unfolding readStep readPlan
+  read-look i l =
+      let e = seen-sound s v h in
+      let m : pageNo i < segView s .pages = subst (λ (n : ℕ). pageNo i < n) (sym (seen-pages s)) l in
+      let a : leb (segView s .pages) (pageNo i) ≡ false = lt-leb (segView s .pages) (pageNo i) m in
+      let b : not (sound (segView s .page (pageNo i))) ≡ false = ap not (sound-test (segView s .page (pageNo i)) (e .sounds (pageNo i))) in
+      rw (h .whole, a, b) (go e m (slotOn (segView s) i) refl)
+    where
+      go : Seen s v → pageNo i < segView s .pages → (x : Slot) → slotOn (segView s) i ≡ x → readBy (segView s) i x ≡ look (bytesOn (segView s)) i (tag x)
+      go e m (Ordinary o k) q = refl
+      go e m Free q = refl
+      go e m (Redirect t) q = rw (points-back (segView s) (e .sounds) (e .few) v (e .one) (e .pairs) (e .truth) i t m q)
+      go e m (Target o k) q = refl
+
+-- the id is that of a root: an ordinary record, or a redirect
+pub record Rooted (s : List ℕ) (j : ℕ) : Type 0 where
+  pub below : pageNo j < length s / 16384
+  pub root : Root (tagOn (segView s) j)
+
+-- ---- once over the plan
+
+pub record Reads (s : List ℕ) (w : Read) (r : Result) : Type 0 where
+  pub own : r .answer ≡ 0 → readStep (r .seg) (r .id) ≡ w
+  pub others : (j : ℕ) → Rooted s j → (r .answer ≡ 0 → j ≢ r .id) → Rooted (r .seg) j × (readStep (r .seg) j ≡ readStep s j)
+
+module _ (s v : List ℕ) (h : SoundSegment s v) (o : Out) (x : AllExact s (o .steps)) (w : Read) (k : Stays (segView s) v w o) where
+  look-after : (j : ℕ) → pageNo j < length s / 16384
+      → readStep (carried (o .steps) s) j ≡ look (bytesOn (settled (o .steps) (segView s))) j (tagOn (settled (o .steps) (segView s)) j)
+  look-after j l =
+      read-look (carried (o .steps) s) (o .inv) (stays-right s v h o x w k) j (subst (λ (n : ℕ). pageNo j < n) (page-count s v h o x w k) l)
+      ∙ ap (λ (u : SegView). look (bytesOn u) j (tagOn u j)) (after-seen s v h o x w k)
+
+  reads-out : Reads s w (record { answer = o .answer; id = o .id; seg = carried (o .steps) s; inv = o .inv })
+  reads-out =
+      record {
+        own = λ e. look-after (o .id) (subst (λ (n : ℕ). pageNo (o .id) < n) (seen-pages s) (k .below e)) ∙ k .own e;
+        others = λ j r n.
+            let y = k .others j (subst (λ (m : ℕ). pageNo j < m) (sym (seen-pages s)) (r .below)) n (r .root) in (
+              record {
+                below = subst (λ (m : ℕ). pageNo j < m) (page-count s v h o x w k) (r .below);
+                root = subst Root (sym (ap (λ (u : SegView). tagOn u j) (after-seen s v h o x w k) ∙ y .0)) (r .root);
+              },
+              look-after j (r .below) ∙ y .1 ∙ sym (read-look s v h j (r .below)),
+            );
+      }
+
+plan-reads : (plan : SegView → Out) (w : SegView → Read) (s v : List ℕ) → Exacting plan → Staying plan w v → SoundSegment s v → Reads s (w (segView s)) (step s v (plan (segView s)))
+unfolding result
+plan-reads plan w s v x k h =
+    let z = sized s (h .whole) in
+    rw (h .whole, h .page) (reads-out s v h (plan (segView s)) (x s (z .few)) (w (segView s)) (k s (seen-sound s v h)))
+
+-- ---- the five writing calls: the bytes are read back, with zeros where a resize or an allocate added some; after an erase the id is 5; every other
+-- root reads as before
+pub call-reads : (c : Call) (s v : List ℕ) → SoundSegment s v → Reads s (rowOf c (segView s)) (called c s v)
+call-reads c s v h = subst (Reads s (rowOf c (segView s))) (sym (called-plan c s v)) (plan-reads (planOf c v) (rowOf c) s v (call-exacting c v) (call-staying c v) h)
+
+-- a resize's old bytes are those that a read gave
+pub old-read : (s v : List ℕ) → SoundSegment s v → (i : ℕ) → pageNo i < length s / 16384 → oldBytes (segView s) i ≡ readStep s i .bytes
+old-read s v h i l = ap (λ (r : Read). r .bytes) (sym (read-look s v h i l))
+
+-- an id that insert hands out was not in use
+pub insert-unused : (s v bs : List ℕ) → SoundSegment s v → insertStep s v bs .answer ≡ 0 → tagOn (segView s) (insertStep s v bs .id) ≡ Free
+unfolding insertStep result
+insert-unused s v bs h =
+    let e = seen-sound s v h in
+    rw (h .whole, h .page) (insert-new (segView s) (e .sounds) (e .few) v (e .one) (e .pairs) (e .truth) bs)

@@ -1,0 +1,269 @@
+-- A sound segment stays sound, whatever the calls; and from one no call answers 4 or 8. Assumes nothing.
+use Prim.Native.Nat.{ℕ, zero, suc, _+_, _-_, _*_, _/_, _%_, _≤_, _<_}
+use mathlib.Core.Path.{_≡_, refl, sym, ap, _∙_, subst}
+use mathlib.Core.Bool.{Bool, true, false, cond, not, _&&_, _||_}
+use mathlib.Core.List.{List, [], _∷_}
+use mathlib.Core.Logic.{_≢_}
+use native.Mathlib.Omega.{arith}
+use native.Mathlib.Decide.{decLt}
+use lib.ListN.{length, length-take, length-drop}
+use lib.Dec.{eqb, ltb, leb}
+use borrow.Author.Tests.{leb-true, leb-false, eqb-true}
+use Rattle.store.specs.Numbers.{cut, zeros, fit, pageNo, slotNo}
+use Rattle.store.specs.Slots.{isTarget}
+use Rattle.store.specs.Page.{View, view, fresh, sound, liesWell}
+use Rattle.store.specs.PageSteps.{initialised, opened, plan}
+use Rattle.store.specs.Inventory.{classOf, Truth}
+use Rattle.store.specs.Segment.{SegView, segView, pageOf, sizeOk, invOk, OnPage, Out, Result, result, carried, step, refuse, refuseIf, insertPlan, storePlan, erasePlan, insertStep, allocateStep, writeStep, resizeStep, eraseStep, pointsBack, Read, noRead, readBy, readPlan, readStep}
+use Rattle.store.specs.Laws.Views.{Sound}
+use Rattle.store.specs.Laws.SoundPage.{and-both, sound-init, sound-opened, sound-test, good-in}
+use Rattle.store.specs.Laws.Relocate.{length-fit}
+use Rattle.store.specs.Scan.{Scanned, without, overPage, recordAt, nextRecord, scanFrom, scanPlan, scanStep}
+use Rattle.store.specs.Laws.Segments.{AllExact, AllSound, length-page, settled, settledOn, carried-seen, settled-sound}
+use Rattle.store.specs.Laws.Calls.{by-test, insert-exact, store-exact, erase-call-exact}
+use Rattle.store.specs.Laws.AlikeByKind.{length-carried, Exacting}
+use Rattle.store.specs.Calls.{Call, insert, allocate, write, resize, erase, called, results}
+use Rattle.store.specs.SoundSegment.{slotOn, bytesOn, nibbleOf, classes, Paired, SoundSegment}
+use Rattle.store.specs.Laws.Pairs.{Pairs, tagOn, look, Root, paired-pairs, pairs-paired}
+use Rattle.store.specs.Laws.Stays.{Stays, AllSteps, wrote, oldBytes, refusal, insert-stays, insert-finds, store-stays, erase-stays, points-back}
+use Rattle.store.specs.declared.Slot.{Slot}
+use Rattle.store.specs.declared.Slot.the-variants.{Ordinary, Free, Redirect, Target}
+
+-- ---- what a sound segment gives to the plans
+
+-- past the last page there is a fresh one
+pub page-past : (s : List ℕ) (p : ℕ) → length s / 16384 ≤ p → length s % 16384 ≡ 0 → pageOf s p ≡ []
+page-past s p h w = nil (pageOf s p) (simp (length-take, length-drop) (omega arith))
+  where
+    nil : (l : List ℕ) → length l ≡ 0 → l ≡ []
+    nil [] e = refl
+    nil (x ∷ l) e = absurd (omega arith)
+
+pub record Seen (s v : List ℕ) : Type 0 where
+  pub sounds : (p : ℕ) → Sound (segView s .page p)
+  pub few : segView s .pages ≤ 32527
+  pub one : length v ≡ 16384
+  pub pairs : Pairs (segView s .pages) (tagOn (segView s)) (bytesOn (segView s))
+  pub truth : Truth (classes (segView s)) (segView s .pages) v
+
+pub record Sized (s : List ℕ) : Type 0 where
+  pub whole : length s % 16384 ≡ 0
+  pub few : length s / 16384 ≤ 32527
+
+pub sized : (s : List ℕ) → sizeOk s ≡ true → Sized s
+sized s e =
+    let b = and-both (eqb (length s % 16384) 0) (leb (length s / 16384) 32527) e in
+    record { whole = eqb-true (length s % 16384) 0 (b .0); few = leb-true (length s / 16384) 32527 (b .1) }
+
+pub seen-sound : (s v : List ℕ) → SoundSegment s v → Seen s v
+unfolding segView view
+seen-sound s v h =
+    let z = sized s (h .whole) in
+    record {
+      sounds = λ p. each p z (decLt p (length s / 16384));
+      few = z .few;
+      one = eqb-true (length v) 16384 (h .page);
+      pairs = paired-pairs (segView s) (h .pairs);
+      truth = h .inventory;
+    }
+  where
+    each : (p : ℕ) → Sized s → Dec (p < length s / 16384) → Sound (opened (view (pageOf s p)))
+    each p z (yes l) = sound-opened (pageOf s p) (length-page s p (omega arith)) (h .pages p l)
+    each p z (no l) = subst (λ (q : List ℕ). Sound (opened (view q))) (sym (page-past s p (omega arith) (z .whole))) sound-init
+
+pub sound-closed : (v : View) → sound (opened v) ≡ true → sound v ≡ true
+unfolding sound
+sound-closed v = by-test (λ w. sound w ≡ true → sound v ≡ true) (fresh v) initialised v (λ f e. or-left (fresh v) _ f) (λ f e. e)
+  where
+    or-left : (a b : Bool) → a ≡ true → (a || b) ≡ true
+    or-left true b e = refl
+    or-left false b e = let z : _≡_ {A = ℕ} 0 1 = cc in absurd (omega arith)
+
+pages-settled : (es : List OnPage) (u : SegView) → settled es u .pages ≡ u .pages
+pages-settled [] u = refl
+pages-settled (e ∷ es) u = pages-settled es (settledOn e u)
+
+-- ---- once over the plan
+
+pub record Right (r : Result) : Type 0 where
+  pub sound : SoundSegment (r .seg) (r .inv)
+  pub whole : r .answer ≢ 4
+  pub current : r .answer ≢ 8
+
+pub seen-pages : (s : List ℕ) → segView s .pages ≡ length s / 16384
+unfolding segView
+seen-pages s = refl
+
+pub seen-page : (s : List ℕ) (p : ℕ) → segView s .page p ≡ opened (view (pageOf s p))
+unfolding segView
+seen-page s p = refl
+
+module _ (s v : List ℕ) (h : SoundSegment s v) (o : Out) (x : AllExact s (o .steps)) (w : Read) (k : Stays (segView s) v w o) where
+  pub after-seen : segView (carried (o .steps) s) ≡ settled (o .steps) (segView s)
+  after-seen = carried-seen (o .steps) s x
+
+  same-long : length (carried (o .steps) s) ≡ length s
+  same-long = length-carried (o .steps) s
+
+  pub page-count : length s / 16384 ≡ length (carried (o .steps) s) / 16384
+  page-count = ap (λ (n : ℕ). n / 16384) (sym same-long)
+
+  same-pages : segView s .pages ≡ segView (carried (o .steps) s) .pages
+  same-pages = seen-pages s ∙ page-count ∙ sym (seen-pages (carried (o .steps) s))
+
+  sounds-after : AllSound (settled (o .steps) (segView s))
+  sounds-after = settled-sound (o .steps) s (segView s) x (λ p. sound-test (segView s .page p) (seen-sound s v h .sounds p))
+
+  pub stays-right : SoundSegment (carried (o .steps) s) (o .inv)
+  stays-right =
+      record {
+        whole = ap (λ (n : ℕ). eqb (n % 16384) 0 && leb (n / 16384) 32527) same-long ∙ h .whole;
+        page = ap (λ (n : ℕ). eqb n 16384) (k .long) ∙ h .page;
+        pages = λ p l.
+            sound-closed (view (pageOf (carried (o .steps) s) p))
+            (ap sound (sym (seen-page (carried (o .steps) s) p) ∙ ap (λ (z : SegView). z .page p) after-seen) ∙ sounds-after p);
+        pairs = pairs-paired (segView (carried (o .steps) s))
+            (subst (λ (n : ℕ). Pairs n (tagOn (segView (carried (o .steps) s))) (bytesOn (segView (carried (o .steps) s)))) same-pages
+            (subst (λ (z : SegView). Pairs (segView s .pages) (tagOn z) (bytesOn z)) (sym after-seen) (k .pairs)));
+        inventory =
+            subst (λ (n : ℕ). Truth (classes (segView (carried (o .steps) s))) n (o .inv)) (seen-pages s ∙ page-count)
+            (subst (λ (z : SegView). Truth (classes z) (segView s .pages) (o .inv)) (sym after-seen) (k .truth));
+      }
+
+-- a plan that stays, for every sound segment
+abbrev pub Staying : (SegView → Out) → (SegView → Read) → List ℕ → Type 0
+Staying plan w v = (s : List ℕ) → Seen s v → Stays (segView s) v (w (segView s)) (plan (segView s))
+
+pub plan-right : (plan : SegView → Out) (w : SegView → Read) (s v : List ℕ) → Exacting plan → Staying plan w v → SoundSegment s v → Right (step s v (plan (segView s)))
+unfolding result
+plan-right plan w s v x k h =
+    let z = sized s (h .whole) in
+    let g = k s (seen-sound s v h) in
+    rw (h .whole, h .page)
+    (record { sound = stays-right s v h (plan (segView s)) (x s (z .few)) (w (segView s)) g; whole = g .whole; current = g .current })
+
+-- ---- the five writing calls
+
+insert-keeps : (s v bs : List ℕ) → Seen s v → Stays (segView s) v (wrote bs) (insertPlan (segView s) v bs)
+insert-keeps s v bs e = insert-stays (segView s) (e .sounds) (e .few) v (e .one) (e .pairs) (e .truth) bs
+
+-- each call is a plan that is exact everywhere and stays
+abbrev pub planOf : Call → List ℕ → SegView → Out
+planOf (insert bs) v z = insertPlan z v bs
+planOf (allocate n) v z = refuseIf (ltb 16364 n) v 3 (insertPlan z v (zeros n))
+planOf (write i bs) v z = storePlan z v i (length bs) (λ old. bs)
+planOf (resize i n) v z = storePlan z v i n (fit n)
+planOf (erase i) v z = erasePlan z v i
+
+pub called-plan : (c : Call) (s v : List ℕ) → called c s v ≡ step s v (planOf c v (segView s))
+unfolding insertStep allocateStep writeStep resizeStep eraseStep
+called-plan (insert bs) s v = refl
+called-plan (allocate n) s v = refl
+called-plan (write i bs) s v = refl
+called-plan (resize i n) s v = refl
+called-plan (erase i) s v = refl
+
+pub call-exacting : (c : Call) (v : List ℕ) → Exacting (planOf c v)
+call-exacting (insert bs) v z l = insert-exact z v bs
+call-exacting (allocate n) v z l =
+    by-test (λ o. AllExact z (o .steps)) (ltb 16364 n) (refuse v 3) (insertPlan (segView z) v (zeros n)) (λ e. tt) (λ e. insert-exact z v (zeros n))
+call-exacting (write i bs) v z l = store-exact z v i (length bs) (λ old. bs) (λ old. refl) l
+call-exacting (resize i n) v z l = store-exact z v i n (fit n) (length-fit n) l
+call-exacting (erase i) v z l = erase-call-exact z v i
+
+-- what the answer's id reads as, after a call that is carried out
+abbrev pub rowOf : Call → SegView → Read
+rowOf (insert bs) u = wrote bs
+rowOf (allocate n) u = wrote (zeros n)
+rowOf (write i bs) u = wrote bs
+rowOf (resize i n) u = wrote (fit n (oldBytes u i))
+rowOf (erase i) u = noRead 5
+
+pub call-staying : (c : Call) (v : List ℕ) → Staying (planOf c v) (rowOf c) v
+call-staying (insert bs) v z e = insert-keeps z v bs e
+call-staying (allocate n) v z e =
+    by-test (Stays (segView z) v (wrote (zeros n))) (ltb 16364 n) (refuse v 3) (insertPlan (segView z) v (zeros n))
+    (λ f. refusal (segView z) (e .sounds) (e .few) v (e .one) (e .pairs) (e .truth) (wrote (zeros n)) 3 (λ x. omega arith) (λ x. omega arith) (λ x. omega arith))
+    (λ f. insert-keeps z v (zeros n) e)
+call-staying (write i bs) v z e = store-stays (segView z) (e .sounds) (e .few) v (e .one) (e .pairs) (e .truth) i (length bs) (λ old. bs)
+call-staying (resize i n) v z e = store-stays (segView z) (e .sounds) (e .few) v (e .one) (e .pairs) (e .truth) i n (fit n)
+call-staying (erase i) v z e = erase-stays (segView z) (e .sounds) (e .few) v (e .one) (e .pairs) (e .truth) i
+
+-- a sound segment stays sound, and the answer is neither 4 nor 8
+pub call-right : (c : Call) (s v : List ℕ) → SoundSegment s v → Right (called c s v)
+call-right c s v h = subst Right (sym (called-plan c s v)) (plan-right (planOf c v) (rowOf c) s v (call-exacting c v) (call-staying c v) h)
+
+-- any sequence of calls
+abbrev pub AllRight : List Result → Type 0
+AllRight [] = Unit {0}
+AllRight (r ∷ rs) = Right r × AllRight rs
+
+pub calls-right : (cs : List Call) (s v : List ℕ) → SoundSegment s v → AllRight (results cs s v)
+calls-right [] s v h = tt
+calls-right (c ∷ cs) s v h =
+    let r = call-right c s v h in
+    (r, calls-right cs (called c s v .seg) (called c s v .inv) (r .sound))
+
+-- room is found again whenever the class of some page suits
+pub insert-again : (s v bs : List ℕ) → SoundSegment s v → (p : ℕ) → p < length s / 16384 → length bs ≤ 16364
+    → nibbleOf (segView s .page p) < classOf (16372 - (length bs + 8)) → insertStep s v bs .answer ≡ 0
+unfolding insertStep result
+insert-again s v bs h p l short suits =
+    let e = seen-sound s v h in
+    rw (h .whole, h .page)
+    (insert-finds (segView s) (e .sounds) (e .few) v (e .one) (e .pairs) (e .truth) bs p short (subst (λ (n : ℕ). p < n) (sym (seen-pages s)) l) suits)
+
+-- ---- reads and scans
+
+and-no : (b : Bool) → (b && false) ≡ false
+and-no true = refl
+and-no false = refl
+
+module _ (s v : List ℕ) (h : SoundSegment s v) where
+  read-whole : (i : ℕ) → readPlan (segView s) i .answer ≢ 4
+  unfolding readPlan
+  read-whole i =
+      let e = seen-sound s v h in
+      let r : View = segView s .page (pageNo i) in
+      by-test (λ (d : Read). d .answer ≢ 4) (leb (segView s .pages) (pageNo i)) (noRead 2) (cond (not (sound r)) (noRead 4) (readBy (segView s) i (r .at (slotNo i)))) (λ a x. omega arith)
+      (λ a. by-test (λ (d : Read). d .answer ≢ 4) (not (sound r)) (noRead 4) (readBy (segView s) i (r .at (slotNo i)))
+      (λ b. let y : not (sound r) ≡ false = ap not (sound-test r (e .sounds (pageNo i))) in let z : _≡_ {A = ℕ} 0 1 = cc in absurd (omega arith))
+      (λ b. go e (leb-false (segView s .pages) (pageNo i) a) (r .at (slotNo i)) refl))
+    where
+      go : Seen s v → pageNo i < segView s .pages → (x : Slot) → segView s .page (pageNo i) .at (slotNo i) ≡ x → readBy (segView s) i x .answer ≢ 4
+      go e l (Ordinary o k) q = λ x. omega arith
+      go e l Free q = λ x. omega arith
+      go e l (Redirect t) q = rw (points-back (segView s) (e .sounds) (e .few) v (e .one) (e .pairs) (e .truth) i t l q) (λ x. omega arith)
+      go e l (Target o k) q = λ x. omega arith
+
+  pub read-right : (i : ℕ) → readStep s i .answer ≢ 4
+  unfolding readStep
+  read-right i = rw (h .whole) (read-whole i)
+
+  scan-whole : (m p k : ℕ) → scanFrom m (segView s) p k .answer ≢ 4
+  scan-whole zero p k = λ x. omega arith
+  scan-whole (suc m) p k = go (scan-whole m (p + 1) 0)
+    where
+      w : View
+      w = segView s .page p
+
+      j : ℕ
+      j = nextRecord (w .slotCount - k) w k
+
+      record-whole : recordAt w p j .answer ≢ 4
+      record-whole = λ x. omega arith
+
+      go : scanFrom m (segView s) (p + 1) 0 .answer ≢ 4
+          → cond (eqb k 0 && not (sound w)) (without 4 overPage 0)
+          (cond (ltb j (w .slotCount)) (cond (liesWell w j) (recordAt w p j) (without 4 overPage 0)) (scanFrom m (segView s) (p + 1) 0)) .answer ≢ 4
+      go ih =
+          let t = seen-sound s v h .sounds p in
+          let b : (eqb k 0 && not (sound w)) ≡ false = ap (λ (y : Bool). eqb k 0 && not y) (sound-test w t) ∙ and-no (eqb k 0) in
+          rw (b, good-in w t j) (by-test (λ (d : Scanned). d .answer ≢ 4) (ltb j (w .slotCount)) (recordAt w p j) (scanFrom m (segView s) (p + 1) 0) (λ a. record-whole) (λ a. ih))
+
+  -- wherever the scan stands
+  pub scan-right : (p k : ℕ) → scanStep s p k .answer ≢ 4
+  unfolding scanStep scanPlan
+  scan-right p k =
+      by-test (λ (d : Scanned). d .answer ≢ 4) (ltb 32527 p) (without 0 p k) (cond (sizeOk s) (scanPlan (segView s) p k) (without 1 overPage 0)) (λ a x. omega arith)
+      (λ a. rw (h .whole) (scan-whole (segView s .pages - p) p k))

@@ -1,0 +1,12 @@
+pub mod Numbers
+pub mod Slots
+pub mod Page
+pub mod PageSteps
+pub mod Inventory
+pub mod Segment
+pub mod Calls
+pub mod Scan
+pub mod Answers
+pub mod SoundSegment
+pub mod Alike
+pub mod Laws

@@ -1,0 +1,286 @@
+-- Document 01, "Segment steps" and "Answers by number": the six calls on a segment of n whole pages and an inventory. Assumes nothing.
+--
+-- A call is planned from what is seen of the pages (`SegView`) and from the inventory. The plan has the answer's number and id, the
+-- steps on pages, and the inventory afterwards. `carried` writes the steps' edits. A refusal has no step and the inventory as it was.
+use Prim.Native.Nat.{ℕ, zero, suc, _+_, _-_, _*_, _/_, _%_}
+use mathlib.Core.Bool.{Bool, true, false, cond, not, _&&_, _||_}
+use mathlib.Core.List.{List, [], _∷_, _++_}
+use lib.ListN.{length, take, drop}
+use lib.Dec.{eqb, ltb, leb}
+use Rattle.store.specs.Numbers.{cut, put, be, toBE, zeros, fit, idOf, pageNo, slotNo}
+use Rattle.store.specs.Slots.{off, len, isTarget}
+use Rattle.store.specs.Page.{View, view, sound}
+use Rattle.store.specs.Inventory.{update, foundIn}
+use Rattle.store.specs.PageSteps.{opened, move, run, Plan, plan, andThen, withSlot, Alloc, noRoom, got, allocate, erase, eraseForRedirect, Relocated, refused, moved, relocate, filled}
+use Rattle.store.specs.declared.Named.{Named}
+use Rattle.store.specs.declared.Named.the-variants.{At, Full}
+use Rattle.store.specs.declared.Slot.{Slot}
+use Rattle.store.specs.declared.Slot.the-variants.{Ordinary, Free, Redirect, Target}
+
+-- ---- a segment and its pages
+
+-- "A segment is a lent run of n whole pages, n from 0 to 32,527. The inventory is one lent page."
+abbrev pub sizeOk : List ℕ → Bool
+sizeOk s = eqb (length s % 16384) 0 && leb (length s / 16384) 32527
+
+abbrev pub invOk : List ℕ → Bool
+invOk v = eqb (length v) 16384
+
+abbrev pub pageOf : List ℕ → ℕ → List ℕ
+pageOf s p = cut s (p * 16384) 16384
+
+-- how many pages there are, and what is seen of each
+pub record SegView : Type 0 where
+  pub pages : ℕ
+  pub page : ℕ → View
+
+unfoldable pub segView : List ℕ → SegView
+segView s = record { pages = length s / 16384; page = λ p. opened (view (pageOf s p)) }
+
+-- ---- what a call answers and leaves
+
+-- a step on page p
+pub record OnPage : Type 0 where
+  pub on : ℕ
+  pub plan : Plan
+
+abbrev pub on : ℕ → Plan → OnPage
+on p a = record { on = p; plan = a }
+
+pub record Out : Type 0 where
+  pub answer : ℕ
+  pub id : ℕ
+  pub steps : List OnPage
+  pub inv : List ℕ
+
+-- "A refusal returns its number ..; segment and inventory keep every byte."
+abbrev pub refuse : List ℕ → ℕ → Out
+refuse v a = record { answer = a; id = 0; steps = []; inv = v }
+
+abbrev pub refuseIf : Bool → List ℕ → ℕ → Out → Out
+refuseIf b v a rest = cond b (refuse v a) rest
+
+abbrev pub done : ℕ → List OnPage → List ℕ → Out
+done i es v = record { answer = 0; id = i; steps = es; inv = v }
+
+-- the page's edits written into the segment
+abbrev pub carriedOn : OnPage → List ℕ → List ℕ
+carriedOn e s = put s (e .on * 16384) (run (e .plan .edits) (pageOf s (e .on)))
+
+abbrev pub carried : List OnPage → List ℕ → List ℕ
+carried [] s = s
+carried (e ∷ es) s = carried es (carriedOn e s)
+
+-- the answer's number and id, and every byte of segment and inventory afterwards
+pub record Result : Type 0 where
+  pub answer : ℕ
+  pub id : ℕ
+  pub seg : List ℕ
+  pub inv : List ℕ
+
+unfoldable pub result : List ℕ → Out → Result
+result s o = record { answer = o .answer; id = o .id; seg = carried (o .steps) s; inv = o .inv }
+
+-- ---- a place for m bytes and a slot
+
+pub data Found : Type 0 where
+  nowhere : ℕ → Found
+  found : ℕ → ℕ → Plan → Found
+
+abbrev pub taken : ℕ → Alloc → Found
+taken p noRoom = nowhere 8
+taken p (got k a) = found p k a
+
+-- 7, then 4 (new page), then 8: "the page named is the root's or old target's, or allocate finds no room there"
+abbrev pub findOn : SegView → ℕ → (ℕ → Bool) → Named → Found
+findOn s m excluded Full = nowhere 7
+findOn s m excluded (At p) =
+    cond (not (sound (s .page p))) (nowhere 4)
+    (cond (excluded p) (nowhere 8)
+    (taken p (allocate (s .page p) m)))
+
+-- "A request for m bytes needs m + 8"; `names` says which page the inventory's bytes name, of n pages, for a need
+unfoldable pub find : (List ℕ → ℕ → ℕ → Named) → SegView → List ℕ → ℕ → (ℕ → Bool) → Found
+find names s v m excluded = findOn s m excluded (names v (s .pages) (m + 8))
+
+-- ---- insert and allocate
+
+-- "Insert asks the inventory and allocates there"
+abbrev pub inserted : SegView → List ℕ → List ℕ → Found → Out
+inserted s v bs (nowhere a) = refuse v a
+inserted s v bs (found p k a) = done (idOf p k) (on p (filled a k bs) ∷ []) (update v (s .pages) p (a .after .freeSpace))
+
+-- a record with these bytes; `allocate` is the same with zeros
+unfoldable pub insertPlan : SegView → List ℕ → List ℕ → Out
+insertPlan s v bs = refuseIf (ltb 16364 (length bs)) v 3 (inserted s v bs (find foundIn s v (length bs) (λ p. false)))
+
+-- ---- redirects
+
+-- 4 unless "a redirect to be followed" has "its target on another page pointing back", and that page is sound
+abbrev pub pointsBack : SegView → ℕ → ℕ → Bool
+pointsBack s i t =
+    ltb (pageNo t) (s .pages) && not (eqb (pageNo t) (pageNo i)) && sound (s .page (pageNo t))
+    && isTarget (s .page (pageNo t) .at (slotNo t)) && eqb (be (take 8 (s .page (pageNo t) .bytes (slotNo t)))) i
+
+-- ---- write and resize: the record of id i becomes `new old`, of the given size
+
+module _ (s : SegView) (v : List ℕ) (i : ℕ) (size : ℕ) (new : List ℕ → List ℕ) where
+  abbrev pub root : View
+  root = s .page (pageNo i)
+
+  -- "a new target of size + 8 on another page": in slot j where plan a has made room, the back id and what the record becomes
+  abbrev pub targeted : ℕ → Plan → List ℕ → Plan
+  targeted j a old =
+      andThen a (λ w. let x = withSlot w j (Target (off (w .at j)) (len (w .at j))) (toBE 8 i ++ new old) in plan (move j x ∷ []) x)
+
+  -- "with the root as redirect": the first forwarding
+  abbrev pub forwarded : List ℕ → Found → Out
+  forwarded old (nowhere a) = refuse v a
+  forwarded old (found q j a) =
+      let r = eraseForRedirect root (slotNo i) (idOf q j) in
+      let t = targeted j a old in
+      done i (on (pageNo i) r ∷ on q t ∷ [])
+      (update (update v (s .pages) (pageNo i) (r .after .freeSpace)) (s .pages) q (t .after .freeSpace))
+
+  -- "Write and resize try the root page first. .. Last comes a new target"
+  abbrev pub fromOrdinary : List ℕ → Relocated → Out
+  fromOrdinary old (moved a) =
+      done i (on (pageNo i) (filled a (slotNo i) (new old)) ∷ []) (update v (s .pages) (pageNo i) (a .after .freeSpace))
+  fromOrdinary old refused = forwarded old (find foundIn s v (size + 8) (λ p. eqb p (pageNo i)))
+
+  module _ (t : ℕ) where
+    abbrev pub target : View
+    target = s .page (pageNo t)
+
+    -- the second forwarding: the root's slot names the new target, and the old one is freed
+    abbrev pub forwardedAgain : List ℕ → Found → Out
+    forwardedAgain old (nowhere a) = refuse v a
+    forwardedAgain old (found q j a) =
+        let x = withSlot root (slotNo i) (Redirect (idOf q j)) [] in
+        let e = erase target (slotNo t) in
+        let w = targeted j a old in
+        done i (on (pageNo i) (plan (move (slotNo i) x ∷ []) x) ∷ on (pageNo t) e ∷ on q w ∷ [])
+        (update (update v (s .pages) (pageNo t) (e .after .freeSpace)) (s .pages) q (w .after .freeSpace))
+
+    -- "For a redirect they then try the target's page with size + 8": where it lies, with the back id kept
+    abbrev pub atTarget : List ℕ → Relocated → Out
+    atTarget old (moved a) =
+        done i (on (pageNo t) (filled a (slotNo t) (toBE 8 i ++ new old)) ∷ []) (update v (s .pages) (pageNo t) (a .after .freeSpace))
+    atTarget old refused = forwardedAgain old (find foundIn s v (size + 8) (λ p. eqb p (pageNo i) || eqb p (pageNo t)))
+
+    -- "moving home frees the target"
+    abbrev pub atHome : List ℕ → Relocated → Out
+    atHome old (moved a) =
+        let e = erase target (slotNo t) in
+        done i (on (pageNo i) (filled a (slotNo i) (new old)) ∷ on (pageNo t) e ∷ [])
+        (update (update v (s .pages) (pageNo i) (a .after .freeSpace)) (s .pages) (pageNo t) (e .after .freeSpace))
+    atHome old refused = atTarget old (relocate target (slotNo t) (size + 8))
+
+    abbrev pub fromRedirect : Out
+    fromRedirect = atHome (drop 8 (target .bytes (slotNo t))) (relocate root (slotNo i) size)
+
+  -- 5, 6, 4 (target)
+  abbrev pub storeBy : Slot → Out
+  storeBy (Ordinary o l) = fromOrdinary (root .bytes (slotNo i)) (relocate root (slotNo i) size)
+  storeBy Free = refuse v 5
+  storeBy (Redirect t) = refuseIf (not (pointsBack s i t)) v 4 (fromRedirect t)
+  storeBy (Target o l) = refuse v 6
+
+  -- 3, 2, 4 (root)
+  unfoldable pub storePlan : Out
+  storePlan =
+      refuseIf (ltb 16364 size) v 3
+      (refuseIf (leb (s .pages) (pageNo i)) v 2
+      (refuseIf (not (sound root)) v 4
+      (storeBy (root .at (slotNo i)))))
+
+-- ---- erase
+
+abbrev pub eraseBy : SegView → List ℕ → ℕ → Slot → Out
+eraseBy s v i (Ordinary o l) =
+    let e = erase (s .page (pageNo i)) (slotNo i) in
+    done i (on (pageNo i) e ∷ []) (update v (s .pages) (pageNo i) (e .after .freeSpace))
+eraseBy s v i Free = refuse v 5
+eraseBy s v i (Redirect t) =
+    let e = erase (s .page (pageNo i)) (slotNo i) in
+    let f = erase (s .page (pageNo t)) (slotNo t) in
+    refuseIf (not (pointsBack s i t)) v 4
+    (done i (on (pageNo i) e ∷ on (pageNo t) f ∷ [])
+    (update (update v (s .pages) (pageNo t) (f .after .freeSpace)) (s .pages) (pageNo i) (e .after .freeSpace)))
+eraseBy s v i (Target o l) = refuse v 6
+
+unfoldable pub erasePlan : SegView → List ℕ → ℕ → Out
+erasePlan s v i =
+    refuseIf (leb (s .pages) (pageNo i)) v 2
+    (refuseIf (not (sound (s .page (pageNo i)))) v 4
+    (eraseBy s v i (s .page (pageNo i) .at (slotNo i))))
+
+-- ---- the steps: what each call answers and leaves. 1 comes first
+
+abbrev pub step : List ℕ → List ℕ → Out → Result
+step s v o = result s (refuseIf (not (sizeOk s && invOk v)) v 1 o)
+
+unfoldable pub insertStep : List ℕ → List ℕ → List ℕ → Result
+insertStep s v bs = step s v (insertPlan (segView s) v bs)
+
+unfoldable pub allocateStep : List ℕ → List ℕ → ℕ → Result
+allocateStep s v n = step s v (refuseIf (ltb 16364 n) v 3 (insertPlan (segView s) v (zeros n)))
+
+unfoldable pub writeStep : List ℕ → List ℕ → ℕ → List ℕ → Result
+writeStep s v i bs = step s v (storePlan (segView s) v i (length bs) (λ old. bs))
+
+unfoldable pub resizeStep : List ℕ → List ℕ → ℕ → ℕ → Result
+resizeStep s v i n = step s v (storePlan (segView s) v i n (fit n))
+
+unfoldable pub eraseStep : List ℕ → List ℕ → ℕ → Result
+eraseStep s v i = step s v (erasePlan (segView s) v i)
+
+-- ---- read
+
+-- the answer's number and the record's bytes: "an empty part" on refusal
+pub record Read : Type 0 where
+  pub answer : ℕ
+  pub bytes : List ℕ
+
+abbrev pub noRead : ℕ → Read
+noRead a = record { answer = a; bytes = [] }
+
+-- "the record, without the 8 bytes. Reading a target's own id gives its data, as the Rust does."
+abbrev pub readBy : SegView → ℕ → Slot → Read
+readBy s i (Ordinary o l) = record { answer = 0; bytes = s .page (pageNo i) .bytes (slotNo i) }
+readBy s i Free = noRead 5
+readBy s i (Redirect t) = cond (pointsBack s i t) (record { answer = 0; bytes = drop 8 (s .page (pageNo t) .bytes (slotNo t)) }) (noRead 4)
+readBy s i (Target o l) = record { answer = 0; bytes = drop 8 (s .page (pageNo i) .bytes (slotNo i)) }
+
+unfoldable pub readPlan : SegView → ℕ → Read
+readPlan s i =
+    cond (leb (s .pages) (pageNo i)) (noRead 2)
+    (cond (not (sound (s .page (pageNo i)))) (noRead 4)
+    (readBy s i (s .page (pageNo i) .at (slotNo i))))
+
+unfoldable pub readStep : List ℕ → ℕ → Read
+readStep s i = cond (sizeOk s) (readPlan (segView s) i) (noRead 1)
+
+-- "A read answers the part of the lent segment that is the record": on page p as the slot says, a target's without its 8 bytes
+pub record Part : Type 0 where
+  pub offset : ℕ
+  pub length : ℕ
+
+abbrev pub noPart : Part
+noPart = record { offset = 0; length = 0 }
+
+abbrev pub partOn : ℕ → Slot → Part
+partOn p (Ordinary o l) = record { offset = p * 16384 + o; length = l }
+partOn p Free = noPart
+partOn p (Redirect i) = noPart
+partOn p (Target o l) = record { offset = p * 16384 + (o + 8); length = l - 8 }
+
+-- of the id's own slot, or of the target that its redirect names
+abbrev pub partBy : SegView → ℕ → Slot → Part
+partBy s i (Ordinary o l) = partOn (pageNo i) (Ordinary o l)
+partBy s i Free = noPart
+partBy s i (Redirect t) = partOn (pageNo t) (s .page (pageNo t) .at (slotNo t))
+partBy s i (Target o l) = partOn (pageNo i) (Target o l)
+
+unfoldable pub readPart : List ℕ → ℕ → Part
+readPart s i = cond (eqb (readStep s i .answer) 0) (partBy (segView s) i (segView s .page (pageNo i) .at (slotNo i))) noPart
