@@ -18,6 +18,7 @@ pub mod Pairs
 pub mod Settled
 pub mod Stays
 pub mod AlikeByKind
+pub mod Parts
 pub mod SoundSegment
 pub mod Alike
 pub mod ReadAfterWrite

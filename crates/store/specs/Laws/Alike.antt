@@ -7,7 +7,6 @@ use mathlib.Core.List.{List, [], _∷_, _++_}
 use mathlib.Core.Logic.{_⊎_, inl, inr, ⊎-elim, _≢_}
 use native.Mathlib.Omega.{arith}
 use native.Mathlib.Decide.{ℕ-discrete, decLt}
-use lib.Seq.{take-take}
 use lib.ListN.{length, take, drop, getD}
 use lib.Dec.{eqb, ltb, leb}
 use borrow.Author.Tests.{eq-eqb, ne-eqb, lt-ltb, le-ltb, eqb-true}
@@ -17,7 +16,7 @@ use Rattle.store.specs.Page.{View, view, count, slotAt, bytesAt, fresh, 
 use Rattle.store.specs.PageSteps.{initialised, opened, Edit, head, move, commit, fill, apply, run, Plan, headBytes, putHead, putSlot, putBytes, plan}
 use Rattle.store.specs.Inventory.{Truth}
 use Rattle.store.specs.Segment.{SegView, segView, pageOf, OnPage, Out, Result, result, carried, carriedOn, step, refuse, refuseIf, sizeOk, invOk, readStep, Read}
-use Rattle.store.specs.Laws.Numbers.{length-put, cut-same}
+use Rattle.store.specs.Laws.Numbers.{length-put, cut-same, cut-take}
 use Rattle.store.specs.Laws.SoundPage.{sound-test}
 use Rattle.store.specs.Laws.Exact.{length-apply, length-run}
 use Rattle.store.specs.Scan.{scanStep}
@@ -26,7 +25,7 @@ use Rattle.store.specs.Laws.Calls.{by-test}
 use Rattle.store.specs.Laws.Changes.{Writes, Headed}
 use Rattle.store.specs.Laws.AlikeByKind.{length-carried, Exacting, same-call, read-same, scan-same}
 use Rattle.store.specs.Calls.{Call, called, results}
-use Rattle.store.specs.Alike.{AlikePage, both-fresh, both-used, Alike, AlikeByKind, Same, AllSame}
+use Rattle.store.specs.Alike.{AlikePage, both-fresh, both-used, Alike, AlikeToRead, AlikeByKind, Same, AllSame}
 use Rattle.store.specs.SoundSegment.{classes, Paired, SoundSegment}
 use Rattle.store.specs.Laws.Stays.{StepOk, AllSteps, Stays}
 use Rattle.store.specs.Laws.SoundSegment.{page-past, sound-closed, Seen, seen-sound, seen-page, Sized, sized, Staying, planOf, rowOf, called-plan, call-exacting, call-staying, call-right, Right}
@@ -184,15 +183,8 @@ carried-like (e ∷ es) s t x y k h =
 
 -- ---- alike in the words is alike to the eye
 
-part : (p : List ℕ) (n j m : ℕ) → j + m ≤ n → cut (take n p) j m ≡ cut p j m
-part p n zero m h = take-take m n p (omega arith)
-part [] zero (suc j) m h = absurd (omega arith)
-part [] (suc n) (suc j) m h = refl
-part (x ∷ p) zero (suc j) m h = absurd (omega arith)
-part (x ∷ p) (suc n) (suc j) m h = part p n j m (omega arith)
-
 part-like : (p q : List ℕ) (j m : ℕ) → j + m ≤ 12 → cut p 0 12 ≡ cut q 0 12 → cut p j m ≡ cut q j m
-part-like p q j m h e = sym (part p 12 j m h) ∙ ap (λ (l : List ℕ). cut l j m) e ∙ part q 12 j m h
+part-like p q j m h e = sym (cut-take p 12 j m h) ∙ ap (λ (l : List ℕ). cut l j m) e ∙ cut-take q 12 j m h
 
 -- equal entries are seen as equal, and so is all that is past the count
 slot-like : (p q : List ℕ) → count p ≡ count q → ((k : ℕ) → k < count p → cut p (12 + 8 * k) 8 ≡ cut q (12 + 8 * k) 8) → (k : ℕ) → slotAt p k ≡ slotAt q k
@@ -264,8 +256,9 @@ plan-like plan w s t v x k h l =
     (subst (λ (u : SegView). Alike (carried (plan (segView s) .steps) s) (carried (plan u .steps) t)) (a .seen)
     (carried-like (plan (segView s) .steps) s t (x s (z .few)) (subst (λ (u : SegView). AllExact t (plan u .steps)) (sym (a .seen)) (x t (sized t wt .few))) (k s (seen-sound s v h) .steps) l))
 
-pub call-words : (c : Call) (s t v : List ℕ) → SoundSegment s v → Alike s t → Same Alike (called c s v) (called c t v)
-call-words c s t v h l =
+-- a call
+pub call-alike : (c : Call) (s t v : List ℕ) → SoundSegment s v → Alike s t → Same Alike (called c s v) (called c t v)
+call-alike c s t v h l =
     let y = same-call c s t v (alike-seen s t (sized s (h .whole)) l) in
     record {
       answer = y .answer;
@@ -274,18 +267,18 @@ call-words c s t v h l =
       seg = rw (called-plan c s v, called-plan c t v) (plan-like (planOf c v) (rowOf c) s t v (call-exacting c v) (call-staying c v) h l);
     }
 
--- any sequence of calls
-pub demand-3 : (cs : List Call) (s t v w : List ℕ) → SoundSegment s v → Alike s t → v ≡ w → AllSame Alike (results cs s v) (results cs t w)
+-- reads and scans
+pub read-alike : (s t v : List ℕ) → SoundSegment s v → Alike s t → AlikeToRead s t
+read-alike s t v h l =
+    let a = alike-seen s t (sized s (h .whole)) l in
+    record { alike = l; reads = λ i. read-same s t v a i; scans = λ p k. scan-same s t v a p k }
+
+-- any sequence of calls, and every read and scan between them
+pub demand-3 : (cs : List Call) (s t v w : List ℕ) → SoundSegment s v → Alike s t → v ≡ w → AllSame AlikeToRead (results cs s v) (results cs t w)
 demand-3 [] s t v w h l e = tt
 demand-3 (c ∷ cs) s t v w h l e =
-    let y = call-words c s t v h l in
-    subst (λ (x : List ℕ). AllSame Alike (results (c ∷ cs) s v) (results (c ∷ cs) t x)) e
-    (y, demand-3 cs (called c s v .seg) (called c t v .seg) (called c s v .inv) (called c t v .inv) (call-right c s v h .sound) (y .seg) (y .inv))
-
--- reads and scans of two such segments are equal outright
-module _ (s t v : List ℕ) (h : SoundSegment s v) (l : Alike s t) where
-  pub read-words : (i : ℕ) → readStep s i ≡ readStep t i
-  read-words i = read-same s t v (alike-seen s t (sized s (h .whole)) l) i
-
-  pub scan-words : (p k : ℕ) → scanStep s p k ≡ scanStep t p k
-  scan-words p k = scan-same s t v (alike-seen s t (sized s (h .whole)) l) p k
+    let y = call-alike c s t v h l in
+    let sound = call-right c s v h .sound in
+    subst (λ (x : List ℕ). AllSame AlikeToRead (results (c ∷ cs) s v) (results (c ∷ cs) t x)) e
+    (record { answer = y .answer; id = y .id; inv = y .inv; seg = read-alike (called c s v .seg) (called c t v .seg) (called c s v .inv) sound (y .seg) },
+    demand-3 cs (called c s v .seg) (called c t v .seg) (called c s v .inv) (called c t v .inv) sound (y .seg) (y .inv))

@@ -40,14 +40,14 @@ or-false : (a b : Bool) → (a || b) ≡ false → (a ≡ false) × (b ≡ false
 or-false true b e = let z : _≡_ {A = ℕ} 0 1 = cc in absurd (omega arith)
 or-false false b e = (refl, e)
 
-page-fits : (s : List ℕ) (p : ℕ) → leb (segView s .pages) p ≡ false → p * 16384 + 16384 ≤ length s
+pub page-fits : (s : List ℕ) (p : ℕ) → leb (segView s .pages) p ≡ false → p * 16384 + 16384 ≤ length s
 unfolding segView
 page-fits s p e = omega (arith, leb-false (length s / 16384) p e)
 
 -- ---- what is known of a page that passed the test
 
 module _ (q : List ℕ) (whole : length q ≡ 16384) where
-  shows-opened : Shows q (opened (view q))
+  pub shows-opened : Shows q (opened (view q))
   unfolding view
   shows-opened = by-test (Shows q) (fresh (view q)) initialised (view q) as-new (λ e. shows-view q (view q) whole refl)
     where
@@ -57,7 +57,7 @@ module _ (q : List ℕ) (whole : length q ≡ 16384) where
           let n : (j : ℕ) → Free ≡ slotAt q j = λ j. sym (rw (le-ltb j (count q) (omega arith))) in
           record { whole = whole; slotCount = sym z; at = n; bytes = λ j. ap (λ (s : Slot). cut q (off s) (len s)) (n j) }
 
-  sound-seen : sound (opened (view q)) ≡ true → Sound (opened (view q))
+  pub sound-seen : sound (opened (view q)) ≡ true → Sound (opened (view q))
   sound-seen = by-test (λ u. sound u ≡ true → Sound u) (fresh (view q)) initialised (view q) (λ f e. sound-init) (λ f e. sound-page q whole f e)
 
   -- where something has to move, the page is in use
@@ -67,11 +67,11 @@ module _ (q : List ℕ) (whole : length q ≡ 16384) where
 
 -- ---- a place
 
-abbrev AllocOk : List ℕ → ℕ → Alloc → Type 0
+abbrev pub AllocOk : List ℕ → ℕ → Alloc → Type 0
 AllocOk q n noRoom = Unit {0}
 AllocOk q n (got k a) = Exact q a × (k < a .after .slotCount) × (isFree (a .after .at k) ≡ false) × (len (a .after .at k) ≡ n)
 
-alloc-ok : (q : List ℕ) (n : ℕ) → length q ≡ 16384 → sound (opened (view q)) ≡ true → AllocOk q n (allocate (opened (view q)) n)
+pub alloc-ok : (q : List ℕ) (n : ℕ) → length q ≡ 16384 → sound (opened (view q)) ≡ true → AllocOk q n (allocate (opened (view q)) n)
 unfolding allocate
 alloc-ok q n whole e =
     let v : View = opened (view q) in
@@ -88,7 +88,7 @@ alloc-ok q n whole e =
     let i : allocated w n .at (v .firstFree) ≡ Ordinary (w .dataStart - n) n = ap (λ (j : ℕ). allocated w n .at j) (sym (m .kept .firstFree)) ∙ upd-same (w .at) (w .firstFree) (Ordinary (w .dataStart - n) n) in
     (alloc-exact q v n (shows-opened q whole) (full-seen q whole n r) s r, omega (arith, t .inside, m .kept .firstFree), ap isFree i, ap len i))
 
-abbrev FoundOk : List ℕ → ℕ → (ℕ → Bool) → Found → Type 0
+abbrev pub FoundOk : List ℕ → ℕ → (ℕ → Bool) → Found → Type 0
 FoundOk s n ex (nowhere a) = Unit {0}
 FoundOk s n ex (found p k a) =
     (p * 16384 + 16384 ≤ length s) × Exact (pageOf s p) a × (k < a .after .slotCount) × (isFree (a .after .at k) ≡ false) × (len (a .after .at k) ≡ n) × (ex p ≡ false)
@@ -109,7 +109,7 @@ named-ok v n need =
     by-test (NamedOk n) (ltb 16372 need) Full (cond (ltb e n) (At e) Full) (λ t. tt)
     (λ t. by-test (NamedOk n) (ltb e n) (At e) Full (λ l. ltb-true e n l) (λ l. tt))
 
-find-ok : (s v : List ℕ) (n : ℕ) (excluded : ℕ → Bool) → FoundOk s n excluded (find foundIn (segView s) v n excluded)
+pub find-ok : (s v : List ℕ) (n : ℕ) (excluded : ℕ → Bool) → FoundOk s n excluded (find foundIn (segView s) v n excluded)
 unfolding find segView
 find-ok s v n excluded = go (foundIn v (length s / 16384) (n + 8)) (named-ok v (length s / 16384) (n + 8))
   where
@@ -144,7 +144,7 @@ pub record PageOk (s : List ℕ) (p k : ℕ) : Type 0 where
   pub counted : k < segView s .page p .slotCount
 
 module _ (s : List ℕ) (p k : ℕ) (fits : p * 16384 + 16384 ≤ length s) (ok : sound (segView s .page p) ≡ true) (taken : isFree (segView s .page p .at k) ≡ false) where
-  page-ok : PageOk s p k
+  pub page-ok : PageOk s p k
   unfolding segView
   page-ok =
       let q : List ℕ = pageOf s p in
@@ -161,24 +161,24 @@ module _ (s : List ℕ) (p k : ℕ) (fits : p * 16384 + 16384 ≤ length s) (ok 
           let e : isFree (opened (view (pageOf s p)) .at k) ≡ true = ap isFree (t .past k (omega arith)) in
           let z : _≡_ {A = ℕ} 0 1 = cc in absurd (omega arith)
 
-shows-ok : (s : List ℕ) (p k : ℕ) → PageOk s p k → Shows (pageOf s p) (segView s .page p)
+pub shows-ok : (s : List ℕ) (p k : ℕ) → PageOk s p k → Shows (pageOf s p) (segView s .page p)
 shows-ok s p k o = shows-view (pageOf s p) (segView s .page p) (length-page s p (o .fits)) (o .seen)
 
-erase-on : (s : List ℕ) (p k : ℕ) → PageOk s p k → isFree (segView s .page p .at k) ≡ false → ExactOn s (on p (erase (segView s .page p) k))
+pub erase-on : (s : List ℕ) (p k : ℕ) → PageOk s p k → isFree (segView s .page p .at k) ≡ false → ExactOn s (on p (erase (segView s .page p) k))
 erase-on s p k o f = record { inside = o .fits; exact = erase-exact (pageOf s p) (segView s .page p) (shows-ok s p k o) (o .sound) k (o .counted) f }
 
 -- ---- a redirect's target
 
-abbrev Back : List ℕ → ℕ → ℕ → Type 0
+abbrev pub Back : List ℕ → ℕ → ℕ → Type 0
 Back s i t = PageOk s (pageNo t) (slotNo t) × (isTarget (segView s .page (pageNo t) .at (slotNo t)) ≡ true) × (pageNo t ≢ pageNo i)
 
-target-taken : (x : Slot) → isTarget x ≡ true → isFree x ≡ false
+pub target-taken : (x : Slot) → isTarget x ≡ true → isFree x ≡ false
 target-taken (Ordinary o l) e = refl
 target-taken Free e = sym e
 target-taken (Redirect i) e = refl
 target-taken (Target o l) e = refl
 
-back-ok : (s : List ℕ) (i t : ℕ) → pointsBack (segView s) i t ≡ true → Back s i t
+pub back-ok : (s : List ℕ) (i t : ℕ) → pointsBack (segView s) i t ≡ true → Back s i t
 unfolding segView
 back-ok s i t e =
     let u : View = segView s .page (pageNo t) in

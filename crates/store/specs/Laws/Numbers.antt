@@ -7,7 +7,7 @@ use native.Mathlib.Numerals.{add-one}
 use native.Mathlib.Omega.{arith}
 use lib.ListN.{length, take, drop, set, getD, length-take, length-drop, length-append, length-reverse}
 use borrow.Rule.Slice.PartMut.{putMid}
-use lib.Seq.{drop-drop, take-append-le, drop-append-le, take-all, drop-cons}
+use lib.Seq.{drop-drop, take-append-le, drop-append-le, take-all, take-take, drop-cons}
 use mathlib.Core.Logic.{_⊎_, inl, inr}
 use Rattle.store.specs.Numbers.{cut, put, be, toBE, le, toLE}
 
@@ -61,6 +61,31 @@ cut-in p i vs j m h f =
     let b : m ≤ length (drop j vs) = simp length-drop (omega arith) in
     ap (take m) (sym (drop-drop j i (put p i vs)) ∙ ap (drop j) (drop-at-put p i vs ∙ put-zero (drop i p) vs g) ∙ drop-append-le j vs (drop (length vs) (drop i p)) a)
     ∙ take-append-le m (drop j vs) (drop (length vs) (drop i p)) b
+
+-- ---- a part of a part
+
+pub cut-take : (p : List ℕ) (n j m : ℕ) → j + m ≤ n → cut (take n p) j m ≡ cut p j m
+cut-take p n zero m h = take-take m n p (omega arith)
+cut-take [] zero (suc j) m h = absurd (omega arith)
+cut-take [] (suc n) (suc j) m h = refl
+cut-take (x ∷ p) zero (suc j) m h = absurd (omega arith)
+cut-take (x ∷ p) (suc n) (suc j) m h = cut-take p n j m (omega arith)
+
+pub cut-cut : (p : List ℕ) (i n j m : ℕ) → j + m ≤ n → cut (cut p i n) j m ≡ cut p (i + j) m
+cut-cut p i n j m h = cut-take (drop i p) n j m h ∙ ap (take m) (drop-drop j i p)
+
+take-nil : (n : ℕ) → _≡_ {A = List ℕ} (take n []) []
+take-nil zero = refl
+take-nil (suc n) = refl
+
+drop-take : (k m : ℕ) (l : List ℕ) → drop k (take m l) ≡ take (m - k) (drop k l)
+drop-take zero m l = let e : m - 0 ≡ m = omega arith in rw e
+drop-take (suc k) zero l = let e : 0 - suc k ≡ 0 = omega arith in rw e
+drop-take (suc k) (suc m) [] = sym (take-nil (suc m - suc k))
+drop-take (suc k) (suc m) (x ∷ l) = let e : suc m - suc k ≡ m - k = omega arith in rw e (drop-take k m l)
+
+pub cut-drop : (p : List ℕ) (i n k : ℕ) → drop k (cut p i n) ≡ cut p (i + k) (n - k)
+cut-drop p i n k = drop-take k n (drop i p) ∙ ap (take (n - k)) (drop-drop k i p)
 
 -- ---- numbers as bytes, at every width
 

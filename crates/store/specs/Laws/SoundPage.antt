@@ -81,7 +81,7 @@ module _ (v : View) (k : ℕ) (g : liesWell v k ≡ true) where
       let q = and-both (cond (eqb (len (v .at k)) 0) (leb (off (v .at k)) 16384) (leb (v .dataStart) (off (v .at k)) && leb (off (v .at k) + len (v .at k)) 16384)) (not (isTarget (v .at k)) || leb 8 (len (v .at k))) g .1 in
       leb-true 8 (len (v .at k)) (or-right (not (isTarget (v .at k))) (leb 8 (len (v .at k))) (ap not t) q)
 
-  in-page : off (v .at k) + len (v .at k) ≤ 16384
+  pub in-page : off (v .at k) + len (v .at k) ≤ 16384
   in-page = go place
     where
       go : ((len (v .at k) ≡ 0) × (off (v .at k) ≤ 16384)) ⊎ ((v .dataStart ≤ off (v .at k)) × (off (v .at k) + len (v .at k) ≤ 16384)) → off (v .at k) + len (v .at k) ≤ 16384

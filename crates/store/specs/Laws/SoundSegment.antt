@@ -11,7 +11,7 @@ use lib.Dec.{eqb, ltb, leb}
 use borrow.Author.Tests.{leb-true, leb-false, eqb-true}
 use Rattle.store.specs.Numbers.{cut, zeros, fit, pageNo, slotNo}
 use Rattle.store.specs.Slots.{isTarget}
-use Rattle.store.specs.Page.{View, view, fresh, sound, liesWell}
+use Rattle.store.specs.Page.{View, view, fresh, soundTests, passes, sound, liesWell}
 use Rattle.store.specs.PageSteps.{initialised, opened, plan}
 use Rattle.store.specs.Inventory.{classOf, Truth}
 use Rattle.store.specs.Segment.{SegView, segView, pageOf, sizeOk, invOk, OnPage, Out, Result, result, carried, step, refuse, refuseIf, insertPlan, storePlan, erasePlan, insertStep, allocateStep, writeStep, resizeStep, eraseStep, pointsBack, Read, noRead, readBy, readPlan, readStep}
@@ -71,13 +71,16 @@ seen-sound s v h =
     each p z (yes l) = sound-opened (pageOf s p) (length-page s p (omega arith)) (h .pages p l)
     each p z (no l) = subst (λ (q : List ℕ). Sound (opened (view q))) (sym (page-past s p (omega arith) (z .whole))) sound-init
 
-pub sound-closed : (v : View) → sound (opened v) ≡ true → sound v ≡ true
+pub open-sound : (v : View) → sound (opened v) ≡ sound v
 unfolding sound
-sound-closed v = by-test (λ w. sound w ≡ true → sound v ≡ true) (fresh v) initialised v (λ f e. or-left (fresh v) _ f) (λ f e. e)
+open-sound v = by-test (λ w. sound w ≡ sound v) (fresh v) initialised v (λ f. sym (or-left (fresh v) (passes soundTests v) f)) (λ f. refl)
   where
     or-left : (a b : Bool) → a ≡ true → (a || b) ≡ true
     or-left true b e = refl
     or-left false b e = let z : _≡_ {A = ℕ} 0 1 = cc in absurd (omega arith)
+
+pub sound-closed : (v : View) → sound (opened v) ≡ true → sound v ≡ true
+sound-closed v e = sym (open-sound v) ∙ e
 
 pages-settled : (es : List OnPage) (u : SegView) → settled es u .pages ≡ u .pages
 pages-settled [] u = refl
