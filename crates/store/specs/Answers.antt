@@ -1,11 +1,10 @@
 -- Document 01, "Answers by number": each answer that is an enum of the code, with the paper's number and values. The promises use
 -- these. Assumes nothing.
 use Prim.Native.Nat.{ℕ}
-use mathlib.Core.Bool.{Bool, true, false}
+use mathlib.Core.Bool.{true, false}
 use mathlib.Core.List.{List, []}
 use Rattle.store.specs.Numbers.{cut}
 use Rattle.store.specs.Segment.{Result, Read, Part, noPart}
-use Rattle.store.specs.PageSteps.{Alloc, noRoom, got, run}
 use Rattle.store.specs.Scan.{Scanned, overPage}
 use Rattle.store.specs.declared.Answer.{Answer}
 use Rattle.store.specs.declared.Answer.the-variants.{Done, Size, NoPage, Long, Damaged, NoRecord, Forwarded, Full, Stale}

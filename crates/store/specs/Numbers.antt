@@ -3,7 +3,7 @@
 -- A page, a segment and an inventory are lists of bytes. Everything that is read is `cut` out of such a list, and everything that
 -- is written is `put` into one.
 use Prim.Native.Nat.{ℕ, zero, suc, _+_, _-_, _*_, _/_, _%_, _^_}
-use mathlib.Core.Bool.{Bool, true, false, cond, _&&_}
+use mathlib.Core.Bool.{Bool, true, cond, _&&_}
 use mathlib.Core.List.{List, [], _∷_, _++_, reverse}
 use lib.ListN.{length, take, drop, replicate}
 use lib.Dec.{eqb}

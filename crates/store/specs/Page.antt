@@ -1,8 +1,8 @@
 -- Document 01, "Page and slot layout": what a page says, and when it is sound. Assumes nothing.
 --
 -- `view p` is what can be seen of a page: its header's four numbers, the entry of each slot and the bytes of each record.
-use Prim.Native.Nat.{ℕ, zero, suc, _+_, _*_}
-use mathlib.Core.Bool.{Bool, true, false, cond, not, _&&_, _||_}
+use Prim.Native.Nat.{ℕ, _+_, _*_}
+use mathlib.Core.Bool.{Bool, true, cond, not, _&&_, _||_}
 use mathlib.Core.List.{List, [], _∷_}
 use lib.Dec.{eqb, ltb, leb}
 use Rattle.store.specs.Numbers.{cut, be, all, sum}

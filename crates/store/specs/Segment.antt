@@ -2,8 +2,8 @@
 --
 -- A call is planned from what is seen of the pages (`SegView`) and from the inventory. The plan has the answer's number and id, the
 -- steps on pages, and the inventory afterwards. `carried` writes the steps' edits. A refusal has no step and the inventory as it was.
-use Prim.Native.Nat.{ℕ, zero, suc, _+_, _-_, _*_, _/_, _%_}
-use mathlib.Core.Bool.{Bool, true, false, cond, not, _&&_, _||_}
+use Prim.Native.Nat.{ℕ, _+_, _-_, _*_, _/_, _%_}
+use mathlib.Core.Bool.{Bool, false, cond, not, _&&_, _||_}
 use mathlib.Core.List.{List, [], _∷_, _++_}
 use lib.ListN.{length, take, drop}
 use lib.Dec.{eqb, ltb, leb}

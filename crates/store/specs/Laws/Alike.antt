@@ -1,35 +1,33 @@
 -- Demand 3 in its literal words: two segments that differ in bytes without meaning alone give equal results, and are left so in the same sense:
 -- header bytes, entry bytes and record bytes. Assumes nothing.
-use Prim.Native.Nat.{ℕ, zero, suc, _+_, _-_, _*_, _/_, _%_, _≤_, _<_}
+use Prim.Native.Nat.{ℕ, zero, suc, _+_, _*_, _/_, _%_, _≤_, _<_}
 use mathlib.Core.Path.{_≡_, refl, sym, ap, _∙_, subst}
-use mathlib.Core.Bool.{Bool, true, false, cond, not, _&&_}
-use mathlib.Core.List.{List, [], _∷_, _++_}
-use mathlib.Core.Logic.{_⊎_, inl, inr, ⊎-elim, _≢_}
+use mathlib.Core.Bool.{true, cond, _&&_}
+use mathlib.Core.List.{List, [], _∷_}
+use mathlib.Core.Logic.{inl, inr, ⊎-elim}
 use native.Mathlib.Omega.{arith}
 use native.Mathlib.Decide.{ℕ-discrete, decLt}
-use lib.ListN.{length, take, drop, getD}
+use lib.ListN.{length, getD}
 use lib.Dec.{eqb, ltb, leb}
-use borrow.Author.Tests.{eq-eqb, ne-eqb, lt-ltb, le-ltb, eqb-true}
+use borrow.Author.Tests.{eq-eqb, le-ltb, eqb-true}
 use Rattle.store.specs.Numbers.{cut, put, be}
-use Rattle.store.specs.Slots.{off, len, slotBytes, slotOf}
+use Rattle.store.specs.Slots.{off, slotBytes, slotOf}
 use Rattle.store.specs.Page.{View, view, count, slotAt, bytesAt, fresh, sound}
 use Rattle.store.specs.PageSteps.{initialised, opened, Edit, head, move, commit, fill, apply, run, Plan, headBytes, putHead, putSlot, putBytes, plan}
 use Rattle.store.specs.Inventory.{Truth}
-use Rattle.store.specs.Segment.{SegView, segView, pageOf, OnPage, Out, Result, result, carried, carriedOn, step, refuse, refuseIf, sizeOk, invOk, readStep, Read}
+use Rattle.store.specs.Segment.{SegView, segView, pageOf, OnPage, Out, result, carried, carriedOn, step, sizeOk, Read}
 use Rattle.store.specs.Laws.Numbers.{length-put, cut-same, cut-take}
 use Rattle.store.specs.Laws.SoundPage.{sound-test}
 use Rattle.store.specs.Laws.Exact.{length-apply, length-run}
-use Rattle.store.specs.Scan.{scanStep}
-use Rattle.store.specs.Laws.Segments.{AllExact, ExactOn, length-page, page-same, page-other, settledOn, carried-on}
+use Rattle.store.specs.Laws.Segments.{AllExact, length-page, page-same, page-other, carried-on}
 use Rattle.store.specs.Laws.Calls.{by-test}
 use Rattle.store.specs.Laws.Changes.{Writes, Headed}
-use Rattle.store.specs.Laws.AlikeByKind.{length-carried, Exacting, same-call, read-same, scan-same}
+use Rattle.store.specs.Laws.AlikeByKind.{Exacting, same-call, read-same, scan-same}
 use Rattle.store.specs.Calls.{Call, called, results}
 use Rattle.store.specs.Alike.{AlikePage, both-fresh, both-used, Alike, AlikeToRead, AlikeByKind, Same, AllSame}
 use Rattle.store.specs.SoundSegment.{classes, Paired, SoundSegment}
-use Rattle.store.specs.Laws.Stays.{StepOk, AllSteps, Stays}
-use Rattle.store.specs.Laws.SoundSegment.{page-past, sound-closed, Seen, seen-sound, seen-page, Sized, sized, Staying, planOf, rowOf, called-plan, call-exacting, call-staying, call-right, Right}
-use Rattle.store.specs.declared.Slot.{Slot}
+use Rattle.store.specs.Laws.Stays.{StepOk, AllSteps}
+use Rattle.store.specs.Laws.SoundSegment.{page-past, sound-closed, seen-sound, seen-page, Sized, sized, Staying, planOf, rowOf, called-plan, call-exacting, call-staying, call-right}
 use Rattle.store.specs.declared.Slot.the-variants.{Free}
 
 -- ---- the same edits on two pages: a part that is equal stays equal, and one that is written becomes so
@@ -279,6 +277,7 @@ demand-3 [] s t v w h l e = tt
 demand-3 (c ∷ cs) s t v w h l e =
     let y = call-alike c s t v h l in
     let sound = call-right c s v h .sound in
-    subst (λ (x : List ℕ). AllSame AlikeToRead (results (c ∷ cs) s v) (results (c ∷ cs) t x)) e
-    (record { answer = y .answer; id = y .id; inv = y .inv; seg = read-alike (called c s v .seg) (called c t v .seg) (called c s v .inv) sound (y .seg) },
-    demand-3 cs (called c s v .seg) (called c t v .seg) (called c s v .inv) (called c t v .inv) sound (y .seg) (y .inv))
+    subst (λ (x : List ℕ). AllSame AlikeToRead (results (c ∷ cs) s v) (results (c ∷ cs) t x)) e (
+      record { answer = y .answer; id = y .id; inv = y .inv; seg = read-alike (called c s v .seg) (called c t v .seg) (called c s v .inv) sound (y .seg) },
+      demand-3 cs (called c s v .seg) (called c t v .seg) (called c s v .inv) (called c t v .inv) sound (y .seg) (y .inv),
+    )

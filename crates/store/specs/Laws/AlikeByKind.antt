@@ -1,19 +1,18 @@
 -- Demand 3: of two segments that are alike, the same calls with the same data give the same results, and leave them alike. Assumes nothing.
-use Prim.Native.Nat.{ℕ, zero, suc, _+_, _-_, _*_, _/_, _%_, _≤_, _<_}
-use mathlib.Core.Path.{_≡_, refl, sym, ap, _∙_, subst}
-use mathlib.Core.Bool.{Bool, true, false, cond, not, _&&_, _||_}
-use mathlib.Core.List.{List, [], _∷_, _++_}
-use native.Mathlib.Omega.{arith}
-use lib.ListN.{length, length-replicate, length-append, length-take}
+use Prim.Native.Nat.{ℕ, _*_, _/_, _%_, _≤_}
+use mathlib.Core.Path.{_≡_, refl, sym, _∙_, subst}
+use mathlib.Core.Bool.{cond, not, _&&_}
+use mathlib.Core.List.{List, [], _∷_}
+use lib.ListN.{length}
 use lib.Dec.{ltb, leb, eqb}
 use borrow.Author.Tests.{leb-true}
 use Rattle.store.specs.Numbers.{zeros, fit}
 use Rattle.store.specs.PageSteps.{run}
-use Rattle.store.specs.Segment.{SegView, segView, sizeOk, invOk, pageOf, OnPage, Out, Result, result, carried, carriedOn, step, refuse, refuseIf, insertPlan, storePlan, erasePlan, insertStep, allocateStep, writeStep, resizeStep, eraseStep, Read, noRead, readPlan, readStep}
+use Rattle.store.specs.Segment.{SegView, segView, sizeOk, invOk, pageOf, OnPage, Out, result, carried, carriedOn, step, refuse, refuseIf, insertPlan, storePlan, erasePlan, insertStep, allocateStep, writeStep, resizeStep, eraseStep, noRead, readPlan, readStep}
 use Rattle.store.specs.Laws.Numbers.{length-put}
 use Rattle.store.specs.Laws.Relocate.{length-fit}
 use Rattle.store.specs.Laws.SoundPage.{and-both}
-use Rattle.store.specs.Scan.{Scanned, without, overPage, scanPlan, scanStep}
+use Rattle.store.specs.Scan.{without, overPage, scanPlan, scanStep}
 use Rattle.store.specs.Calls.{Call, insert, allocate, write, resize, erase, called, results}
 use Rattle.store.specs.Alike.{AlikeByKind, Same, AllSame}
 use Rattle.store.specs.Laws.Segments.{AllExact, planned, same-answer, same-id, same-inv, left-alike}

@@ -1,22 +1,21 @@
 -- Bytes all zero are a sound segment and its inventory: what calls can start from. Assumes nothing.
-use Prim.Native.Nat.{ℕ, zero, suc, _+_, _-_, _*_, _/_, _%_, _≤_, _<_}
-use mathlib.Core.Path.{_≡_, refl, sym, ap, _∙_, subst}
-use mathlib.Core.Bool.{Bool, true, false, cond, _&&_, _||_}
+use Prim.Native.Nat.{ℕ, zero, suc, _+_, _*_, _/_, _%_, _≤_}
+use mathlib.Core.Path.{_≡_, refl, sym, ap, _∙_}
+use mathlib.Core.Bool.{Bool, true, false, cond}
 use mathlib.Core.List.{List, [], _∷_, reverse, reverseAux}
 use native.Mathlib.Omega.{arith}
-use lib.ListN.{length, take, drop, getD, replicate, length-replicate}
-use lib.Dec.{eqb, ltb, leb}
+use lib.ListN.{length, take, drop, getD, length-replicate}
+use lib.Dec.{eqb, ltb}
 use borrow.Author.Tests.{eq-eqb, le-leb}
 use Rattle.store.specs.Numbers.{cut, be, zeros, pageNo, slotNo}
 use Rattle.store.specs.Slots.{isTarget, isFree}
 use Rattle.store.specs.Page.{View, view, count, fresh, sound}
-use Rattle.store.specs.PageSteps.{initialised, opened}
-use Rattle.store.specs.Inventory.{nibbleAt, nibble, halfOf, entryAt, Lowest, Truth}
-use Rattle.store.specs.Segment.{SegView, segView, pageOf, sizeOk, invOk}
-use Rattle.store.specs.SoundSegment.{slotOn, classes, nibbleOf, Names, NamedBy, Paired, SoundSegment}
+use Rattle.store.specs.PageSteps.{initialised}
+use Rattle.store.specs.Inventory.{nibbleAt, nibble, halfOf, entryAt}
+use Rattle.store.specs.Segment.{segView, pageOf}
+use Rattle.store.specs.SoundSegment.{slotOn, classes, nibbleOf, SoundSegment}
 use Rattle.store.specs.Laws.SoundSegment.{seen-page}
-use Rattle.store.specs.declared.Slot.{Slot}
-use Rattle.store.specs.declared.Slot.the-variants.{Ordinary, Free, Redirect, Target}
+use Rattle.store.specs.declared.Slot.the-variants.{Free, Redirect}
 
 abbrev AllZero : List ℕ → Type 0
 AllZero [] = Unit {0}

@@ -1,25 +1,25 @@
 -- Each call's steps are exact on every segment, sound or not: a page is touched only after it passed the test. Assumes nothing.
-use Prim.Native.Nat.{ℕ, zero, suc, _+_, _-_, _*_, _/_, _%_, _^_, _≤_, _<_}
+use Prim.Native.Nat.{ℕ, _+_, _-_, _*_, _/_, _^_, _≤_, _<_}
 use mathlib.Core.Path.{_≡_, refl, sym, ap, _∙_}
 use mathlib.Core.Bool.{Bool, true, false, cond, not, _&&_, _||_}
 use mathlib.Core.List.{List, [], _∷_, _++_}
-use mathlib.Core.Logic.{_⊎_, inl, inr, _≢_}
+use mathlib.Core.Logic.{_≢_}
 use native.Mathlib.Omega.{arith}
 use lib.ListN.{length, take, drop, length-append}
 use lib.Dec.{ltb, leb, eqb}
 use borrow.Author.Tests.{le-ltb, leb-false, ltb-false, ltb-true, eqb-true, eqb-false}
 use native.Mathlib.Decide.{decLt}
-use Rattle.store.specs.Numbers.{cut, zeros, be, toBE, pageNo, slotNo, idOf}
+use Rattle.store.specs.Numbers.{cut, be, toBE, pageNo, slotNo, idOf}
 use Rattle.store.specs.Slots.{off, len, isFree, isTarget}
 use Rattle.store.specs.Page.{View, view, count, slotAt, fresh, sound}
 use Rattle.store.specs.PageSteps.{initialised, opened, Plan, Alloc, noRoom, got, allocated, makeRoom, andThen, cost, gap, commit, filled, move, stay, withSlot, eraseForRedirect, relocate, Relocated, refused, moved, plan, allocate, erase}
 use Rattle.store.specs.Inventory.{foundIn, entryFor, entryAt, update}
-use Rattle.store.specs.Segment.{SegView, segView, pageOf, OnPage, on, Out, done, refuse, refuseIf, Found, nowhere, found, taken, findOn, find, inserted, insertPlan, pointsBack, eraseBy, erasePlan, targeted, forwarded, fromOrdinary, forwardedAgain, atTarget, atHome, fromRedirect, storeBy, storePlan}
+use Rattle.store.specs.Segment.{segView, pageOf, on, done, refuse, refuseIf, Found, nowhere, found, taken, findOn, find, inserted, insertPlan, pointsBack, eraseBy, erasePlan, targeted, forwarded, fromOrdinary, forwardedAgain, atTarget, atHome, fromRedirect, storeBy, storePlan}
 use Rattle.store.specs.Laws.Edits.{Shows, shows-view}
 use Rattle.store.specs.Laws.Views.{Sound, upd-same, numbers}
 use Rattle.store.specs.Laws.Exact.{Exact, erase-exact, exact-then}
 use Rattle.store.specs.Laws.OneSlot.{alloc-exact, made-roomy, redirect-exact}
-use Rattle.store.specs.Laws.Relocate.{fill-exact, retype-exact, relocate-answer, Answered, Moved}
+use Rattle.store.specs.Laws.Relocate.{fill-exact, retype-exact, relocate-answer, Answered}
 use Rattle.store.specs.Laws.SoundPage.{sound-page, sound-init, not-true, and-both}
 use Rattle.store.specs.declared.Named.{Named}
 use Rattle.store.specs.declared.Named.the-variants.{At, Full}

@@ -1,20 +1,20 @@
 -- What each page step does to entries and records: one slot changes; the others keep kind, length, id and bytes. And which entries and
 -- headers a step writes. Views and edits alone: no byte of a page occurs here. Assumes nothing.
-use Prim.Native.Nat.{ℕ, zero, suc, _+_, _-_, _*_, _^_, _≤_, _<_, min}
+use Prim.Native.Nat.{ℕ, _+_, _-_, _*_, _≤_, _<_, min}
 use mathlib.Core.Path.{_≡_, refl, sym, ap, _∙_, subst}
-use mathlib.Core.Bool.{Bool, true, false, cond}
+use mathlib.Core.Bool.{true, false, cond}
 use mathlib.Core.List.{List, [], _∷_, _++_}
 use mathlib.Core.Logic.{_⊎_, inl, inr, ⊎-elim, _≢_}
 use native.Mathlib.Omega.{arith}
-use native.Mathlib.Decide.{ℕ-discrete, decLt}
-use lib.ListN.{length, take}
+use native.Mathlib.Decide.{decLt}
+use lib.ListN.{take}
 use lib.Dec.{ltb, eqb}
-use borrow.Author.Tests.{lt-ltb, le-ltb, eq-eqb, ne-eqb, ltb-true, ltb-false, eqb-true, eqb-false}
-use Rattle.store.specs.Numbers.{upd, zeros, fit}
+use borrow.Author.Tests.{ltb-true, eqb-true, eqb-false}
+use Rattle.store.specs.Numbers.{zeros, fit}
 use Rattle.store.specs.Laws.Slots.{tag}
-use Rattle.store.specs.Slots.{off, len, isFree, isTarget, isRecord, placed}
+use Rattle.store.specs.Slots.{off, len, isFree, isRecord, placed}
 use Rattle.store.specs.Page.{View}
-use Rattle.store.specs.PageSteps.{Edit, head, move, commit, fill, Plan, stay, andThen, withSlot, withHead, compactify, gap, makeRoom, isNew, cost, allocated, nextFree, Alloc, noRoom, got, startWithout, pruned, erased, redirected, eraseForRedirect, Relocated, refused, moved, movedUnder, moveUnder, shrunk, parked, resized, relocateBy, relocate, filled, plan, allocate, erase}
+use Rattle.store.specs.PageSteps.{Edit, head, move, commit, fill, Plan, stay, andThen, withSlot, withHead, compactify, gap, makeRoom, isNew, cost, allocated, Alloc, noRoom, got, startWithout, pruned, eraseForRedirect, Relocated, refused, moved, moveUnder, shrunk, parked, resized, relocateBy, relocate, filled, plan, allocate, erase}
 use Rattle.store.specs.Laws.Views.{Sound, upd-same, upd-other, erase-used}
 use Rattle.store.specs.Laws.Compactify.{Kept, compact-keeps}
 use Rattle.store.specs.Laws.OneSlot.{Suits, slot-sound}

@@ -1,21 +1,21 @@
 -- Compactify: each move keeps the page sound, and what is seen after all of them is what the plan says. Assumes nothing.
-use Prim.Native.Nat.{ℕ, zero, suc, _+_, _-_, _*_, _^_, _≤_, _<_}
+use Prim.Native.Nat.{ℕ, zero, suc, _+_, _-_, _^_, _≤_, _<_}
 use mathlib.Core.Path.{_≡_, refl, sym, ap, _∙_}
 use mathlib.Core.Bool.{Bool, true, false, cond, _&&_, _||_}
-use mathlib.Core.List.{List, [], _∷_, _++_}
+use mathlib.Core.List.{List, [], _∷_}
 use mathlib.Core.Logic.{_⊎_, inl, inr, _≢_}
 use native.Mathlib.Omega.{arith}
 use native.Mathlib.Decide.{ℕ-discrete, decLt}
 use lib.ListN.{length}
 use lib.Dec.{ltb, eqb}
 use borrow.Author.Tests.{ltb-false, ltb-true, eqb-true}
-use Rattle.store.specs.Numbers.{cut, upd, sum, be}
-use Rattle.store.specs.Slots.{off, len, isFree, isTarget, isRecord, placed, slotOf}
+use Rattle.store.specs.Numbers.{cut, upd, sum}
+use Rattle.store.specs.Slots.{off, len, isFree, isTarget, isRecord, placed}
 use Rattle.store.specs.Page.{View, view}
-use Rattle.store.specs.PageSteps.{withSlot, withHead, before, inOrder, records, pack, compactify, gap, Plan, run, apply, head, move}
+use Rattle.store.specs.PageSteps.{withSlot, withHead, before, inOrder, records, pack, compactify, gap, apply, move}
 use Rattle.store.specs.Laws.Slots.{Codable, tag}
-use Rattle.store.specs.Laws.Edits.{Apart, Fits, Clear, Under, Only, Shows, shows-view, move-view, head-view, under-view, entry-of, bytes-of}
-use Rattle.store.specs.Laws.Views.{Sound, sound-fits, upd-elim, upd-other, upd-same, upd-apart, upd-lens, sum-ext}
+use Rattle.store.specs.Laws.Edits.{Apart, Clear, Only, shows-view, move-view, head-view, under-view, entry-of}
+use Rattle.store.specs.Laws.Views.{Sound, sound-fits, upd-elim, upd-other, upd-apart, upd-lens, sum-ext}
 use Rattle.store.specs.Laws.Exact.{Exact, length-apply}
 use Rattle.store.specs.declared.Slot.{Slot}
 use Rattle.store.specs.declared.Slot.the-variants.{Ordinary, Free, Redirect, Target}

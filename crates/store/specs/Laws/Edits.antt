@@ -1,23 +1,23 @@
 -- One page: what is seen after an edit is the view that the edit names. Every page step is a list of edits.
 -- Assumes nothing.
-use Prim.Native.Nat.{ℕ, zero, suc, _+_, _-_, _*_, _^_, _≤_, _<_}
+use Prim.Native.Nat.{ℕ, _+_, _*_, _≤_, _<_}
 use mathlib.Core.Path.{_≡_, refl, sym, ap, _∙_}
-use mathlib.Core.Bool.{Bool, true, false, cond}
-use mathlib.Core.List.{List, [], _∷_, _++_}
+use mathlib.Core.Bool.{cond}
+use mathlib.Core.List.{List, [], _∷_}
 use mathlib.Core.Logic.{_⊎_, inl, inr, _≢_}
 use native.Mathlib.Omega.{arith}
 use native.Mathlib.Decide.{ℕ-discrete, decLt}
 use lib.ListN.{length}
 use lib.Dec.{ltb}
-use borrow.Author.Tests.{lt-ltb, le-ltb, ltb-true}
-use Rattle.store.specs.Numbers.{cut, put, be, toBE}
+use borrow.Author.Tests.{lt-ltb, le-ltb}
+use Rattle.store.specs.Numbers.{cut, put, be}
 use Rattle.store.specs.Slots.{slotBytes, slotOf, off, len}
 use Rattle.store.specs.Page.{View, view, count, slotAt, bytesAt}
 use Rattle.store.specs.PageSteps.{headBytes, putHead, putSlot, putBytes, apply, head, move, commit, fill}
 use Rattle.store.specs.Laws.Numbers.{length-put, cut-apart, cut-same, cut-in, be-toBE}
 use Rattle.store.specs.Laws.Slots.{Codable, slot-read-back}
 use Rattle.store.specs.declared.Slot.{Slot}
-use Rattle.store.specs.declared.Slot.the-variants.{Ordinary, Free, Redirect, Target}
+use Rattle.store.specs.declared.Slot.the-variants.{Free}
 
 -- two records, where both are of positive length: one ends before the other starts
 abbrev pub Apart : Slot → Slot → Type 0

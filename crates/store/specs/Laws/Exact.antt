@@ -1,22 +1,18 @@
 -- Each page step leaves what its plan says is seen, and a sound page. Assumes nothing.
-use Prim.Native.Nat.{ℕ, zero, suc, _+_, _-_, _*_, _^_, _≤_, _<_, min}
-use mathlib.Core.Path.{_≡_, refl, sym, ap, _∙_, subst}
-use mathlib.Core.Bool.{Bool, true, false, cond}
+use Prim.Native.Nat.{ℕ, _+_, _-_, _*_, _≤_, _<_}
+use mathlib.Core.Path.{_≡_, refl, ap, _∙_}
+use mathlib.Core.Bool.{false}
 use mathlib.Core.List.{List, [], _∷_, _++_}
-use mathlib.Core.Logic.{_⊎_, inl, inr, _≢_}
 use native.Mathlib.Omega.{arith}
 use lib.ListN.{length}
-use lib.Dec.{ltb, eqb}
-use borrow.Author.Tests.{le-ltb}
-use Rattle.store.specs.Numbers.{cut, upd, zeros}
+use Rattle.store.specs.Numbers.{zeros}
 use Rattle.store.specs.Slots.{off, len, isFree, slotBytes}
 use Rattle.store.specs.Page.{View, view}
-use Rattle.store.specs.PageSteps.{Edit, head, move, commit, fill, apply, run, putHead, putSlot, putBytes, headBytes, Plan, stay, andThen, makeRoom, gap, cost, compactify, erased, allocated, Alloc, noRoom, got, plan, erase, allocate}
+use Rattle.store.specs.PageSteps.{Edit, head, move, commit, fill, apply, run, putHead, putSlot, headBytes, Plan, stay, andThen, gap, cost, erased, allocated, plan, erase}
 use Rattle.store.specs.Laws.Numbers.{length-put}
-use Rattle.store.specs.Laws.Edits.{Fits, Clear, Only, Shows, shows-view, commit-view}
-use Rattle.store.specs.Laws.Views.{Sound, sound-fits, upd-elim, upd-other, erase-sound, alloc-sound, Numbers, numbers}
-use Rattle.store.specs.declared.Slot.{Slot}
-use Rattle.store.specs.declared.Slot.the-variants.{Ordinary, Free, Redirect, Target}
+use Rattle.store.specs.Laws.Edits.{Clear, Only, Shows, shows-view, commit-view}
+use Rattle.store.specs.Laws.Views.{Sound, sound-fits, upd-elim, upd-other, erase-sound, alloc-sound, numbers}
+use Rattle.store.specs.declared.Slot.the-variants.{Ordinary, Free}
 
 pub length-apply : (e : Edit) (p : List ℕ) → length (apply e p) ≡ length p
 unfolding apply

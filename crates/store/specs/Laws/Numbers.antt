@@ -1,11 +1,11 @@
 -- Laws of `put` and `cut`, and of numbers as bytes. All that is known of a page after a write follows from these. Assumes nothing.
 use Prim.Native.Nat.{ℕ, zero, suc, _+_, _-_, _*_, _/_, _%_, _^_, _≤_, _<_}
 use mathlib.Core.Path.{_≡_, refl, sym, ap, _∙_}
-use mathlib.Core.List.{List, [], _∷_, _++_, reverse, reverse-reverse}
-use native.Mathlib.Nat.{not-suc-le-zero, zero-add, suc-add, add-mul, mul-assoc, mul-comm, div-div-eq-div-mul, div-add-mod', pow-suc, div-eq-of-lt, div-one}
+use mathlib.Core.List.{List, [], _∷_, _++_, reverse-reverse}
+use native.Mathlib.Nat.{not-suc-le-zero, zero-add, suc-add, add-mul, mul-assoc, mul-comm, div-div-eq-div-mul, pow-suc, div-eq-of-lt, div-one}
 use native.Mathlib.Numerals.{add-one}
 use native.Mathlib.Omega.{arith}
-use lib.ListN.{length, take, drop, set, getD, length-take, length-drop, length-append, length-reverse}
+use lib.ListN.{length, take, drop, set, getD, length-drop, length-reverse}
 use borrow.Rule.Slice.PartMut.{putMid}
 use lib.Seq.{drop-drop, take-append-le, drop-append-le, take-all, take-take, drop-cons}
 use mathlib.Core.Logic.{_⊎_, inl, inr}

@@ -1,25 +1,25 @@
 -- One slot's entry and record are replaced: the law that relocate, erase for a redirect, a new target and a write share. Assumes nothing.
-use Prim.Native.Nat.{ℕ, zero, suc, _+_, _-_, _*_, _^_, _≤_, _<_}
+use Prim.Native.Nat.{ℕ, _+_, _-_, _*_, _^_, _≤_, _<_}
 use mathlib.Core.Path.{_≡_, refl, sym, ap, _∙_}
-use mathlib.Core.Bool.{Bool, true, false, cond}
-use mathlib.Core.List.{List, [], _∷_, _++_}
-use mathlib.Core.Logic.{_⊎_, inl, inr, _≢_}
+use mathlib.Core.Bool.{true, false, cond}
+use mathlib.Core.List.{List, [], _∷_}
+use mathlib.Core.Logic.{inl, _≢_}
 use native.Mathlib.Omega.{arith}
-use native.Mathlib.Decide.{ℕ-discrete, decLt}
-use lib.ListN.{length, take, length-take, length-replicate, length-append}
-use lib.Dec.{ltb, eqb}
-use borrow.Author.Tests.{le-ltb, lt-ltb, ltb-true, ltb-false, eq-eqb, ne-eqb}
-use Rattle.store.specs.Numbers.{cut, upd, sum, zeros, fit}
+use native.Mathlib.Decide.{decLt}
+use lib.ListN.{length}
+use lib.Dec.{eqb}
+use borrow.Author.Tests.{le-ltb, lt-ltb}
+use Rattle.store.specs.Numbers.{upd, sum}
 use Rattle.store.specs.Slots.{off, len, isFree, isTarget, isRecord, placed}
 use Rattle.store.specs.Page.{View, view}
-use Rattle.store.specs.PageSteps.{withSlot, withHead, commit, Plan, stay, andThen, run, makeRoom, gap, cost, isNew, compactify, allocated, startWithout, redirected, eraseForRedirect, parked, movedUnder, moveUnder, shrunk, plan}
+use Rattle.store.specs.PageSteps.{withSlot, withHead, commit, Plan, andThen, run, makeRoom, gap, cost, compactify, allocated, startWithout, eraseForRedirect, movedUnder, moveUnder, plan}
 use Rattle.store.specs.Laws.Slots.{Codable}
-use Rattle.store.specs.Laws.Edits.{Apart, Clear, Only, Shows, shows-view}
+use Rattle.store.specs.Laws.Edits.{Apart, Shows, shows-view}
 use Rattle.store.specs.Laws.Views.{Sound, upd-elim, upd-other, upd-same, upd-apart, upd-lens, sum-swap, start-up, start-end, start-low}
-use Rattle.store.specs.Laws.Exact.{Right, Exact, exact-commit, exact-then, exact-right, right-stay, place-exact, length-run}
-use Rattle.store.specs.Laws.Compactify.{Kept, compact-exact, compact-keeps, compact-gap, Placed, placed-is}
+use Rattle.store.specs.Laws.Exact.{Right, Exact, exact-commit, exact-then, exact-right, right-stay, place-exact}
+use Rattle.store.specs.Laws.Compactify.{Kept, compact-exact, compact-keeps, compact-gap, placed-is}
 use Rattle.store.specs.declared.Slot.{Slot}
-use Rattle.store.specs.declared.Slot.the-variants.{Ordinary, Free, Redirect, Target}
+use Rattle.store.specs.declared.Slot.the-variants.{Free, Redirect}
 
 -- what must hold of the new entry x of slot k, with data start d and free space r
 pub record Suits (v : View) (k : ℕ) (x : Slot) (d r : ℕ) : Type 0 where

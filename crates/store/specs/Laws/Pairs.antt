@@ -1,18 +1,18 @@
 -- Redirects and targets stay paired: over maps from ids to entries and bytes, where at most three ids change. Assumes nothing.
-use Prim.Native.Nat.{ℕ, _+_, _-_, _*_, _/_, _%_, _^_, _≤_, _<_}
+use Prim.Native.Nat.{ℕ, _<_}
 use mathlib.Core.Path.{_≡_, refl, sym, ap, _∙_, subst}
 use mathlib.Core.Bool.{Bool, true, false, cond}
-use mathlib.Core.List.{List, [], _∷_, _++_}
+use mathlib.Core.List.{List, []}
 use mathlib.Core.Logic.{_⊎_, inl, inr, ⊎-elim, _≢_}
 use native.Mathlib.Omega.{arith}
 use native.Mathlib.Decide.{ℕ-discrete}
-use lib.ListN.{length, take, drop}
-use Rattle.store.specs.Numbers.{be, upd, pageNo, slotNo}
+use lib.ListN.{take, drop}
+use Rattle.store.specs.Numbers.{be, upd, pageNo}
 use Rattle.store.specs.Laws.Slots.{tag}
 use Rattle.store.specs.Slots.{isTarget, isFree}
 use Rattle.store.specs.Segment.{SegView, Read, noRead}
 use Rattle.store.specs.Laws.Views.{upd-same, upd-other}
-use Rattle.store.specs.SoundSegment.{slotOn, bytesOn, backId, Names, NamedBy, Paired}
+use Rattle.store.specs.SoundSegment.{slotOn, bytesOn, backId, NamedBy, Paired}
 use Rattle.store.specs.declared.Slot.{Slot}
 use Rattle.store.specs.declared.Slot.the-variants.{Ordinary, Free, Redirect, Target}
 

@@ -1,26 +1,24 @@
 -- Read after write: from a sound segment, what a read gives after a call that is carried out, by the answer's id and by every other root. Assumes nothing.
-use Prim.Native.Nat.{ℕ, zero, suc, _+_, _-_, _*_, _/_, _%_, _≤_, _<_}
+use Prim.Native.Nat.{ℕ, _/_, _<_}
 use mathlib.Core.Path.{_≡_, refl, sym, ap, _∙_, subst}
-use mathlib.Core.Bool.{Bool, true, false, cond, not, _&&_}
-use mathlib.Core.List.{List, [], _∷_}
+use mathlib.Core.Bool.{false, not}
+use mathlib.Core.List.{List}
 use mathlib.Core.Logic.{_≢_}
-use native.Mathlib.Omega.{arith}
 use lib.ListN.{length}
-use lib.Dec.{eqb, ltb, leb}
+use lib.Dec.{leb}
 use borrow.Author.Tests.{lt-leb}
 use Rattle.store.specs.PageSteps.{plan}
-use Rattle.store.specs.Numbers.{zeros, fit, pageNo, slotNo}
+use Rattle.store.specs.Numbers.{pageNo}
 use Rattle.store.specs.Laws.Slots.{tag}
-use Rattle.store.specs.Page.{View, sound}
-use Rattle.store.specs.Segment.{SegView, segView, pageOf, sizeOk, invOk, Out, Result, result, carried, step, refuse, refuseIf, insertPlan, insertStep, allocateStep, pointsBack, Read, noRead, readBy, readPlan, readStep}
+use Rattle.store.specs.Page.{sound}
+use Rattle.store.specs.Segment.{SegView, segView, Out, Result, result, carried, step, insertStep, Read, readBy, readPlan, readStep}
 use Rattle.store.specs.Laws.SoundPage.{sound-test}
 use Rattle.store.specs.Laws.Segments.{AllExact, settled}
-use Rattle.store.specs.Laws.Calls.{by-test}
 use Rattle.store.specs.Laws.AlikeByKind.{Exacting}
-use Rattle.store.specs.Calls.{Call, insert, allocate, write, resize, erase, called}
+use Rattle.store.specs.Calls.{Call, called}
 use Rattle.store.specs.SoundSegment.{slotOn, bytesOn, SoundSegment}
 use Rattle.store.specs.Laws.Pairs.{tagOn, look, Root}
-use Rattle.store.specs.Laws.Stays.{Stays, wrote, oldBytes, insert-new, points-back}
+use Rattle.store.specs.Laws.Stays.{Stays, oldBytes, insert-new, points-back}
 use Rattle.store.specs.Laws.SoundSegment.{Seen, seen-sound, seen-pages, sized, stays-right, after-seen, page-count, Staying, planOf, rowOf, called-plan, call-exacting, call-staying}
 use Rattle.store.specs.declared.Slot.{Slot}
 use Rattle.store.specs.declared.Slot.the-variants.{Ordinary, Free, Redirect, Target}

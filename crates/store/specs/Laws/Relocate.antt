@@ -1,23 +1,23 @@
 -- Relocate, and a write in place. Assumes nothing.
-use Prim.Native.Nat.{ℕ, zero, suc, _+_, _-_, _*_, _^_, _≤_, _<_, min}
+use Prim.Native.Nat.{ℕ, _+_, _-_, _≤_, _<_}
 use mathlib.Core.Path.{_≡_, refl, sym, ap, _∙_}
-use mathlib.Core.Bool.{Bool, true, false, cond}
-use mathlib.Core.List.{List, [], _∷_, _++_}
-use mathlib.Core.Logic.{_⊎_, inl, inr, _≢_}
+use mathlib.Core.Bool.{true, false, cond}
+use mathlib.Core.List.{List, [], _∷_}
+use mathlib.Core.Logic.{_⊎_, inl, inr}
 use native.Mathlib.Omega.{arith}
 use native.Mathlib.Decide.{ℕ-discrete, decLt}
 use lib.ListN.{length, take, length-take, length-replicate, length-append}
-use lib.Dec.{ltb, eqb}
+use lib.Dec.{ltb}
 use borrow.Author.Tests.{le-ltb, lt-ltb, eq-eqb, ne-eqb}
-use Rattle.store.specs.Numbers.{upd, zeros, fit}
-use Rattle.store.specs.Slots.{off, len, isFree, isTarget, isRecord, placed, slotOf}
+use Rattle.store.specs.Numbers.{zeros, fit}
+use Rattle.store.specs.Slots.{off, len, isFree, isTarget, isRecord, placed}
 use Rattle.store.specs.Page.{View, view}
-use Rattle.store.specs.PageSteps.{withSlot, withHead, commit, fill, move, apply, Plan, stay, andThen, run, makeRoom, parked, movedUnder, moveUnder, shrunk, resized, relocateBy, relocate, Relocated, refused, moved, filled, plan}
+use Rattle.store.specs.PageSteps.{withSlot, commit, fill, move, Plan, andThen, run, makeRoom, parked, moveUnder, shrunk, resized, relocateBy, relocate, Relocated, refused, moved, filled, plan}
 use Rattle.store.specs.Laws.Slots.{Codable}
-use Rattle.store.specs.Laws.Edits.{Apart, Clear, Only, Shows, shows-view, under-view, fill-view, move-view, entry-of}
+use Rattle.store.specs.Laws.Edits.{Only, shows-view, under-view, fill-view, move-view, entry-of}
 use Rattle.store.specs.Laws.Views.{Sound, sound-fits, upd-same, upd-other}
-use Rattle.store.specs.Laws.Exact.{Right, Exact, exact-then, exact-right, length-run}
-use Rattle.store.specs.Laws.Compactify.{Placed, placed-is}
+use Rattle.store.specs.Laws.Exact.{Exact, exact-then, length-run}
+use Rattle.store.specs.Laws.Compactify.{placed-is}
 use Rattle.store.specs.Laws.OneSlot.{Suits, slot-sound, slot-exact, under-exact, made-roomy}
 use Rattle.store.specs.declared.Slot.{Slot}
 use Rattle.store.specs.declared.Slot.the-variants.{Ordinary, Free, Redirect, Target}

@@ -1,8 +1,8 @@
 -- A segment: what is seen after a call's steps, and demand 3 over every plan. Assumes nothing.
-use Prim.Native.Nat.{ℕ, zero, suc, _+_, _-_, _*_, _/_, _%_, _≤_, _<_}
-use mathlib.Core.Path.{_≡_, refl, sym, ap, _∙_, subst}
+use Prim.Native.Nat.{ℕ, _+_, _-_, _*_, _/_, _%_, _≤_, _<_}
+use mathlib.Core.Path.{_≡_, refl, sym, ap, _∙_}
 use mathlib.Core.Bool.{Bool, true, false, cond, not, _&&_}
-use mathlib.Core.List.{List, [], _∷_, _++_}
+use mathlib.Core.List.{List, [], _∷_}
 use mathlib.Core.Logic.{_⊎_, inl, inr, _≢_}
 use native.Mathlib.Omega.{arith}
 use native.Mathlib.Decide.{ℕ-discrete, decLt}
@@ -11,8 +11,8 @@ use lib.Dec.{eqb, leb}
 use borrow.Author.Tests.{eq-eqb, ne-eqb}
 use Rattle.store.specs.Numbers.{cut, put, upd}
 use Rattle.store.specs.Page.{View, view, fresh, sound}
-use Rattle.store.specs.PageSteps.{initialised, opened, run, Plan, plan}
-use Rattle.store.specs.Segment.{SegView, segView, pageOf, OnPage, Out, Result, result, carried, carriedOn, step, refuse, refuseIf, sizeOk, invOk}
+use Rattle.store.specs.PageSteps.{initialised, opened, run, plan}
+use Rattle.store.specs.Segment.{SegView, segView, pageOf, OnPage, Out, result, carried, carriedOn, step, refuseIf, sizeOk, invOk}
 use Rattle.store.specs.Laws.Numbers.{length-put, cut-apart, cut-same, lent}
 use borrow.Rule.Slice.PartMut.{putMid, midOf}
 use Rattle.store.specs.Laws.Views.{Sound, upd-elim}

@@ -1,11 +1,11 @@
 -- One page step of a call: the entries and records of all ids after it, the classes, and a true inventory after its update. Assumes nothing.
-use Prim.Native.Nat.{ℕ, _+_, _-_, _*_, _/_, _%_, _^_, _≤_, _<_}
-use mathlib.Core.Path.{_≡_, refl, sym, ap, _∙_, subst}
-use mathlib.Core.Bool.{Bool, true, false, cond}
+use Prim.Native.Nat.{ℕ, _-_, _≤_, _<_}
+use mathlib.Core.Path.{_≡_, sym, ap, _∙_}
+use mathlib.Core.Bool.{cond}
 use mathlib.Core.List.{List}
 use mathlib.Core.Logic.{_≢_}
 use native.Mathlib.Omega.{arith}
-use native.Mathlib.Decide.{ℕ-discrete, decLt}
+use native.Mathlib.Decide.{ℕ-discrete}
 use lib.ListN.{length}
 use lib.Dec.{eqb, ltb}
 use borrow.Author.Tests.{eq-eqb, ne-eqb, lt-ltb}
@@ -13,14 +13,14 @@ use Rattle.store.specs.Numbers.{upd, idOf, pageNo, slotNo}
 use Rattle.store.specs.Laws.Slots.{tag}
 use Rattle.store.specs.Page.{View, fresh}
 use Rattle.store.specs.PageSteps.{opened, Plan}
-use Rattle.store.specs.Inventory.{classOf, Room, Truth, update}
-use Rattle.store.specs.Segment.{SegView, OnPage, on}
+use Rattle.store.specs.Inventory.{classOf, Truth, update}
+use Rattle.store.specs.Segment.{SegView, on}
 use Rattle.store.specs.Laws.Classes.{class-top}
 use Rattle.store.specs.Laws.Truth.{updated-true, length-updated}
 use Rattle.store.specs.Laws.Segments.{settledOn}
 use Rattle.store.specs.Laws.Calls.{by-test}
 use Rattle.store.specs.Laws.Changes.{Changes}
-use Rattle.store.specs.SoundSegment.{slotOn, bytesOn, nibbleOf, classes}
+use Rattle.store.specs.SoundSegment.{bytesOn, nibbleOf, classes}
 use Rattle.store.specs.Laws.Pairs.{tagOn}
 use Rattle.store.specs.declared.Slot.{Slot}
 

@@ -1,9 +1,8 @@
 -- The slot codec's facts: an entry that is written is read back, whatever its kind. Assumes nothing.
-use Prim.Native.Nat.{ℕ, zero, suc, _+_, _*_, _/_, _%_, _^_, _≤_, _<_}
-use mathlib.Core.Path.{_≡_, refl, sym, ap, _∙_}
+use Prim.Native.Nat.{ℕ, _+_, _*_, _/_, _%_, _^_, _<_}
+use mathlib.Core.Path.{_≡_, refl, ap, _∙_}
 use native.Mathlib.Omega.{arith}
-use lib.ListN.{length}
-use Rattle.store.specs.Numbers.{be, toBE}
+use Rattle.store.specs.Numbers.{be}
 use Rattle.store.specs.Slots.{kindNo, lowNo, slotWord, slotBytes, ofKind, slotOf}
 use Rattle.store.specs.Laws.Numbers.{be-toBE}
 use Rattle.store.specs.declared.Slot.{Slot}

@@ -1,5 +1,5 @@
 -- A sound segment stays sound, whatever the calls; and from one no call answers 4 or 8. Assumes nothing.
-use Prim.Native.Nat.{ℕ, zero, suc, _+_, _-_, _*_, _/_, _%_, _≤_, _<_}
+use Prim.Native.Nat.{ℕ, zero, suc, _+_, _-_, _/_, _%_, _≤_, _<_}
 use mathlib.Core.Path.{_≡_, refl, sym, ap, _∙_, subst}
 use mathlib.Core.Bool.{Bool, true, false, cond, not, _&&_, _||_}
 use mathlib.Core.List.{List, [], _∷_}
@@ -9,12 +9,11 @@ use native.Mathlib.Decide.{decLt}
 use lib.ListN.{length, length-take, length-drop}
 use lib.Dec.{eqb, ltb, leb}
 use borrow.Author.Tests.{leb-true, leb-false, eqb-true}
-use Rattle.store.specs.Numbers.{cut, zeros, fit, pageNo, slotNo}
-use Rattle.store.specs.Slots.{isTarget}
+use Rattle.store.specs.Numbers.{zeros, fit, pageNo, slotNo}
 use Rattle.store.specs.Page.{View, view, fresh, soundTests, passes, sound, liesWell}
 use Rattle.store.specs.PageSteps.{initialised, opened, plan}
 use Rattle.store.specs.Inventory.{classOf, Truth}
-use Rattle.store.specs.Segment.{SegView, segView, pageOf, sizeOk, invOk, OnPage, Out, Result, result, carried, step, refuse, refuseIf, insertPlan, storePlan, erasePlan, insertStep, allocateStep, writeStep, resizeStep, eraseStep, pointsBack, Read, noRead, readBy, readPlan, readStep}
+use Rattle.store.specs.Segment.{SegView, segView, pageOf, sizeOk, OnPage, Out, Result, result, carried, step, refuse, refuseIf, insertPlan, storePlan, erasePlan, insertStep, allocateStep, writeStep, resizeStep, eraseStep, Read, noRead, readBy, readPlan, readStep}
 use Rattle.store.specs.Laws.Views.{Sound}
 use Rattle.store.specs.Laws.SoundPage.{and-both, sound-init, sound-opened, sound-test, good-in}
 use Rattle.store.specs.Laws.Relocate.{length-fit}
@@ -23,9 +22,9 @@ use Rattle.store.specs.Laws.Segments.{AllExact, AllSound, length-page, s
 use Rattle.store.specs.Laws.Calls.{by-test, insert-exact, store-exact, erase-call-exact}
 use Rattle.store.specs.Laws.AlikeByKind.{length-carried, Exacting}
 use Rattle.store.specs.Calls.{Call, insert, allocate, write, resize, erase, called, results}
-use Rattle.store.specs.SoundSegment.{slotOn, bytesOn, nibbleOf, classes, Paired, SoundSegment}
-use Rattle.store.specs.Laws.Pairs.{Pairs, tagOn, look, Root, paired-pairs, pairs-paired}
-use Rattle.store.specs.Laws.Stays.{Stays, AllSteps, wrote, oldBytes, refusal, insert-stays, insert-finds, store-stays, erase-stays, points-back}
+use Rattle.store.specs.SoundSegment.{bytesOn, nibbleOf, classes, SoundSegment}
+use Rattle.store.specs.Laws.Pairs.{Pairs, tagOn, paired-pairs, pairs-paired}
+use Rattle.store.specs.Laws.Stays.{Stays, wrote, oldBytes, refusal, insert-stays, insert-finds, store-stays, erase-stays, points-back}
 use Rattle.store.specs.declared.Slot.{Slot}
 use Rattle.store.specs.declared.Slot.the-variants.{Ordinary, Free, Redirect, Target}
 

@@ -1,8 +1,8 @@
 -- From a sound segment each plan leaves one: redirects and targets paired, the inventory true; and no plan answers 4 or 8. Over what is seen of
 -- the segment and the inventory alone. Assumes nothing.
-use Prim.Native.Nat.{ℕ, _+_, _-_, _*_, _/_, _%_, _^_, _≤_, _<_}
+use Prim.Native.Nat.{ℕ, _+_, _-_, _*_, _^_, _≤_, _<_}
 use mathlib.Core.Path.{_≡_, refl, sym, ap, _∙_, subst}
-use mathlib.Core.Bool.{Bool, true, false, cond, not, _&&_, _||_}
+use mathlib.Core.Bool.{Bool, true, false, cond, not, _||_}
 use mathlib.Core.List.{List, [], _∷_, _++_}
 use mathlib.Core.Logic.{_⊎_, inl, inr, ⊎-elim, _≢_}
 use native.Mathlib.Omega.{arith}
@@ -12,18 +12,18 @@ use lib.Dec.{eqb, ltb, leb}
 use borrow.Author.Tests.{eq-eqb, ne-eqb, lt-ltb, le-ltb, eqb-true, eqb-false, leb-false, ltb-true, ltb-false}
 use Rattle.store.specs.Numbers.{be, toBE, zeros, upd, sum, pageNo, slotNo, idOf}
 use Rattle.store.specs.Laws.Slots.{tag}
-use Rattle.store.specs.Slots.{off, len, isFree, isTarget, isRecord, placed}
-use Rattle.store.specs.Page.{View, sound, fresh}
-use Rattle.store.specs.PageSteps.{Edit, move, fill, commit, Plan, stay, andThen, withSlot, cost, Alloc, noRoom, got, eraseForRedirect, Relocated, refused, moved, relocate, filled, plan, allocate, erase}
+use Rattle.store.specs.Slots.{off, len, isFree, isTarget, placed}
+use Rattle.store.specs.Page.{View, sound}
+use Rattle.store.specs.PageSteps.{move, Plan, withSlot, Alloc, noRoom, got, eraseForRedirect, Relocated, refused, moved, relocate, filled, plan, allocate, erase}
 use Rattle.store.specs.Inventory.{classOf, entryFor, entryAt, Lowest, Truth, update, foundIn}
 use Rattle.store.specs.Segment.{SegView, OnPage, on, Out, done, refuse, refuseIf, Found, nowhere, found, taken, findOn, find, inserted, insertPlan, pointsBack, targeted, forwarded, fromOrdinary, forwardedAgain, atTarget, atHome, fromRedirect, storeBy, storePlan, eraseBy, erasePlan, Read, noRead}
 use Rattle.store.specs.Laws.Numbers.{be-toBE}
 use Rattle.store.specs.Laws.Classes.{class-low, class-top, class-mono}
 use Rattle.store.specs.Laws.Truth.{truth-by}
 use Rattle.store.specs.Laws.Views.{Sound}
-use Rattle.store.specs.Laws.SoundPage.{sound-test, and-both}
+use Rattle.store.specs.Laws.SoundPage.{sound-test}
 use Rattle.store.specs.Laws.Segments.{settledOn, settled}
-use Rattle.store.specs.Laws.Calls.{by-test, not-false}
+use Rattle.store.specs.Laws.Calls.{by-test}
 use Rattle.store.specs.Laws.Changes.{Writes, Headed, Changes, retag, fill-changes, cost-most, alloc-changes, AllocChanges, erase-changes, redirect-changes, entry-changes, Relocates, relocate-changes}
 use Rattle.store.specs.SoundSegment.{slotOn, bytesOn, nibbleOf, classes}
 use Rattle.store.specs.Laws.Pairs.{PairOk, Pairs, tagOn, tag-target, moves-by, Moves, look, rowAt, Root, Plain, pairs-one, pairs-target, pairs-home, pairs-again, pairs-forward}

@@ -1,6 +1,6 @@
 -- An update keeps the inventory true; and the lowest page that suits is one, and is what a search from page 0 finds.
 -- Assumes nothing.
-use Prim.Native.Nat.{ℕ, zero, suc, _+_, _-_, _*_, _/_, _^_, _≤_, _<_}
+use Prim.Native.Nat.{ℕ, zero, suc, _+_, _-_, _*_, _^_, _≤_, _<_}
 use mathlib.Core.Path.{_≡_, refl, _∙_, sym, ap, subst}
 use mathlib.Core.Bool.{Bool, true, false, cond}
 use mathlib.Core.List.{List}
@@ -10,7 +10,7 @@ use lib.Dec.{leb, eqb}
 use lib.ListN.{length}
 use borrow.Author.Tests.{eq-eqb, ne-eqb, leb-true, leb-false, eqb-true, eqb-false}
 use Rattle.store.specs.Numbers.{upd}
-use Rattle.store.specs.Inventory.{nibbleAt, setNibble, entryAt, setEntry, Room, nibble, firstFrom, nextPage, runEnd, setFrom, pulledBack, movedOn, updated, Lowest, Truth}
+use Rattle.store.specs.Inventory.{setNibble, entryAt, setEntry, Room, nibble, firstFrom, nextPage, runEnd, setFrom, pulledBack, movedOn, updated, Lowest, Truth}
 use Rattle.store.specs.Laws.Cases.{lt-or-le, eq-or-ne}
 use Rattle.store.specs.Laws.Inventory.{length-setEntry, entry-same, entry-other, nibble-entry, length-setNibble, nibble-same, nibble-other, entry-nibble}
 
