@@ -4,7 +4,7 @@ use Prim.Native.Nat.{ℕ}
 use mathlib.Core.Bool.{true, false}
 use mathlib.Core.List.{List, []}
 use Rattle.store.specs.Numbers.{cut}
-use Rattle.store.specs.Segment.{Result, Read, Part, noPart}
+use Rattle.store.specs.Segment.{Result, Part, noPart, Located}
 use Rattle.store.specs.Scan.{Scanned, overPage}
 use Rattle.store.specs.declared.Answer.{Answer}
 use Rattle.store.specs.declared.Answer.the-variants.{Done, Size, NoPage, Long, Damaged, NoRecord, Forwarded, Full, Stale}
@@ -41,7 +41,7 @@ answerId Stale = 0
 abbrev pub outcome : Answer → List ℕ → List ℕ → Result
 outcome r s v = record { answer = answerNo r; id = answerId r; seg = s; inv = v }
 
--- ---- a read: its number, and the part of the segment s that it answers
+-- ---- a read: its number, and the part of the segment that it answers
 
 abbrev pub readingNo : Reading → ℕ
 readingNo (reading.At o l) = 0
@@ -57,8 +57,8 @@ readingPart reading.NoPage = noPart
 readingPart reading.Damaged = noPart
 readingPart reading.NoRecord = noPart
 
-abbrev pub readOf : Reading → List ℕ → Read
-readOf r s = record { answer = readingNo r; bytes = cut s (readingPart r .offset) (readingPart r .length) }
+abbrev pub located : Reading → Located
+located r = record { answer = readingNo r; part = readingPart r }
 
 -- ---- a step of a scan of the segment s
 

@@ -282,5 +282,11 @@ partBy s i Free = noPart
 partBy s i (Redirect t) = partOn (pageNo t) (s .page (pageNo t) .at (slotNo t))
 partBy s i (Target o l) = partOn (pageNo i) (Target o l)
 
-unfoldable pub readPart : List ℕ → ℕ → Part
-readPart s i = cond (eqb (readStep s i .answer) 0) (partBy (segView s) i (segView s .page (pageNo i) .at (slotNo i))) noPart
+pub record Located : Type 0 where
+  pub answer : ℕ
+  pub part : Part
+
+unfoldable pub locateStep : List ℕ → ℕ → Located
+locateStep s i =
+    let a = readStep s i .answer in
+    record { answer = a; part = cond (eqb a 0) (partBy (segView s) i (segView s .page (pageNo i) .at (slotNo i))) noPart }

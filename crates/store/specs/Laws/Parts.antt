@@ -10,7 +10,7 @@ use Rattle.store.specs.Numbers.{cut, pageNo, slotNo}
 use Rattle.store.specs.Slots.{off, len, isTarget}
 use Rattle.store.specs.Page.{View, view, fresh, liesWell, sound}
 use Rattle.store.specs.PageSteps.{initialised}
-use Rattle.store.specs.Segment.{segView, pageOf, sizeOk, pointsBack, Read, noRead, readBy, readPlan, readStep, Part, noPart, partOn, partBy, readPart}
+use Rattle.store.specs.Segment.{segView, pageOf, sizeOk, pointsBack, Read, noRead, readBy, readPlan, readStep, Part, noPart, partOn, partBy, locateStep}
 use Rattle.store.specs.Scan.{Scanned, without, overPage, recordAt, nextRecord, scanFrom, scanPlan, scanStep}
 use Rattle.store.specs.Laws.Numbers.{cut-cut, cut-drop}
 use Rattle.store.specs.Laws.SoundPage.{in-page}
@@ -55,8 +55,8 @@ module _ (s : List ℕ) (i : ℕ) where
   unfolding segView
   high p k l e = sound-seen (pageOf s p) (length-page s p (page-fits s p l)) e .high k
 
-  pub part-read : held s (readPart s i) ≡ readStep s i .bytes
-  unfolding readPart readStep readPlan
+  pub part-read : held s (locateStep s i .part) ≡ readStep s i .bytes
+  unfolding locateStep readStep readPlan
   part-read =
       by-test Holds (sizeOk s) (readPlan (segView s) i) (noRead 1)
       (λ z. by-test Holds (leb (segView s .pages) (pageNo i)) (noRead 2) (cond (not (sound (segView s .page (pageNo i)))) (noRead 4) (readBy (segView s) i (segView s .page (pageNo i) .at (slotNo i))))
