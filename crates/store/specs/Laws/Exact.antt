@@ -36,9 +36,6 @@ pub record Right (p : List ℕ) (a : Plan) : Type 0 where
   pub shown : Shows (run (a .edits) p) (a .after)
   pub sound : Sound (a .after)
 
-pub right-then : (p : List ℕ) (a : Plan) (f : View → Plan) → Right p a → Right (run (a .edits) p) (f (a .after)) → Right p (andThen a f)
-right-then p a f r g = record { shown = rw run-append (g .shown); sound = g .sound }
-
 pub right-stay : (p : List ℕ) (v : View) → Shows p v → Sound v → Right p (stay v)
 right-stay p v h s = record { shown = h; sound = s }
 

@@ -2,8 +2,7 @@
 use Prim.Native.Nat.{ℕ, zero, suc, _+_, _-_, _*_, _/_, _%_, _^_, _≤_, _<_}
 use mathlib.Core.Path.{_≡_, refl, sym, ap, _∙_}
 use mathlib.Core.List.{List, [], _∷_, _++_, reverse-reverse}
-use native.Mathlib.Nat.{not-suc-le-zero, zero-add, suc-add, add-mul, mul-assoc, mul-comm, div-div-eq-div-mul, pow-suc, div-eq-of-lt, div-one}
-use native.Mathlib.Numerals.{add-one}
+use native.Mathlib.Nat.{not-suc-le-zero, zero-add, suc-add, add-mul, mul-assoc, mul-comm, div-div-eq-div-mul, pow-suc, div-eq-of-lt}
 use native.Mathlib.Omega.{arith}
 use lib.ListN.{length, take, drop, set, getD, length-drop, length-reverse}
 use borrow.Rule.Slice.PartMut.{putMid}
@@ -160,16 +159,6 @@ set-put p i v = sym (put-set p i v [] ∙ put-nil (set p i v) (suc i))
 
 pub cut-cons : (p : List ℕ) (i n : ℕ) → i < length p → cut p i (suc n) ≡ getD p i 0 ∷ cut p (suc i) n
 cut-cons p i n h = ap (take (suc n)) (drop-cons p i 0 h)
-
--- two bytes stored, and two loaded, as the code does it
-pub stores2 : (p : List ℕ) (i v : ℕ) → set (set p i (v / 256 % 256)) (i + 1) (v % 256) ≡ put p i (toBE 2 v)
-stores2 p i v =
-    rw add-one
-    (ap (λ (x : ℕ). set (set p i (v / 256 % 256)) (suc i) (x % 256)) (sym (div-one v)) ∙ sym (put-set p i (v / 256 % 256) (v / 1 % 256 ∷ []) ∙ put-set (set p i (v / 256 % 256)) (suc i) (v / 1 % 256) [] ∙ put-nil (set (set p i (v / 256 % 256)) (suc i) (v / 1 % 256)) (suc (suc i))))
-
-pub loads2 : (p : List ℕ) (i : ℕ) → i + 2 ≤ length p → getD p i 0 * 256 + getD p (i + 1) 0 ≡ be (cut p i 2)
-loads2 p i h =
-    rw (add-one, cut-cons p i 1 (omega arith), cut-cons p (suc i) 0 (omega arith)) (omega arith)
 
 -- a part lent and given back: what the caller finds around it
 pub put-parts : (p : List ℕ) (i : ℕ) (vs : List ℕ) → i + length vs ≤ length p → put p i vs ≡ take i p ++ (vs ++ drop (i + length vs) p)

@@ -18,7 +18,7 @@ use Rattle.store.specs.Laws.AlikeByKind.{Exacting}
 use Rattle.store.specs.Calls.{Call, called}
 use Rattle.store.specs.SoundSegment.{slotOn, bytesOn, SoundSegment}
 use Rattle.store.specs.Laws.Pairs.{tagOn, look, Root}
-use Rattle.store.specs.Laws.Stays.{Stays, oldBytes, insert-new, points-back}
+use Rattle.store.specs.Laws.Stays.{Stays, insert-new, points-back}
 use Rattle.store.specs.Laws.SoundSegment.{Seen, seen-sound, seen-pages, sized, stays-right, after-seen, page-count, Staying, planOf, rowOf, called-plan, call-exacting, call-staying}
 use Rattle.store.specs.declared.Slot.{Slot}
 use Rattle.store.specs.declared.Slot.the-variants.{Ordinary, Free, Redirect, Target}
@@ -83,10 +83,6 @@ plan-reads plan w s v x k h =
 -- root reads as before
 pub call-reads : (c : Call) (s v : List ℕ) → SoundSegment s v → Reads s (rowOf c (segView s)) (called c s v)
 call-reads c s v h = subst (Reads s (rowOf c (segView s))) (sym (called-plan c s v)) (plan-reads (planOf c v) (rowOf c) s v (call-exacting c v) (call-staying c v) h)
-
--- a resize's old bytes are those that a read gave
-pub old-read : (s v : List ℕ) → SoundSegment s v → (i : ℕ) → pageNo i < length s / 16384 → oldBytes (segView s) i ≡ readStep s i .bytes
-old-read s v h i l = ap (λ (r : Read). r .bytes) (sym (read-look s v h i l))
 
 -- an id that insert hands out was not in use
 pub insert-unused : (s v bs : List ℕ) → SoundSegment s v → insertStep s v bs .answer ≡ 0 → tagOn (segView s) (insertStep s v bs .id) ≡ Free

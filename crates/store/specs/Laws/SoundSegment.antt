@@ -12,7 +12,7 @@ use borrow.Author.Tests.{leb-true, leb-false, eqb-true}
 use Rattle.store.specs.Numbers.{zeros, fit, pageNo, slotNo}
 use Rattle.store.specs.Page.{View, view, fresh, soundTests, passes, sound, liesWell}
 use Rattle.store.specs.PageSteps.{initialised, opened, plan}
-use Rattle.store.specs.Inventory.{classOf, Truth}
+use Rattle.store.specs.Inventory.{Truth}
 use Rattle.store.specs.Segment.{SegView, segView, pageOf, sizeOk, OnPage, Out, Result, result, carried, step, refuse, refuseIf, insertPlan, storePlan, erasePlan, insertStep, allocateStep, writeStep, resizeStep, eraseStep, Read, noRead, readBy, readPlan, readStep}
 use Rattle.store.specs.Laws.Views.{Sound}
 use Rattle.store.specs.Laws.SoundPage.{and-both, sound-init, sound-opened, sound-test, good-in}
@@ -22,9 +22,9 @@ use Rattle.store.specs.Laws.Segments.{AllExact, AllSound, length-page, s
 use Rattle.store.specs.Laws.Calls.{by-test, insert-exact, store-exact, erase-call-exact}
 use Rattle.store.specs.Laws.AlikeByKind.{length-carried, Exacting}
 use Rattle.store.specs.Calls.{Call, insert, allocate, write, resize, erase, called, results}
-use Rattle.store.specs.SoundSegment.{bytesOn, nibbleOf, classes, SoundSegment}
+use Rattle.store.specs.SoundSegment.{bytesOn, classes, SoundSegment}
 use Rattle.store.specs.Laws.Pairs.{Pairs, tagOn, paired-pairs, pairs-paired}
-use Rattle.store.specs.Laws.Stays.{Stays, wrote, oldBytes, refusal, insert-stays, insert-finds, store-stays, erase-stays, points-back}
+use Rattle.store.specs.Laws.Stays.{Stays, wrote, oldBytes, refusal, insert-stays, store-stays, erase-stays, points-back}
 use Rattle.store.specs.declared.Slot.{Slot}
 use Rattle.store.specs.declared.Slot.the-variants.{Ordinary, Free, Redirect, Target}
 
@@ -205,15 +205,6 @@ calls-right [] s v h = tt
 calls-right (c ∷ cs) s v h =
     let r = call-right c s v h in
     (r, calls-right cs (called c s v .seg) (called c s v .inv) (r .sound))
-
--- room is found again whenever the class of some page suits
-pub insert-again : (s v bs : List ℕ) → SoundSegment s v → (p : ℕ) → p < length s / 16384 → length bs ≤ 16364
-    → nibbleOf (segView s .page p) < classOf (16372 - (length bs + 8)) → insertStep s v bs .answer ≡ 0
-unfolding insertStep result
-insert-again s v bs h p l short suits =
-    let e = seen-sound s v h in
-    rw (h .whole, h .page)
-    (insert-finds (segView s) (e .sounds) (e .few) v (e .one) (e .pairs) (e .truth) bs p short (subst (λ (n : ℕ). p < n) (sym (seen-pages s)) l) suits)
 
 -- ---- reads and scans
 

@@ -9,13 +9,13 @@ use native.Mathlib.Omega.{arith}
 use native.Mathlib.Decide.{ℕ-discrete, decLt}
 use lib.ListN.{length, take, drop}
 use lib.Dec.{eqb, ltb, leb}
-use borrow.Author.Tests.{eq-eqb, ne-eqb, lt-ltb, le-ltb, eqb-true, eqb-false, leb-false, ltb-true, ltb-false}
+use borrow.Author.Tests.{eq-eqb, ne-eqb, lt-ltb, eqb-true, eqb-false, leb-false, ltb-true, ltb-false}
 use Rattle.store.specs.Numbers.{be, toBE, zeros, upd, sum, pageNo, slotNo, idOf}
 use Rattle.store.specs.Laws.Slots.{tag}
 use Rattle.store.specs.Slots.{off, len, isFree, isTarget, placed}
 use Rattle.store.specs.Page.{View, sound}
 use Rattle.store.specs.PageSteps.{move, Plan, withSlot, Alloc, noRoom, got, eraseForRedirect, Relocated, refused, moved, relocate, filled, plan, allocate, erase}
-use Rattle.store.specs.Inventory.{classOf, entryFor, entryAt, Lowest, Truth, update, foundIn}
+use Rattle.store.specs.Inventory.{classOf, entryFor, entryAt, Truth, update, foundIn}
 use Rattle.store.specs.Segment.{SegView, OnPage, on, Out, done, refuse, refuseIf, Found, nowhere, found, taken, findOn, find, inserted, insertPlan, pointsBack, targeted, forwarded, fromOrdinary, forwardedAgain, atTarget, atHome, fromRedirect, storeBy, storePlan, eraseBy, erasePlan, Read, noRead}
 use Rattle.store.specs.Laws.Numbers.{be-toBE}
 use Rattle.store.specs.Laws.Classes.{class-low, class-top, class-mono}
@@ -95,27 +95,6 @@ back-read i xs h = be-toBE 8 h
 or-true : (a b : Bool) → (a || b) ≡ true → (a ≡ true) ⊎ (b ≡ true)
 or-true true b e = inl refl
 or-true false b e = inr e
-
--- only a root's id is written, resized or erased
-pub store-root : (u : SegView) (v : List ℕ) (i size : ℕ) (new : List ℕ → List ℕ) → storePlan u v i size new .answer ≡ 0 → (pageNo i < u .pages) × Root (slotOn u i)
-unfolding storePlan
-store-root u v i size new =
-    by-test P (ltb 16364 size) (refuse v 3) (refuseIf (leb (u .pages) (pageNo i)) v 2 (refuseIf (not (sound r)) v 4 (storeBy u v i size new (r .at (slotNo i))))) (λ d x. absurd (omega arith))
-    (λ d. by-test P (leb (u .pages) (pageNo i)) (refuse v 2) (refuseIf (not (sound r)) v 4 (storeBy u v i size new (r .at (slotNo i)))) (λ e x. absurd (omega arith))
-    (λ e. by-test P (not (sound r)) (refuse v 4) (storeBy u v i size new (r .at (slotNo i))) (λ f x. absurd (omega arith))
-    (λ f. go (leb-false (u .pages) (pageNo i) e) (r .at (slotNo i)))))
-  where
-    r : View
-    r = u .page (pageNo i)
-
-    P : Out → Type 0
-    P o = o .answer ≡ 0 → (pageNo i < u .pages) × Root (slotOn u i)
-
-    go : pageNo i < u .pages → (x : Slot) → storeBy u v i size new x .answer ≡ 0 → (pageNo i < u .pages) × Root x
-    go l (Ordinary o k) x = (l, tt)
-    go l Free x = absurd (omega arith)
-    go l (Redirect t) x = (l, tt)
-    go l (Target o k) x = absurd (omega arith)
 
 module _ (u : SegView) (sounds : (p : ℕ) → Sound (u .page p)) (few : u .pages ≤ 32527) (v : List ℕ) (one : length v ≡ 16384)
     (pairs : Pairs (u .pages) (tagOn u) (bytesOn u)) (truth : Truth (classes u) (u .pages) v) where
@@ -329,43 +308,6 @@ module _ (u : SegView) (sounds : (p : ℕ) → Sound (u .page p)) (few : u .page
           let c = fill-changes (u .page q) j (Ordinary 0 (length bs)) (zeros (length bs)) a (o .3) bs in
           one-step (wrote bs) (idOf q j) (subst (λ (p : ℕ). p < u .pages) (sym (page-of q j (o .3 .small))) (o .0)) q j (Ordinary 0 (length bs)) bs (filled a j bs) (o .0) c (idOf q j) refl
           (pairs-one (u .pages) (tagOn u) (bytesOn u) pairs (idOf q j) (Ordinary 0 (length bs)) bs (wrote bs) (subst Plain (sym (free-tag q j (o .3 .small) (o .2))) tt) tt refl)
-
-  -- room is found whenever the class of some page suits
-  pub insert-finds : (bs : List ℕ) (p : ℕ) → length bs ≤ 16364 → p < u .pages → nibbleOf (u .page p) < classOf (16372 - (length bs + 8)) → insertPlan u v bs .answer ≡ 0
-  unfolding insertPlan find foundIn
-  insert-finds bs p short below suits =
-      let need : ℕ = length bs + 8 in
-      let c : ℕ = entryFor need in
-      let low = truth .entries c (omega (arith, class-top (16372 - need), class-low (16372 - need))) in
-      let b : entryAt v c < u .pages = named low (decLt p (entryAt v c)) in
-      let at : foundIn v (u .pages) need ≡ At (entryAt v c) = rw (le-ltb 16372 need (omega arith), lt-ltb (entryAt v c) (u .pages) b) in
-      rw (le-ltb 16364 (length bs) short)
-      (go (find foundIn u v (length bs) (λ q. false)) (find-fits (length bs) (λ q. false) (λ q x. let z : _≡_ {A = ℕ} 0 1 = cc in absurd (omega arith)))
-      (subst (λ (m : Named). Placed (findOn u (length bs) (λ q. false) m)) (sym at) (placed-here (entryAt v c))))
-    where
-      Placed : Found → Type 0
-      Placed (nowhere a) = a ≢ 7
-      Placed (found q j a) = Unit {0}
-
-      placed-here : (e : ℕ) → Placed (findOn u (length bs) (λ q. false) (At e))
-      placed-here e =
-          by-test Placed (not (sound (u .page e))) (nowhere 4) (taken e (allocate (u .page e) (length bs))) (λ f x. omega arith)
-          (λ f. by-alloc (allocate (u .page e) (length bs)))
-        where
-          by-alloc : (a : Alloc) → Placed (taken e a)
-          by-alloc noRoom = λ x. omega arith
-          by-alloc (got k a) = tt
-
-      named : Lowest (classes u) (u .pages) (entryFor (length bs + 8)) (entryAt v (entryFor (length bs + 8))) → Dec (p < entryAt v (entryFor (length bs + 8)))
-          → entryAt v (entryFor (length bs + 8)) < u .pages
-      named low (yes l) =
-          let m : classes u p ≡ nibbleOf (u .page p) = rw (lt-ltb p (u .pages) below) in
-          absurd (omega (arith, low .before p l))
-      named low (no l) = omega arith
-
-      go : (f : Found) → FoundFits (length bs) (λ q. false) f → Placed f → inserted u v bs f .answer ≡ 0
-      go (nowhere a) o h = absurd (h o)
-      go (found q j a) o h = refl
 
   -- an id that is handed out was free
   pub insert-new : (bs : List ℕ) → insertPlan u v bs .answer ≡ 0 → tagOn u (insertPlan u v bs .id) ≡ Free
