@@ -83,10 +83,10 @@ counted v s k f = go (decLt k (v .slotCount))
 id-of : (i : ℕ) → idOf (pageNo i) (slotNo i) ≡ i
 id-of i = omega arith
 
-page-of : (p k : ℕ) → k < 65536 → pageNo (idOf p k) ≡ p
+pub page-of : (p k : ℕ) → k < 65536 → pageNo (idOf p k) ≡ p
 page-of p k h = omega arith
 
-slot-of : (p k : ℕ) → k < 65536 → slotNo (idOf p k) ≡ k
+pub slot-of : (p k : ℕ) → k < 65536 → slotNo (idOf p k) ≡ k
 slot-of p k h = omega arith
 
 back-read : (i : ℕ) (xs : List ℕ) → i < 256 ^ 8 → be (take 8 (toBE 8 i ++ xs)) ≡ i
