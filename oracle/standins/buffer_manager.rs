@@ -98,10 +98,11 @@ impl Lent {
         self.0.frames[frame].borrow_mut().copy_from_slice(bytes);
     }
 
-    /// Before each call: a call that fixes pages this often is taken to retry for ever. The
-    /// longest retry that ends corrects the inventory's view of each page once for each class.
+    /// Before each call. A retry that changes anything sets the nibble of one page right, so a
+    /// call that ends retries at most once a page, and fixes four pages each time; one that
+    /// fixes more is taken to retry for ever.
     pub fn begin_call(&self) {
-        self.0.fixes_left.set(1000 + 100 * self.pages());
+        self.0.fixes_left.set(64 + 8 * self.pages());
         self.0.written.borrow_mut().clear();
     }
 

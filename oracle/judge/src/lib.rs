@@ -1,0 +1,10 @@
+//! Compares the published Rust, the corrected Rust and the model, and writes traces.
+
+pub mod damage;
+pub mod poke;
+pub mod populate;
+pub mod random;
+pub mod sequence;
+pub mod trial;
+
+pub use store::*;

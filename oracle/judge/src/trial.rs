@@ -1,0 +1,231 @@
+//! One sequence run on the three stores side by side.
+//!
+//! The model and the corrected Rust must agree on every call. The published Rust must agree with
+//! them on every call that meets no fault; after one that does it is given their bytes, so that
+//! each call is judged from a state that all three share.
+
+use crate::poke::Poke;
+use crate::sequence::{Event, Sequence};
+use model::{Model, STEPS};
+use store::{perform, Answer, Call, Reply, Store, DONE, PAGE_SIZE};
+
+pub const FAULTS: usize = 15;
+const KINDS: [&str; 7] = ["insert", "allocate", "read", "write", "resize", "erase", "scan"];
+
+/// What was run, met and reached.
+#[derive(Clone, Default)]
+pub struct Counts {
+    pub sequences: u64,
+    pub calls: [u64; 7],
+    pub answers: [[u64; 9]; 7],
+    /// Calls that met no fault and were compared with the published Rust.
+    pub compared: u64,
+    pub met: [u64; FAULTS + 1],
+    /// Calls that met the fault and no other.
+    pub met_alone: [u64; FAULTS + 1],
+    pub differed: [u64; FAULTS + 1],
+    pub differed_alone: [u64; FAULTS + 1],
+    /// How the published Rust ended the calls that met a fault: done, refused, past the end,
+    /// endless, panicked.
+    pub endings: [u64; 5],
+    pub pokes: u64,
+    pub steps: Vec<u64>,
+}
+
+pub struct Trial {
+    pub model: Model,
+    pub corrected: corrected::LentStore,
+    pub original: original::LentStore,
+}
+
+fn kind(call: Call) -> usize {
+    match call {
+        Call::Insert { .. } => 0,
+        Call::Allocate { .. } => 1,
+        Call::Read { .. } => 2,
+        Call::Write { .. } => 3,
+        Call::Resize { .. } => 4,
+        Call::Erase { .. } => 5,
+        Call::Scan => 6,
+    }
+}
+
+/// The first place where two runs of bytes differ.
+fn difference(one: &[u8], other: &[u8]) -> Option<usize> {
+    if one == other {
+        return None;
+    }
+    one.iter().zip(other).position(|(one, other)| one != other)
+}
+
+fn bytes_differ(one: &dyn Store, other: &dyn Store) -> Option<String> {
+    if let Some(place) = difference(one.segment(), other.segment()) {
+        return Some(format!("page {} byte {}", place / PAGE_SIZE, place % PAGE_SIZE));
+    }
+    difference(one.inventory(), other.inventory()).map(|place| format!("inventory byte {place}"))
+}
+
+fn differ(one: (&dyn Store, Reply), other: (&dyn Store, Reply)) -> Option<String> {
+    if one.1 != other.1 {
+        return Some(format!("{:?} and {:?}", one.1, other.1));
+    }
+    bytes_differ(one.0, other.0)
+}
+
+/// Allocate takes 16 bits in the published Rust: a larger size cannot be asked of it.
+fn askable(call: Call) -> bool {
+    !matches!(call, Call::Allocate { size } if size > u16::MAX.into())
+}
+
+impl Trial {
+    pub fn new(n: usize) -> Trial {
+        let (segment, inventory) = (vec![0; n * PAGE_SIZE], vec![0; PAGE_SIZE]);
+        Trial {
+            model: Model::new(&segment, &inventory),
+            corrected: corrected::LentStore::new(&segment, &inventory),
+            original: original::LentStore::new(&segment, &inventory),
+        }
+    }
+
+    pub fn poke(&mut self, poke: Poke) {
+        let (mut segment, mut inventory) = (self.model.segment().to_vec(), self.model.inventory().to_vec());
+        poke.apply(&mut segment, &mut inventory);
+        self.model.load(&segment, &inventory);
+        self.corrected.load(&segment, &inventory);
+        self.original.load(&segment, &inventory);
+    }
+
+    pub fn call(&mut self, call: Call, counts: &mut Counts) -> Result<Reply, String> {
+        self.model.notes.faults = 0;
+        let reply = perform(&mut self.model, call);
+        let corrected = perform(&mut self.corrected, call);
+        if let Some(what) = differ((&self.model, reply), (&self.corrected, corrected)) {
+            return Err(format!("model and corrected Rust differ: {what}"));
+        }
+        counts.count_reply(call, reply);
+        if reply.answer != DONE {
+            if let Some(what) = bytes_differ(&self.model, &self.original) {
+                return Err(format!("a refused call changed {what}"));
+            }
+        }
+        self.ask_original(call, reply, counts)?;
+        Ok(reply)
+    }
+
+    fn ask_original(&mut self, call: Call, reply: Reply, counts: &mut Counts) -> Result<(), String> {
+        let faults = self.model.notes.faults;
+        let ended = askable(call).then(|| perform(&mut self.original, call));
+        let differs = ended.and_then(|ended| differ((&self.original, ended), (&self.model, reply)));
+        if faults == 0 {
+            counts.compared += 1;
+            return differs.map_or(Ok(()), |what| Err(format!("published and corrected Rust differ without a fault: {what}")));
+        }
+        counts.count_faults(faults, ended, differs.is_some());
+        self.original.load(self.model.segment(), self.model.inventory());
+        Ok(())
+    }
+
+    pub fn run(&mut self, sequence: &mut Sequence, counts: &mut Counts) -> Result<(), String> {
+        counts.sequences += 1;
+        let mut history = Vec::new();
+        while let Some(event) = sequence.next(self.model.segment()) {
+            history.push(event);
+            match event {
+                Event::Poke(poke) => {
+                    counts.pokes += 1;
+                    self.poke(poke);
+                }
+                Event::Call(call) => {
+                    self.call(call, counts).map_err(|what| told(&what, &history))?;
+                }
+            }
+        }
+        counts.add_steps(&self.model.notes.steps);
+        Ok(())
+    }
+}
+
+/// A difference with the events that led to it.
+fn told(what: &str, history: &[Event]) -> String {
+    let mut text = format!("{what}\nafter");
+    for event in history {
+        match event {
+            Event::Poke(poke) => text += &format!("\n{poke}"),
+            Event::Call(call) => text += &format!("\n{call}"),
+        }
+    }
+    text
+}
+
+fn numbers(mask: u32) -> impl Iterator<Item = usize> {
+    (1..=FAULTS).filter(move |number| mask >> number & 1 == 1)
+}
+
+impl Counts {
+    fn count_reply(&mut self, call: Call, reply: Reply) {
+        self.calls[kind(call)] += 1;
+        if let Answer::Number(number) = reply.answer {
+            self.answers[kind(call)][number as usize] += 1;
+        }
+    }
+
+    fn count_faults(&mut self, faults: u32, ended: Option<Reply>, differed: bool) {
+        let alone = faults.count_ones() == 1;
+        for number in numbers(faults) {
+            self.met[number] += 1;
+            self.met_alone[number] += alone as u64;
+            self.differed[number] += differed as u64;
+            self.differed_alone[number] += (alone && differed) as u64;
+        }
+        if let Some(ended) = ended {
+            self.endings[match ended.answer {
+                Answer::Number(0) => 0,
+                Answer::Number(_) => 1,
+                Answer::PastEnd => 2,
+                Answer::Endless => 3,
+                Answer::Panic => 4,
+            }] += 1;
+        }
+    }
+
+    pub fn add_steps(&mut self, steps: &[u64]) {
+        self.steps.resize(STEPS.len(), 0);
+        self.steps.iter_mut().zip(steps).for_each(|(sum, more)| *sum += more);
+    }
+
+    pub fn all_calls(&self) -> u64 {
+        self.calls.iter().sum()
+    }
+
+    /// Steps and faults that no call reached.
+    pub fn holes(&self) -> Vec<String> {
+        let step = STEPS.iter().zip(&self.steps).filter(|(_, &times)| times == 0).map(|(name, _)| name.to_string());
+        let fault = (1..=FAULTS).filter(|&number| self.differed[number] == 0).map(|number| format!("fault {number}"));
+        step.chain(fault).collect()
+    }
+
+    pub fn print(&self) {
+        println!("sequences {}, calls {}, bytes set by hand {}", self.sequences, self.all_calls(), self.pokes);
+        println!("calls that met no fault, published and corrected Rust equal: {}", self.compared);
+        println!("answers:        0        1        2        3        4        5        6        7        8");
+        for (kind, answers) in KINDS.iter().zip(&self.answers) {
+            let cells: String = answers.iter().map(|times| format!(" {times:8}")).collect();
+            println!("{kind:8}{cells}");
+        }
+        println!("fault: met, of these original and corrected differ; met alone, of these differ");
+        for number in 1..=FAULTS {
+            println!(
+                "{number:5}: {:8} {:8} {:8} {:8}",
+                self.met[number], self.differed[number], self.met_alone[number], self.differed_alone[number]
+            );
+        }
+        let [done, refused, past, endless, panicked] = self.endings;
+        println!("calls that met a fault ended in the published Rust: done {done}, no record {refused}, past the end {past}, endless {endless}, panic {panicked}");
+        println!("steps reached:");
+        for (name, times) in STEPS.iter().zip(&self.steps) {
+            println!("{times:9}  {name}");
+        }
+        let holes = self.holes();
+        println!("never reached: {}", if holes.is_empty() { "none".to_string() } else { holes.join("; ") });
+    }
+}
