@@ -1,10 +1,13 @@
 //! Compares the published Rust, the corrected Rust and the model, and writes traces.
 
+pub mod cases;
 pub mod damage;
 pub mod poke;
 pub mod populate;
 pub mod random;
 pub mod sequence;
+pub mod show;
+pub mod trace;
 pub mod trial;
 
 pub use store::*;

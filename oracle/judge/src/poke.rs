@@ -1,6 +1,6 @@
 //! Bytes set by hand between calls: populated starts, damage, inventories that are not true.
 
-use store::{record, PAGE_SIZE};
+use store::{record, Store, PAGE_SIZE};
 
 #[derive(Clone, Copy, PartialEq, Eq, Debug)]
 pub enum Poke {
@@ -26,6 +26,25 @@ impl Poke {
             }
         }
     }
+}
+
+pub fn poke_store(store: &mut dyn Store, pokes: &[Poke]) {
+    let (mut segment, mut inventory) = (store.segment().to_vec(), store.inventory().to_vec());
+    pokes.iter().for_each(|poke| poke.apply(&mut segment, &mut inventory));
+    store.load(&segment, &inventory);
+}
+
+/// The pokes that bring back what `pokes` on the segment will have overwritten.
+pub fn undoing(pokes: &[Poke], segment: &[u8]) -> Vec<Poke> {
+    let undo = |poke: &Poke| match *poke {
+        Poke::Segment { offset, width, .. } => {
+            let old = &segment[offset as usize..(offset + width) as usize];
+            let value = old.iter().fold(0, |value, &byte| value << 8 | u64::from(byte));
+            Some(Poke::Segment { offset, width, value })
+        }
+        _ => None,
+    };
+    pokes.iter().filter_map(undo).collect()
 }
 
 fn part(bytes: &mut [u8], offset: u64, length: u64) -> &mut [u8] {

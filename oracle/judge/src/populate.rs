@@ -4,6 +4,7 @@
 use crate::poke::{self, Poke};
 use crate::random::Random;
 use model::inventory::class;
+use model::page;
 use store::PAGE_SIZE;
 
 #[derive(Clone, Copy, PartialEq)]
@@ -28,13 +29,13 @@ fn used(page: &[Wanted]) -> usize {
     page.iter().map(|slot| 8 + slot.length()).sum()
 }
 
-/// A page of slots that leaves about `slack` bytes free, empty for a fresh page.
-fn directory(random: &mut Random) -> Vec<Wanted> {
+/// A page of slots, none for a fresh page.
+fn directory(random: &mut Random, most_slots: usize) -> Vec<Wanted> {
     if random.one_in(4) {
         return Vec::new();
     }
     let slack = random.pick(&[0, 1, 7, 8, 9, 40, 500, 3000, 9000, 16000]);
-    let most = random.pick(&[1, 2, 3, 8, 40, 2046]);
+    let most = random.pick(&[1, 2, 3, 8, 40, 2046]).min(most_slots);
     let longest = random.pick(&[0, 8, 100, 2000, 9000, 16364]);
     let mut page = Vec::new();
     while page.len() < most && used(&page) + 8 + slack <= 16372 {
@@ -109,7 +110,9 @@ fn page_pokes(random: &mut Random, page: usize, slots: &[Wanted], pokes: &mut Ve
     }
 }
 
-fn inventory_pokes(classes: &[usize], pokes: &mut Vec<Poke>) {
+/// The nibbles of these classes, 0 for a few pages from n on, and the entries.
+fn inventory_pokes(classes: &[usize]) -> Vec<Poke> {
+    let mut pokes = Vec::new();
     for (pair, nibbles) in classes.chunks(2).enumerate() {
         let high = nibbles.get(1).copied().unwrap_or(0);
         pokes.push(poke::nibbles(2 * pair, nibbles[0] as u64, high as u64));
@@ -118,11 +121,16 @@ fn inventory_pokes(classes: &[usize], pokes: &mut Vec<Poke>) {
         let lowest = classes.iter().position(|&class| class <= number).unwrap_or(classes.len());
         pokes.push(poke::entry(number, lowest as u64));
     }
+    let past = classes.len().div_ceil(2) * 2;
+    if past < 32526 {
+        pokes.push(poke::nibbles(past, 0, 0));
+    }
+    pokes
 }
 
 /// Makes an all-zero segment of n pages, with its inventory, a populated sound one.
-pub fn populate(random: &mut Random, n: usize) -> Vec<Poke> {
-    let mut slots: Vec<Vec<Wanted>> = (0..n).map(|_| directory(random)).collect();
+pub fn populate(random: &mut Random, n: usize, most_slots: usize) -> Vec<Poke> {
+    let mut slots: Vec<Vec<Wanted>> = (0..n).map(|_| directory(random, most_slots)).collect();
     if n > 0 {
         forward(random, &mut slots);
     }
@@ -131,8 +139,14 @@ pub fn populate(random: &mut Random, n: usize) -> Vec<Poke> {
         page_pokes(random, page, slots, &mut pokes);
     }
     let class = |slots: &Vec<Wanted>| if slots.is_empty() { 0 } else { class(used(slots)) };
-    inventory_pokes(&slots.iter().map(class).collect::<Vec<_>>(), &mut pokes);
+    pokes.extend(inventory_pokes(&slots.iter().map(class).collect::<Vec<_>>()));
     pokes
+}
+
+/// Makes the inventory true.
+pub fn true_inventory(segment: &[u8]) -> Vec<Poke> {
+    let class = |page: &[u8]| if page::count(page) == 0 { 0 } else { class(16372_usize.saturating_sub(page::free_space(page))) };
+    inventory_pokes(&segment.chunks(PAGE_SIZE).map(class).collect::<Vec<_>>())
 }
 
 fn leftovers(random: &mut Random, n: usize) -> Poke {

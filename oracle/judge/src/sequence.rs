@@ -2,8 +2,8 @@
 //! segment, so that sizes lie on the boundaries of the pages as they are.
 
 use crate::damage::{damage, untruth};
-use crate::poke::Poke;
-use crate::populate::{fresh_with_leftovers, populate};
+use crate::poke::{undoing, Poke};
+use crate::populate::{fresh_with_leftovers, populate, true_inventory};
 use crate::random::Random;
 use model::page::{self, slot, Kind};
 use store::{Call, PAGE_SIZE};
@@ -12,79 +12,124 @@ const BOUNDARIES: [u64; 21] = [
     0, 1, 7, 8, 9, 4092, 4093, 4094, 12269, 12270, 12271, 12272, 16355, 16356, 16357, 16363, 16364, 16365, 16366, 16372, 16373,
 ];
 
-#[derive(Clone, Copy, Debug)]
+#[derive(Clone, Debug)]
 pub enum Event {
-    Poke(Poke),
+    Pokes(Vec<Poke>),
     Call(Call),
 }
 
 /// How a sequence begins.
 #[derive(Clone, Copy, PartialEq, Eq, Debug)]
-enum Start {
+pub enum Start {
     Zero,
     Leftovers,
     Populated,
 }
 
-pub struct Sequence {
-    random: Random,
-    pub n: usize,
-    pokes: Vec<Poke>,
-    calls_left: u64,
-    usual_size: u64,
-    damages: bool,
-    untruths: bool,
+#[derive(Clone, Copy, Debug)]
+pub struct Style {
+    pub start: Start,
+    pub damages: bool,
+    pub untruths: bool,
+    /// A populated page has at most so many slots, redirects and targets apart.
+    pub most_slots: usize,
 }
 
-fn start_pokes(start: Start, random: &mut Random, n: usize) -> Vec<Poke> {
-    match start {
-        Start::Zero => Vec::new(),
-        Start::Leftovers => fresh_with_leftovers(random, n),
-        Start::Populated => populate(random, n),
+/// How what was done by hand is mended some calls later.
+enum Mending {
+    Bytes(Vec<Poke>),
+    Inventory,
+}
+
+pub struct Sequence {
+    random: Random,
+    n: usize,
+    style: Style,
+    start: Option<Vec<Poke>>,
+    mending: Option<(u64, Mending)>,
+    calls_left: u64,
+    usual_size: u64,
+}
+
+fn start_pokes(style: Style, random: &mut Random, n: usize) -> Option<Vec<Poke>> {
+    match style.start {
+        Start::Zero => None,
+        Start::Leftovers => Some(fresh_with_leftovers(random, n)),
+        Start::Populated => Some(populate(random, n, style.most_slots)),
+    }
+}
+
+/// The usual number of pages: few, and up to a dozen.
+pub fn few_pages(seed: u64) -> usize {
+    Random::new(!seed).pick(&[0, 1, 1, 2, 2, 2, 3, 3, 3, 3, 4, 5, 8, 12])
+}
+
+/// Any style, by a seed.
+pub fn any_style(seed: u64) -> Style {
+    let mut random = Random::new(seed ^ 0x5A5A);
+    Style {
+        start: random.pick(&[Start::Zero, Start::Leftovers, Start::Populated, Start::Populated]),
+        damages: random.one_in(3),
+        untruths: random.one_in(3),
+        most_slots: 2046,
     }
 }
 
 impl Sequence {
     /// A sequence for n pages of so many calls.
-    pub fn new(seed: u64, n: usize, calls: u64) -> Sequence {
+    pub fn new(seed: u64, style: Style, n: usize, calls: u64) -> Sequence {
         let mut random = Random::new(seed);
-        let start = random.pick(&[Start::Zero, Start::Leftovers, Start::Populated, Start::Populated]);
-        let mut pokes = start_pokes(start, &mut random, n);
-        pokes.reverse();
+        let start = start_pokes(style, &mut random, n);
         let usual_size = random.pick(&[0, 30, 300, 3000, 6000, 16400]);
-        let (damages, untruths) = (random.one_in(3), random.one_in(3));
-        Sequence { random, n, pokes, calls_left: calls, usual_size, damages, untruths }
-    }
-
-    /// The usual number of pages: few, and up to a dozen.
-    pub fn small_n(seed: u64) -> usize {
-        Random::new(!seed).pick(&[0, 1, 1, 2, 2, 2, 3, 3, 3, 3, 4, 5, 8, 12])
+        Sequence { random, n, style, start, mending: None, calls_left: calls, usual_size }
     }
 
     pub fn next(&mut self, segment: &[u8]) -> Option<Event> {
-        if self.pokes.is_empty() && self.damages && self.random.one_in(10) {
-            self.pokes = damage(&mut self.random, segment);
-        }
-        if self.pokes.is_empty() && self.untruths && self.random.one_in(10) {
-            self.pokes = untruth(&mut self.random, self.n);
-        }
-        if let Some(poke) = self.pokes.pop() {
-            return Some(Event::Poke(poke));
+        if let Some(pokes) = self.by_hand(segment) {
+            return Some(Event::Pokes(pokes));
         }
         self.calls_left = self.calls_left.checked_sub(1)?;
         Some(Event::Call(self.call(segment)))
+    }
+
+    /// What is done by hand before the next call.
+    fn by_hand(&mut self, segment: &[u8]) -> Option<Vec<Poke>> {
+        if let Some(start) = self.start.take() {
+            return Some(start);
+        }
+        match self.mending.take() {
+            Some((0, Mending::Bytes(pokes))) => return Some(pokes),
+            Some((0, Mending::Inventory)) => return Some(true_inventory(segment)),
+            Some((calls, mending)) => self.mending = Some((calls - 1, mending)),
+            None => {}
+        }
+        if self.mending.is_some() || !self.random.one_in(8) {
+            return None;
+        }
+        let (damages, calls) = (self.random.one_in(2), self.random.below(8) + 1);
+        let (pokes, mending) = match damages {
+            true if self.style.damages => {
+                let pokes = damage(&mut self.random, segment);
+                let undoing = undoing(&pokes, segment);
+                (pokes, Mending::Bytes(undoing))
+            }
+            false if self.style.untruths => (untruth(&mut self.random, self.n), Mending::Inventory),
+            _ => return None,
+        };
+        self.mending = (!self.random.one_in(8)).then_some((calls, mending));
+        Some(pokes)
     }
 
     fn call(&mut self, segment: &[u8]) -> Call {
         let seed = self.random.below(256);
         let id = self.id(segment);
         match self.random.below(100) {
-            0..26 => Call::Insert { length: self.new_size(segment).min(16400), seed },
-            26..34 => Call::Allocate { size: self.any_size(segment) },
-            34..42 => Call::Read { id },
-            42..65 => Call::Write { id, length: self.size(segment, id).min(16400), seed },
-            65..83 => Call::Resize { id, size: self.huge_or(|this| this.size(segment, id)) },
-            83..96 => Call::Erase { id },
+            0..24 => Call::Insert { length: self.new_size(segment).min(16400), seed },
+            24..31 => Call::Allocate { size: self.huge_or(|this| this.new_size(segment)) },
+            31..38 => Call::Read { id },
+            38..62 => Call::Write { id, length: self.size(segment, id).min(16400), seed },
+            62..81 => Call::Resize { id, size: self.huge_or(|this| this.size(segment, id)) },
+            81..96 => Call::Erase { id },
             _ => Call::Scan,
         }
     }
@@ -96,10 +141,6 @@ impl Sequence {
         size(self)
     }
 
-    fn any_size(&mut self, segment: &[u8]) -> u64 {
-        self.huge_or(|this| this.new_size(segment))
-    }
-
     /// Mostly a slot in use; also a target, a free slot, one past the count, a page past n.
     fn id(&mut self, segment: &[u8]) -> u64 {
         let n = self.n as u64;
@@ -107,16 +148,29 @@ impl Sequence {
             let page = self.random.pick(&[n, n + 1, 65536, (1 << 48) - 1]);
             return page * 65536 + self.random.below(3);
         }
-        let number = self.random.below(n);
+        let number = self.page_in_use(segment);
         let page = page_of(segment, number);
         let count = page::count(page).min(2046);
-        let from = self.random.below(count as u64 + 1) as usize;
-        if count == 0 || self.random.one_in(15) {
+        let from = self.random.below(count as u64) as usize;
+        if count == 0 || self.random.one_in(20) {
             return number * 65536 + self.random.pick(&[from, count, count + 1, 2045, 2046, 65535]) as u64;
         }
         let wanted = self.random.pick(&[Kind::Plain, Kind::Plain, Kind::Redirect, Kind::Redirect, Kind::Redirect, Kind::Target]);
-        let found = (from..count).chain(0..from).find(|&k| slot(page, k).kind == wanted);
+        let find = |wanted: &dyn Fn(Kind) -> bool| (from..count).chain(0..from).find(|&k| wanted(slot(page, k).kind));
+        let found = find(&|kind| kind == wanted).or_else(|| find(&|kind| kind != Kind::Free));
         number * 65536 + found.unwrap_or(from) as u64
+    }
+
+    /// The page damaged last, or mostly one in use, if there are such.
+    fn page_in_use(&mut self, segment: &[u8]) -> u64 {
+        let n = self.n as u64;
+        if let Some((_, Mending::Bytes(pokes))) = &self.mending {
+            if let (Some(Poke::Segment { offset, .. }), true) = (pokes.first(), self.random.one_in(2)) {
+                return offset / PAGE_SIZE as u64;
+            }
+        }
+        let tried: Vec<u64> = (0..4).map(|_| self.random.below(n)).collect();
+        tried.iter().copied().find(|&number| page::count(page_of(segment, number)) > 0).unwrap_or(tried[0])
     }
 
     fn plain_size(&mut self) -> u64 {

@@ -4,9 +4,10 @@
 //! them on every call that meets no fault; after one that does it is given their bytes, so that
 //! each call is judged from a state that all three share.
 
-use crate::poke::Poke;
+use crate::poke::{poke_store, Poke};
 use crate::sequence::{Event, Sequence};
 use model::{Model, STEPS};
+use std::collections::BTreeMap;
 use store::{perform, Answer, Call, Reply, Store, DONE, PAGE_SIZE};
 
 pub const FAULTS: usize = 15;
@@ -15,7 +16,8 @@ const KINDS: [&str; 7] = ["insert", "allocate", "read", "write", "resize", "eras
 /// What was run, met and reached.
 #[derive(Clone, Default)]
 pub struct Counts {
-    pub sequences: u64,
+    /// Sequences by their number of pages.
+    pub sequences: BTreeMap<usize, u64>,
     pub calls: [u64; 7],
     pub answers: [[u64; 9]; 7],
     /// Calls that met no fault and were compared with the published Rust.
@@ -87,12 +89,9 @@ impl Trial {
         }
     }
 
-    pub fn poke(&mut self, poke: Poke) {
-        let (mut segment, mut inventory) = (self.model.segment().to_vec(), self.model.inventory().to_vec());
-        poke.apply(&mut segment, &mut inventory);
-        self.model.load(&segment, &inventory);
-        self.corrected.load(&segment, &inventory);
-        self.original.load(&segment, &inventory);
+    pub fn poke(&mut self, pokes: &[Poke]) {
+        let stores: [&mut dyn Store; 3] = [&mut self.model, &mut self.corrected, &mut self.original];
+        stores.into_iter().for_each(|store| poke_store(store, pokes));
     }
 
     pub fn call(&mut self, call: Call, counts: &mut Counts) -> Result<Reply, String> {
@@ -126,14 +125,14 @@ impl Trial {
     }
 
     pub fn run(&mut self, sequence: &mut Sequence, counts: &mut Counts) -> Result<(), String> {
-        counts.sequences += 1;
+        counts.count_sequence(self.model.segment());
         let mut history = Vec::new();
         while let Some(event) = sequence.next(self.model.segment()) {
-            history.push(event);
+            history.push(event.clone());
             match event {
-                Event::Poke(poke) => {
-                    counts.pokes += 1;
-                    self.poke(poke);
+                Event::Pokes(pokes) => {
+                    counts.pokes += pokes.len() as u64;
+                    self.poke(&pokes);
                 }
                 Event::Call(call) => {
                     self.call(call, counts).map_err(|what| told(&what, &history))?;
@@ -150,7 +149,7 @@ fn told(what: &str, history: &[Event]) -> String {
     let mut text = format!("{what}\nafter");
     for event in history {
         match event {
-            Event::Poke(poke) => text += &format!("\n{poke}"),
+            Event::Pokes(pokes) => pokes.iter().for_each(|poke| text += &format!("\n{poke}")),
             Event::Call(call) => text += &format!("\n{call}"),
         }
     }
@@ -161,7 +160,16 @@ fn numbers(mask: u32) -> impl Iterator<Item = usize> {
     (1..=FAULTS).filter(move |number| mask >> number & 1 == 1)
 }
 
+/// The faults that the last call met.
+pub fn faults_of(trial: &Trial) -> Vec<usize> {
+    numbers(trial.model.notes.faults).collect()
+}
+
 impl Counts {
+    pub fn count_sequence(&mut self, segment: &[u8]) {
+        *self.sequences.entry(segment.len() / PAGE_SIZE).or_default() += 1;
+    }
+
     fn count_reply(&mut self, call: Call, reply: Reply) {
         self.calls[kind(call)] += 1;
         if let Answer::Number(number) = reply.answer {
@@ -205,7 +213,10 @@ impl Counts {
     }
 
     pub fn print(&self) {
-        println!("sequences {}, calls {}, bytes set by hand {}", self.sequences, self.all_calls(), self.pokes);
+        let sequences: u64 = self.sequences.values().sum();
+        let pages: Vec<String> = self.sequences.iter().map(|(n, times)| format!("{n}: {times}")).collect();
+        println!("sequences {sequences}, calls {}, numbers set by hand {}", self.all_calls(), self.pokes);
+        println!("sequences by pages: {}", pages.join(", "));
         println!("calls that met no fault, published and corrected Rust equal: {}", self.compared);
         println!("answers:        0        1        2        3        4        5        6        7        8");
         for (kind, answers) in KINDS.iter().zip(&self.answers) {

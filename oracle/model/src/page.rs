@@ -46,7 +46,7 @@ pub fn count(page: &[u8]) -> usize {
     number(page, 0, 2)
 }
 
-fn first_free(page: &[u8]) -> usize {
+pub fn first_free(page: &[u8]) -> usize {
     number(page, 2, 2)
 }
 
