@@ -16,7 +16,7 @@ pub fn id(page: u64, slot: u64) -> u64 {
     page * 65536 + slot
 }
 
-fn insert(length: u64) -> Event {
+pub fn insert(length: u64) -> Event {
     Event::Call(Call::Insert { length, seed: 1 })
 }
 
@@ -28,19 +28,19 @@ fn read(id: u64) -> Event {
     Event::Call(Call::Read { id })
 }
 
-fn write(id: u64, length: u64) -> Event {
+pub fn write(id: u64, length: u64) -> Event {
     Event::Call(Call::Write { id, length, seed: 2 })
 }
 
-fn resize(id: u64, size: u64) -> Event {
+pub fn resize(id: u64, size: u64) -> Event {
     Event::Call(Call::Resize { id, size })
 }
 
-fn erase(id: u64) -> Event {
+pub fn erase(id: u64) -> Event {
     Event::Call(Call::Erase { id })
 }
 
-fn scan() -> Event {
+pub fn scan() -> Event {
     Event::Call(Call::Scan)
 }
 

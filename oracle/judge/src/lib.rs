@@ -2,6 +2,7 @@
 
 pub mod cases;
 pub mod damage;
+pub mod numbers;
 pub mod poke;
 pub mod populate;
 pub mod random;

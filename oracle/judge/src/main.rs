@@ -7,7 +7,7 @@ use std::path::Path;
 use std::process::ExitCode;
 use std::{env, fs};
 
-const USAGE: &str = "judge classes | quick | long [SEED SEQUENCES] | faults | traces FOLDER | trace SEED COUNT [PAGES CALLS] | replay FILE..";
+const USAGE: &str = "judge classes | numbers | quick | long [SEED SEQUENCES] | faults | traces FOLDER | trace SEED COUNT [PAGES CALLS] | replay FILE..";
 
 /// The Rust's class of so many used bytes, as free_space_inventory.rs computes it.
 fn powf_class(used: usize) -> usize {
@@ -46,6 +46,11 @@ fn compare(first_seed: u64, sequences: u64) -> Result<(), String> {
 fn finish(counts: &Counts) -> Result<(), String> {
     println!("differences outside the detected faults: 0");
     if counts.holes().is_empty() { Ok(()) } else { Err("not everything was reached".to_string()) }
+}
+
+fn check_numbers() -> Result<(), String> {
+    println!("numbers of document 01 met by the corrected Rust: {}", judge::numbers::check()?);
+    Ok(())
 }
 
 fn faults() -> Result<(), String> {
@@ -132,6 +137,7 @@ fn numbers(words: &[String]) -> Option<Vec<u64>> {
 fn run(command: &str, rest: &[String]) -> Result<(), String> {
     match (command, rest, numbers(rest).as_deref()) {
         ("classes", [], _) => classes(),
+        ("numbers", [], _) => check_numbers(),
         ("quick", [], _) => compare(1, 2500),
         ("long", [], _) => compare(1_000_000, 30_000),
         ("long", _, Some(&[seed, sequences])) => compare(seed, sequences),
