@@ -139,7 +139,7 @@ pub fn faults() -> Vec<Case> {
     ]
 }
 
-/// The sequences of document 01's numbers to meet, and of ambiguous places.
+/// The sequences of document 01's numbers to meet, and of places that it leaves open.
 pub fn numbers() -> Vec<(usize, Vec<Event>)> {
     let three = |last: &[Event]| {
         let first = [insert(16000), insert(100), insert(12000), write(id(1, 0), 5000), scan()];

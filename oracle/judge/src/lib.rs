@@ -10,5 +10,6 @@ pub mod sequence;
 pub mod show;
 pub mod trace;
 pub mod trial;
+pub mod widest;
 
 pub use store::*;

@@ -139,7 +139,7 @@ fn run(command: &str, rest: &[String]) -> Result<(), String> {
         ("classes", [], _) => classes(),
         ("numbers", [], _) => check_numbers(),
         ("quick", [], _) => compare(1, 2500),
-        ("long", [], _) => compare(1_000_000, 30_000),
+        ("long", [], _) => judge::widest::check().and_then(|()| compare(1_000_000, 30_000)),
         ("long", _, Some(&[seed, sequences])) => compare(seed, sequences),
         ("faults", [], _) => faults(),
         ("traces", [folder], _) => write_traces(folder),

@@ -1,6 +1,7 @@
 //! Document 01's numbers to meet, checked on the corrected Rust.
 
 use crate::cases::{erase, id, insert, resize, scan, write};
+use crate::poke::nibbles;
 use crate::sequence::Event;
 use crate::trial::{Counts, Trial};
 use model::inventory::{class, entry, nibble};
@@ -110,9 +111,30 @@ fn larger() -> Result<Vec<(&'static str, bool)>, String> {
     ])
 }
 
+/// What follows from places that document 01 leaves open, and the Rust or its other lines settle.
+fn settled() -> Result<Vec<(&'static str, bool)>, String> {
+    let inside = run(1, &[insert(10), insert(0), erase(id(0, 0)), insert(20)])?;
+    let tie = run(1, &[insert(5000), insert(5000), insert(0), insert(3000), erase(id(0, 0)), insert(4000)])?;
+    let alone = run(1, &[insert(10000), resize(id(0, 0), 12000)])?;
+    let downward = run(1, &[insert(3), insert(4), insert(5), erase(id(0, 2)), erase(id(0, 1))])?;
+    let by_hand = run(2, &[insert(3), Event::Pokes(vec![nibbles(0, 9, 0)]), write(id(0, 0), 3)])?;
+    Ok(vec![
+        ("an empty record inside another", inside.record(0, 1) == (16374, 0) && inside.record(0, 0) == (16364, 20)),
+        ("an empty record packed with the longer one", tie.record(0, 2).0 == tie.record(0, 1).0),
+        ("compactify over no record", alone.record(0, 0) == (4384, 12000)),
+        ("slots erased from the end down stay", downward.header(0)[0] == 3),
+        ("a page once used is not fresh again", run(1, &[insert(16364), erase(0), insert(12271)])?.answers(7)),
+        ("no pages, 16,365 bytes", run(0, &[insert(16365)])?.answers(3)),
+        ("no pages, no bytes", run(0, &[insert(0)])?.answers(7)),
+        ("no pages, an erase", run(0, &[erase(0)])?.answers(2)),
+        ("no pages, a scan", run(0, &[scan()])?.answers(0)),
+        ("an update compares with the nibble stored", nibble(by_hand.trial.corrected.inventory(), 0) == 2),
+    ])
+}
+
 /// Checks all; answers how many there are.
 pub fn check() -> Result<usize, String> {
-    let all = [vec![("P1", initialised()?)], small()?, slots()?, larger()?].concat();
+    let all = [vec![("P1", initialised()?)], small()?, slots()?, larger()?, settled()?].concat();
     match all.iter().find(|(_, met)| !met) {
         Some((name, _)) => Err(format!("not met: {name}")),
         None => Ok(all.len()),
