@@ -27,7 +27,8 @@ fn classes() -> Result<(), String> {
 
 fn run_one(seed: u64, n: usize, calls: u64, counts: &mut Counts) -> Result<(), String> {
     let mut sequence = Sequence::new(seed, any_style(seed), n, calls);
-    Trial::new(n).run(&mut sequence, counts).map_err(|what| format!("seed {seed}, n {n}: {what}"))
+    let mut next = |segment: &[u8]| sequence.next(segment);
+    Trial::new(n).run(&mut next, counts, &mut |_, _, _| {}).map_err(|what| format!("seed {seed}, n {n}: {what}"))
 }
 
 /// Sequences on few pages, and for each five hundred of them one on some hundreds.

@@ -16,15 +16,10 @@ struct Run {
 
 fn run(n: usize, events: &[Event]) -> Result<Run, String> {
     let mut trial = Trial::new(n);
-    let mut counts = Counts::default();
+    let mut events = events.iter().cloned();
     let mut last = None;
-    for event in events {
-        match event {
-            Event::Pokes(pokes) => trial.poke(pokes),
-            Event::Call(call) => last = Some(trial.call(*call, &mut counts)?),
-        }
-    }
-    Ok(Run { trial, last: last.ok_or("no call")? })
+    trial.run(&mut |_| events.next(), &mut Counts::default(), &mut |_, reply, _| last = reply)?;
+    Ok(Run { trial, last: last.ok_or("a run ends with a call")? })
 }
 
 impl Run {

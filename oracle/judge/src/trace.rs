@@ -21,8 +21,7 @@ fn call_line(call: Call, reply: Reply, store: &dyn Store) -> String {
 
 /// A sequence from a seed, run on all three stores.
 pub fn of_sequence(n: usize, sequence: &mut Sequence, counts: &mut Counts) -> Result<String, String> {
-    let mut events = |trial: &Trial| sequence.next(trial.model.segment());
-    of_events(n, &mut events, counts)
+    of_events(n, &mut |segment| sequence.next(segment), counts)
 }
 
 /// A given list of events, run on all three stores.
@@ -31,24 +30,14 @@ pub fn of_list(n: usize, list: &[Event], counts: &mut Counts) -> Result<String, 
     of_events(n, &mut |_| list.next(), counts)
 }
 
-fn of_events(n: usize, next: &mut dyn FnMut(&Trial) -> Option<Event>, counts: &mut Counts) -> Result<String, String> {
-    let mut trial = Trial::new(n);
+fn of_events(n: usize, next: &mut dyn FnMut(&[u8]) -> Option<Event>, counts: &mut Counts) -> Result<String, String> {
     let mut text = start_line(n * PAGE_SIZE, PAGE_SIZE);
-    counts.count_sequence(trial.model.segment());
-    while let Some(event) = next(&trial) {
-        match event {
-            Event::Pokes(pokes) => {
-                counts.pokes += pokes.len() as u64;
-                trial.poke(&pokes);
-                text += &poke_lines(&pokes);
-            }
-            Event::Call(call) => {
-                let reply = trial.call(call, counts).map_err(|what| format!("{text}{call}\n{what}"))?;
-                text += &call_line(call, reply, &trial.model);
-            }
-        }
-    }
-    counts.add_steps(&trial.model.notes.steps);
+    let mut write = |event: &Event, reply: Option<Reply>, model: &Model| match (event, reply) {
+        (Event::Call(call), Some(reply)) => text += &call_line(*call, reply, model),
+        (Event::Pokes(pokes), _) => text += &poke_lines(pokes),
+        _ => {}
+    };
+    Trial::new(n).run(next, counts, &mut write)?;
     Ok(text)
 }
 
@@ -63,34 +52,36 @@ pub fn of_wrong_size(segment_bytes: usize, inventory_bytes: usize, calls: &[Call
     text
 }
 
-/// Replays a trace on a store made by `lend`; answers how many calls it held.
-pub fn replay(text: &str, lend: &dyn Fn(&[u8], &[u8]) -> Option<Box<dyn Store>>) -> Result<u64, String> {
-    let mut store: Option<Box<dyn Store>> = None;
+type Lend<'a> = &'a dyn Fn(&[u8], &[u8]) -> Option<Box<dyn Store>>;
+
+/// Replays a trace on stores made by `lend`, which gives none for sequences to be passed over;
+/// answers how many calls were made.
+pub fn replay(text: &str, lend: Lend) -> Result<u64, String> {
+    let mut store = None;
     let mut calls = 0;
     for (place, line) in text.lines().enumerate() {
-        let told = |what: String| format!("line {}: {line}: {what}", place + 1);
-        let (letter, numbers) = parse(line).ok_or_else(|| told("not understood".to_string()))?;
-        match (letter, &numbers[..]) {
-            ("S", &[segment, inventory]) => store = lend(&vec![0; segment as usize], &vec![0; inventory as usize]),
-            ("B" | "V" | "G", &[offset, length, value]) => {
-                if let Some(store) = &mut store {
-                    poke_store(store.as_mut(), &[poke_of(letter, offset, length, value)]);
-                }
-            }
-            _ => {
-                let call = call_of(letter, &numbers).ok_or_else(|| told("not understood".to_string()))?;
-                if let Some(store) = &mut store {
-                    let reply = perform(store.as_mut(), call);
-                    let now = call_line(call, reply, store.as_ref());
-                    if now.trim_end() != line {
-                        return Err(told(format!("is now {now}")));
-                    }
-                    calls += 1;
-                }
-            }
-        }
+        let called = replay_line(line, &mut store, lend).map_err(|what| format!("line {}: {line}: {what}", place + 1))?;
+        calls += called as u64;
     }
     Ok(calls)
+}
+
+/// Whether the line made a call.
+fn replay_line(line: &str, store: &mut Option<Box<dyn Store>>, lend: Lend) -> Result<bool, String> {
+    let (letter, numbers) = parse(line).ok_or("not understood")?;
+    if let ("S", &[segment, inventory]) = (letter, &numbers[..]) {
+        *store = lend(&vec![0; segment as usize], &vec![0; inventory as usize]);
+        return Ok(false);
+    }
+    let Some(store) = store else { return Ok(false) };
+    if let ("B" | "V" | "G", &[offset, length, value]) = (letter, &numbers[..]) {
+        poke_store(store.as_mut(), &[poke_of(letter, offset, length, value)]);
+        return Ok(false);
+    }
+    let call = call_of(letter, &numbers).ok_or("not understood")?;
+    let reply = perform(store.as_mut(), call);
+    let now = call_line(call, reply, store.as_ref());
+    if now.trim_end() == line { Ok(true) } else { Err(format!("is now {now}")) }
 }
 
 fn parse(line: &str) -> Option<(&str, Vec<u64>)> {

@@ -5,7 +5,7 @@
 //! each call is judged from a state that all three share.
 
 use crate::poke::{poke_store, Poke};
-use crate::sequence::{Event, Sequence};
+use crate::sequence::Event;
 use model::{Model, STEPS};
 use std::collections::BTreeMap;
 use store::{perform, Answer, Call, Reply, Store, DONE, PAGE_SIZE};
@@ -124,23 +124,34 @@ impl Trial {
         Ok(())
     }
 
-    pub fn run(&mut self, sequence: &mut Sequence, counts: &mut Counts) -> Result<(), String> {
+    /// Runs the events that `next` chooses with a view of the segment, until it gives none. Each is
+    /// shown to `see` once it is done, with the reply of a call.
+    pub fn run(
+        &mut self,
+        next: &mut dyn FnMut(&[u8]) -> Option<Event>,
+        counts: &mut Counts,
+        see: &mut dyn FnMut(&Event, Option<Reply>, &Model),
+    ) -> Result<(), String> {
         counts.count_sequence(self.model.segment());
         let mut history = Vec::new();
-        while let Some(event) = sequence.next(self.model.segment()) {
+        while let Some(event) = next(self.model.segment()) {
             history.push(event.clone());
-            match event {
-                Event::Pokes(pokes) => {
-                    counts.pokes += pokes.len() as u64;
-                    self.poke(&pokes);
-                }
-                Event::Call(call) => {
-                    self.call(call, counts).map_err(|what| told(&what, &history))?;
-                }
-            }
+            let reply = self.event(&event, counts).map_err(|what| told(&what, &history))?;
+            see(&event, reply, &self.model);
         }
         counts.add_steps(&self.model.notes.steps);
         Ok(())
+    }
+
+    fn event(&mut self, event: &Event, counts: &mut Counts) -> Result<Option<Reply>, String> {
+        match event {
+            Event::Pokes(pokes) => {
+                counts.pokes += pokes.len() as u64;
+                self.poke(pokes);
+                Ok(None)
+            }
+            Event::Call(call) => self.call(*call, counts).map(Some),
+        }
     }
 }
 
@@ -218,20 +229,31 @@ impl Counts {
         println!("sequences {sequences}, calls {}, numbers set by hand {}", self.all_calls(), self.pokes);
         println!("sequences by pages: {}", pages.join(", "));
         println!("calls that met no fault, published and corrected Rust equal: {}", self.compared);
+        self.print_answers();
+        self.print_faults();
+        self.print_steps();
+    }
+
+    fn print_answers(&self) {
         println!("answers:        0        1        2        3        4        5        6        7        8");
         for (kind, answers) in KINDS.iter().zip(&self.answers) {
             let cells: String = answers.iter().map(|times| format!(" {times:8}")).collect();
             println!("{kind:8}{cells}");
         }
-        println!("fault: met, of these original and corrected differ; met alone, of these differ");
+    }
+
+    fn print_faults(&self) {
+        println!("fault: met, of these published and corrected differ; met alone, of these differ");
         for number in 1..=FAULTS {
-            println!(
-                "{number:5}: {:8} {:8} {:8} {:8}",
-                self.met[number], self.differed[number], self.met_alone[number], self.differed_alone[number]
-            );
+            let (met, differed) = (self.met[number], self.differed[number]);
+            let (met_alone, differed_alone) = (self.met_alone[number], self.differed_alone[number]);
+            println!("{number:5}: {met:8} {differed:8} {met_alone:8} {differed_alone:8}");
         }
         let [done, refused, past, endless, panicked] = self.endings;
         println!("calls that met a fault ended in the published Rust: done {done}, no record {refused}, past the end {past}, endless {endless}, panic {panicked}");
+    }
+
+    fn print_steps(&self) {
         println!("steps reached:");
         for (name, times) in STEPS.iter().zip(&self.steps) {
             println!("{times:9}  {name}");
