@@ -105,8 +105,8 @@ impl Patient<'_> {
 
     fn astray(&mut self) -> Vec<Poke> {
         let k = self.any_slot();
-        let (n, other) = (self.n as u64, self.random.below(self.n as u64));
-        let slot = self.random.pick(&[0, 1, self.random.clone().below(8), 2045, 65535]);
+        let (n, other, any) = (self.n as u64, self.random.below(self.n as u64), self.random.below(8));
+        let slot = self.random.pick(&[0, 1, any, 2045, 65535]);
         let page = self.random.pick(&[n, n + 1, self.number as u64, other, other, other, (1 << 46) - 1, 1 << 32]);
         self.replace(k, poke::redirect(page * 65536 + slot), 0)
     }
@@ -170,13 +170,11 @@ pub fn untruth(random: &mut Random, n: usize) -> Vec<Poke> {
     let page = 2 * random.below(n as u64 / 2 + 3) as usize;
     match random.below(4) {
         0 => vec![poke::nibbles(page.min(32526), random.below(16), random.below(16))],
-        1 => {
-            let past = n.div_ceil(2) * 2;
-            vec![poke::nibbles(past.min(32526), random.below(16), random.below(16))]
-        }
+        1 => vec![poke::nibbles((n / 2 * 2).min(32526), random.below(16), random.below(16))],
         2 => vec![poke::entry(random.below(15) as usize, random.below(n as u64 + 2))],
         _ => {
-            let named = random.pick(&[0, random.clone().below(n as u64 + 1), n as u64 + 1, u64::MAX]);
+            let any = random.below(n as u64 + 1);
+            let named = random.pick(&[0, any, n as u64 + 1, u64::MAX]);
             (0..15).map(|number| poke::entry(number, named)).collect()
         }
     }

@@ -32,7 +32,7 @@ fn run_one(seed: u64, n: usize, calls: u64, counts: &mut Counts) -> Result<(), S
 }
 
 /// Sequences on few pages, and for each five hundred of them one on some hundreds.
-fn compare(first_seed: u64, sequences: u64) -> Result<(), String> {
+fn compare(first_seed: u64, sequences: u64) -> Result<Counts, String> {
     let mut counts = Counts::default();
     for seed in first_seed..first_seed + sequences {
         run_one(seed, few_pages(seed), [40, 100, 250][seed as usize % 3], &mut counts)?;
@@ -40,13 +40,23 @@ fn compare(first_seed: u64, sequences: u64) -> Result<(), String> {
             run_one(seed, 100 + seed as usize / 500 % 7 * 50, 250, &mut counts)?;
         }
     }
-    counts.print();
-    finish(&counts)
+    print(&counts);
+    Ok(counts)
 }
 
-fn finish(counts: &Counts) -> Result<(), String> {
+fn print(counts: &Counts) {
+    counts.print();
     println!("differences outside the detected faults: 0");
+}
+
+/// An error if a step or a fault was never reached.
+fn complete(counts: Counts) -> Result<(), String> {
     if counts.holes().is_empty() { Ok(()) } else { Err("not everything was reached".to_string()) }
+}
+
+fn long() -> Result<(), String> {
+    judge::widest::check()?;
+    complete(compare(1_000_000, 30_000)?)
 }
 
 fn check_numbers() -> Result<(), String> {
@@ -100,8 +110,8 @@ fn write_traces(folder: &str) -> Result<(), String> {
         }
         write(name, text)?;
     }
-    counts.print();
-    finish(&counts)
+    print(&counts);
+    complete(counts)
 }
 
 fn print_traces(numbers: &[u64]) -> Result<(), String> {
@@ -139,9 +149,9 @@ fn run(command: &str, rest: &[String]) -> Result<(), String> {
     match (command, rest, numbers(rest).as_deref()) {
         ("classes", [], _) => classes(),
         ("numbers", [], _) => check_numbers(),
-        ("quick", [], _) => compare(1, 2500),
-        ("long", [], _) => judge::widest::check().and_then(|()| compare(1_000_000, 30_000)),
-        ("long", _, Some(&[seed, sequences])) => compare(seed, sequences),
+        ("quick", [], _) => complete(compare(1, 2500)?),
+        ("long", [], _) => long(),
+        ("long", _, Some(&[seed, sequences])) => compare(seed, sequences).map(|_| ()),
         ("faults", [], _) => faults(),
         ("traces", [folder], _) => write_traces(folder),
         ("trace", _, Some(numbers @ ([_, _] | [_, _, _, _]))) => print_traces(numbers),
