@@ -165,6 +165,66 @@ pub fn numbers() -> Vec<(usize, Vec<Event>)> {
     ]
 }
 
+/// Every call that touches the record (0,0) or its page.
+fn all_calls() -> Vec<Event> {
+    let first = id(0, 0);
+    vec![read(first), write(first, 60), resize(first, 60), erase(first), insert(20), allocate(20), scan()]
+}
+
+/// Each line of the sound-page rule broken on a page of three records: 100, 50 and 0 bytes.
+fn unsound() -> Vec<(usize, Vec<Event>)> {
+    let broken = [
+        vec![poke::count(0, 2047)],
+        vec![poke::first_free(0, 2)],
+        vec![poke::data_start(0, 35)],
+        vec![poke::data_start(0, 16385)],
+        vec![poke::data_start(0, 16235)],
+        vec![poke::slot(0, 1, poke::plain(16335, 50))],
+        vec![poke::slot(0, 2, poke::plain(16385, 0))],
+        vec![poke::slot(0, 1, poke::plain(16283, 50))],
+        vec![poke::slot(0, 1, poke::target(16234, 7)), poke::free_space(0, 16241)],
+        vec![poke::free_space(0, 16197)],
+    ];
+    let start = [insert(100), insert(50), insert(0)];
+    broken.iter().map(|broken| (1, [&start[..], &[pokes(broken)], &all_calls()].concat())).collect()
+}
+
+/// A redirect (0,0) that leads astray: past n, home, to a slot past the count, to an ordinary
+/// record, to a target with another back id, and to an unsound page.
+fn astray() -> Vec<(usize, Vec<Event>)> {
+    let redirects = [id(2, 0), id(1 << 32, 0), id(0, 1), id(1, 7), id(1, 0), id(1, 1)];
+    let start = [insert(0), pokes(&(0..15).map(|c| poke::entry(c, 1)).collect::<Vec<_>>()), insert(100), insert(50)];
+    let target = pokes(&[poke::slot(1, 1, poke::target(16234, 50))]);
+    let unsound = pokes(&[poke::free_space(1, 0)]);
+    let redirect = |id| pokes(&[poke::slot(0, 0, poke::redirect(id))]);
+    let mut all: Vec<(usize, Vec<Event>)> = Vec::new();
+    for to in redirects {
+        all.push((2, [&start[..], &[target.clone(), redirect(to)], &all_calls()].concat()));
+    }
+    all.push((2, [&start[..], &[target, redirect(id(1, 1)), unsound], &all_calls()].concat()));
+    all
+}
+
+/// A page without room named for each call that asks the inventory, and each page excluded.
+fn stale() -> Vec<(usize, Vec<Event>)> {
+    let named = |entry, page| pokes(&[poke::entry(entry, page)]);
+    let (root, old) = (id(0, 1), 1);
+    vec![
+        (2, vec![
+            insert(12500), insert(3000), named(8, 0), write(root, 4000), resize(root, 4000), insert(3900), allocate(3900),
+        ]),
+        (3, forwarded(&[
+            insert(11000), named(5, old), resize(root, 6000), write(root, 6000), named(5, 0), resize(root, 6000), write(root, 6000),
+            named(5, 2), resize(root, 6000), scan(),
+        ])),
+    ]
+}
+
+/// Refusals by 4 and 8 of every kind and in every call.
+pub fn refusals() -> Vec<(usize, Vec<Event>)> {
+    [unsound(), astray(), stale()].concat()
+}
+
 /// Lent bytes of a wrong size, and the calls made on each.
 pub fn wrong_sizes() -> (Vec<(usize, usize)>, Vec<Call>) {
     let sizes = vec![(16383, 16384), (16385, 16384), (1, 16384), (16384, 16383), (16384, 16385), (16384, 0)];

@@ -118,6 +118,13 @@ impl Patient<'_> {
         vec![poke::slot(self.number, k, of_kind(other, record.offset, record.length))]
     }
 
+    /// Any byte of header or directory.
+    fn noise(&mut self) -> Vec<Poke> {
+        let place = self.random.below(12 + 8 * self.count().min(2046) as u64);
+        let offset = (self.number * PAGE_SIZE) as u64 + place;
+        vec![Poke::Segment { offset, width: 1, value: self.random.below(256) }]
+    }
+
     fn back_id_damage(&mut self) -> Vec<Poke> {
         let count = self.count().min(2046);
         let targets: Vec<Slot> = (0..count).map(|k| slot(self.page, k)).filter(|slot| slot.kind == Kind::Target).collect();
@@ -135,7 +142,7 @@ fn of_kind(kind: Kind, offset: usize, length: usize) -> u64 {
     if kind == Kind::Target { poke::target(offset, length) } else { poke::plain(offset, length) }
 }
 
-const DAMAGES: [fn(&mut Patient) -> Vec<Poke>; 12] = [
+const DAMAGES: [fn(&mut Patient) -> Vec<Poke>; 13] = [
     |patient| patient.count_damage(),
     |patient| patient.first_free_damage(),
     |patient| patient.data_start_damage(),
@@ -148,6 +155,7 @@ const DAMAGES: [fn(&mut Patient) -> Vec<Poke>; 12] = [
     |patient| patient.astray(),
     |patient| patient.kind_damage(),
     |patient| patient.back_id_damage(),
+    |patient| patient.noise(),
 ];
 
 /// Damages one page of the segment.

@@ -85,7 +85,7 @@ fn sample_of_cases(counts: &mut Counts) -> Result<String, String> {
     for case in cases::faults() {
         text += &trace::of_list(case.n, &case.events, counts)?;
     }
-    for (n, events) in cases::numbers() {
+    for (n, events) in cases::numbers().into_iter().chain(cases::refusals()) {
         text += &trace::of_list(n, &events, counts)?;
     }
     let (sizes, calls) = cases::wrong_sizes();
