@@ -8,6 +8,7 @@ pub mod populate;
 pub mod random;
 pub mod sequence;
 pub mod show;
+pub mod soundness;
 pub mod trace;
 pub mod trial;
 pub mod widest;

@@ -1,6 +1,7 @@
 //! The judge's commands; see the README of the oracle.
 
 use judge::sequence::{any_style, few_pages, Sequence, Start, Style};
+use judge::soundness::is_sound;
 use judge::trial::{Counts, Trial};
 use judge::{cases, show, trace, Store};
 use std::path::Path;
@@ -26,9 +27,21 @@ fn classes() -> Result<(), String> {
 }
 
 fn run_one(seed: u64, n: usize, calls: u64, counts: &mut Counts) -> Result<(), String> {
-    let mut sequence = Sequence::new(seed, any_style(seed), n, calls);
+    let style = any_style(seed);
+    let mut sequence = Sequence::new(seed, style, n, calls);
     let mut next = |segment: &[u8]| sequence.next(segment);
-    Trial::new(n).run(&mut next, counts, &mut |_, _, _| {}).map_err(|what| format!("seed {seed}, n {n}: {what}"))
+    let mut trial = Trial::new(n);
+    let unsound_calls = counts.unsound_calls();
+    let told = |what| format!("seed {seed}, n {n}: {what}");
+    trial.run(&mut next, counts, &mut |_, _, _| {}).map_err(told)?;
+    if style.is_calm() {
+        counts.calm += 1;
+        let sound = is_sound(trial.corrected.segment(), trial.corrected.inventory());
+        if !sound || counts.unsound_calls() != unsound_calls {
+            return Err(told("a sound segment was not kept sound".to_string()));
+        }
+    }
+    Ok(())
 }
 
 /// Sequences on few pages, and for each five hundred of them one on some hundreds.

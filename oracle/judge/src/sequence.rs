@@ -35,6 +35,13 @@ pub struct Style {
     pub most_slots: usize,
 }
 
+impl Style {
+    /// Whether sequences of this style keep to sound segments.
+    pub fn is_calm(&self) -> bool {
+        !self.damages && !self.untruths
+    }
+}
+
 /// How what was done by hand is mended some calls later.
 enum Mending {
     Bytes(Vec<Poke>),

@@ -18,6 +18,8 @@ const KINDS: [&str; 7] = ["insert", "allocate", "read", "write", "resize", "eras
 pub struct Counts {
     /// Sequences by their number of pages.
     pub sequences: BTreeMap<usize, u64>,
+    /// Sequences that kept to sound segments.
+    pub calm: u64,
     pub calls: [u64; 7],
     pub answers: [[u64; 9]; 7],
     /// Calls that met no fault and were compared with the published Rust.
@@ -212,6 +214,12 @@ impl Counts {
         self.steps.iter_mut().zip(steps).for_each(|(sum, more)| *sum += more);
     }
 
+    /// How often a call answered or met what none can on a sound segment.
+    pub fn unsound_calls(&self) -> u64 {
+        let answers: u64 = self.answers.iter().map(|answers| answers[4] + answers[8]).sum();
+        answers + self.met[1] + self.met[14] + self.met[15]
+    }
+
     pub fn all_calls(&self) -> u64 {
         self.calls.iter().sum()
     }
@@ -228,6 +236,7 @@ impl Counts {
         let pages: Vec<String> = self.sequences.iter().map(|(n, times)| format!("{n}: {times}")).collect();
         println!("sequences {sequences}, calls {}, numbers set by hand {}", self.all_calls(), self.pokes);
         println!("sequences by pages: {}", pages.join(", "));
+        println!("sequences that kept to sound segments, without answers 4 and 8 and faults 1, 14 and 15: {}", self.calm);
         println!("calls that met no fault, published and corrected Rust equal: {}", self.compared);
         self.print_answers();
         self.print_faults();
