@@ -52,9 +52,9 @@ pub record Searched (s₀ : List ℕ) (n page old end : ℕ) (s : List ℕ) (u p
   pub rest : setFrom (nextPage s₀ n page) old (u - old) s ≡ setFrom (nextPage s₀ n page) old (end - old) s₀
   pub ahead : (c : ℕ) → c < u → nextPage s₀ n page c ≡ firstFrom (nibble s₀) c p (n - p)
 
-pub searched-none : (s : List ℕ) (n page old end : ℕ) → old ≤ end → page < n → Searched s n page old end s end (page + 1)
+pub searched-none : (s : List ℕ) (n page old end p : ℕ) → p ≡ page + 1 → old ≤ end → page < n → Searched s n page old end s end p
 unfolding nextPage
-searched-none s n page old end h l = record {
+searched-none s n page old end p e h l = rw e record {
   len = refl;
   lo = h;
   hi = omega arith;

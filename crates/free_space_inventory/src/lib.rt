@@ -133,6 +133,10 @@ fn move_entries(inventory: &mut [u8], n: usize, page: usize, old: usize, end: us
     if old < u {
         'pages: for p in page + 1..n {
             let nibble = read_nibble(inventory, p + 240);
+            // Most pages suit none of the entries left; the entries' loop is dearer to enter than this test.
+            if u <= nibble {
+                continue;
+            }
             while nibble < u {
                 u -= 1;
                 write_entry(inventory, u, p);

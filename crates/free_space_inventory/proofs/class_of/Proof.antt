@@ -1,5 +1,4 @@
--- `inv::class_of` meets its contract: each arm is one of the table's.
--- Assumes nothing.
+-- `free_space_inventory::class_of` meets its contract. Assumes nothing.
 use native.Mathlib.Omega.{arith}
 use Rattle.store.specs.Inventory.{classOf}
 use Rattle.store.specs.Laws.Classes.{arm}

@@ -1,3 +1,4 @@
+-- `free_space_inventory::fill_entries` meets its contract. Assumes nothing.
 use Prim.Native.Nat.{_-_, _≤_}
 use mathlib.Core.Path.{_≡_, refl, _∙_, sym, ap}
 use native.Mathlib.Omega.{arith}
@@ -7,9 +8,6 @@ use Rattle.store.specs.Laws.Inventory.{length-setEntry}
 use Rattle.free_space_inventory.proofs.Turns.{down-turn, down-done}
 use Rattle.free_space_inventory.proofs.fill_entries.Statement.{statement}
 use Rattle.free_space_inventory.proofs.fill_entries.Tie as tie
-use Rattle.free_space_inventory.proofs.fill_entries.Reads as reads
-use Rattle.free_space_inventory.proofs.fill_entries.Lts as lts
-use Rattle.free_space_inventory.proofs.write_entry.Reads as write-entry-reads
 
 abbrev Inv-loop : tie.InvT-loop
 Inv-loop inventory₀ old end v u₀ inventory u = (u ≤ 15) × (length inventory ≡ length inventory₀) × (setFrom (λ _. v) old (u - old) inventory ≡ setFrom (λ _. v) old (end - old) inventory₀)

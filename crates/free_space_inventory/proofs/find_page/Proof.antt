@@ -1,3 +1,4 @@
+-- `free_space_inventory::find_page` meets its contract. Assumes nothing.
 use Prim.Native.Nat.{_-_}
 use native.Mathlib.Omega.{arith}
 use borrow.Author.Tests.{lt-ltb, le-ltb}
@@ -6,10 +7,6 @@ use Rattle.store.specs.Laws.Classes.{class-low, class-top}
 use borrow.Author.Needs.{needs}
 use Rattle.free_space_inventory.proofs.find_page.Statement.{statement}
 use Rattle.free_space_inventory.proofs.find_page.Tie as tie
-use Rattle.free_space_inventory.proofs.find_page.Reads as reads
-use Rattle.free_space_inventory.proofs.find_page.Lts as lts
-use Rattle.free_space_inventory.proofs.class_of.Reads as class-of-reads
-use Rattle.free_space_inventory.proofs.read_entry.Reads as read-entry-reads
 
 returns : tie.Need-returns
 unfolding foundIn

@@ -1,3 +1,4 @@
+-- `free_space_inventory::move_entries` meets its contract. Assumes nothing.
 use mathlib.Core.Path.{_≡_, refl, _∙_, sym, ap}
 use mathlib.Core.Logic.{⊎-elim, inl, inr}
 use Prim.Native.Nat.{_-_, _<_}
@@ -5,11 +6,6 @@ use native.Mathlib.Omega.{arith}
 use Rattle.free_space_inventory.proofs.Search.{Placed, placed-none, placed-more, Searched, searched-none, searched-here, searched-next, Left, left-none, left-over}
 use Rattle.free_space_inventory.proofs.move_entries.Statement.{statement}
 use Rattle.free_space_inventory.proofs.move_entries.Tie as tie
-use Rattle.free_space_inventory.proofs.move_entries.Reads as reads
-use Rattle.free_space_inventory.proofs.move_entries.Lts as lts
-use Rattle.free_space_inventory.proofs.fill_entries.Reads as fill-entries-reads
-use Rattle.free_space_inventory.proofs.read_nibble.Reads as read-nibble-reads
-use Rattle.free_space_inventory.proofs.write_entry.Reads as write-entry-reads
 
 abbrev Inv-loop : tie.InvT-loop
 Inv-loop inventory₀ n page old end u₀ p nibble inventory u = Placed inventory₀ p nibble old u₀ inventory u × (old < u)
@@ -27,7 +23,7 @@ add-p : tie.Need-add-p Inv-loop μ-loop Inv-pages μ-pages
 add-p c = omega arith
 
 pages-holds : tie.Need-pages-holds Inv-loop μ-loop Inv-pages μ-pages
-pages-holds c = (searched-none _ _ _ _ _ (omega arith) (c .before .before .pre .1 .0), c .if1 .taken)
+pages-holds c = (searched-none _ _ _ _ _ _ (omega arith) (omega arith) (c .before .before .pre .1 .0), c .if1 .taken)
 
 add-read-nibble : tie.Need-add-read-nibble Inv-loop μ-loop Inv-pages μ-pages
 add-read-nibble c = omega arith
@@ -35,8 +31,19 @@ add-read-nibble c = omega arith
 read-nibble-requires : tie.Need-read-nibble-requires Inv-loop μ-loop Inv-pages μ-pages
 read-nibble-requires c κs = omega arith
 
+add-p-2 : tie.Need-add-p-2 Inv-loop μ-loop Inv-pages μ-pages
+add-p-2 c = omega arith
+
+pages-less : tie.Need-pages-less Inv-loop μ-loop Inv-pages μ-pages
+pages-less c = omega arith
+
+pages-again : tie.Need-pages-again Inv-loop μ-loop Inv-pages μ-pages
+pages-again c =
+    let b = c .before .before .before in
+    (searched-next (b .before .pages .inv .0) (b .pages-test .taken) (omega (arith, c .before .read-nibble .ensures)), b .before .pages .inv .1)
+
 loop-holds : tie.Need-loop-holds Inv-loop μ-loop Inv-pages μ-pages
-loop-holds c = (placed-none _ _ _ _ _ (omega arith), c .before .before .before .pages .inv .1)
+loop-holds c = (placed-none _ _ _ _ _ (omega arith), c .before .before .before .before .pages .inv .1)
 
 sub-u : tie.Need-sub-u Inv-loop μ-loop Inv-pages μ-pages
 sub-u c = omega arith
@@ -53,15 +60,15 @@ loop-again c =
     let t = e .before .before in
     (placed-more _ (e .write-entry .ensures) (t .before .loop .inv .0) (t .before .loop .inv .1) (t .loop-test .taken) (omega arith), omega arith)
 
-add-p-2 : tie.Need-add-p-2 Inv-loop μ-loop Inv-pages μ-pages
-add-p-2 c = omega arith
+add-p-3 : tie.Need-add-p-3 Inv-loop μ-loop Inv-pages μ-pages
+add-p-3 c = omega arith
 
-pages-less : tie.Need-pages-less Inv-loop μ-loop Inv-pages μ-pages
-pages-less c = omega arith
+pages-less-2 : tie.Need-pages-less-2 Inv-loop μ-loop Inv-pages μ-pages
+pages-less-2 c = omega arith
 
-pages-again : tie.Need-pages-again Inv-loop μ-loop Inv-pages μ-pages
-pages-again c =
-    let g = c .before .before in
+pages-again-2 : tie.Need-pages-again-2 Inv-loop μ-loop Inv-pages μ-pages
+pages-again-2 c =
+    let g = c .before .before .before in
     let b = g .before .before in
     let q = c .before .loop .inv .0 in (
       searched-next (searched-here (b .before .pages .inv .0) (b .pages-test .taken) (g .read-nibble .ensures) q) (b .pages-test .taken)
@@ -76,12 +83,12 @@ joined c =
     ⊎-elim (λ w. rw (w .3, w .4) (left-over (w .1 .inv .0) (inl (w .2 .left))))
     (⊎-elim
     (λ w.
-    rw (w .12, w .13)
+    rw (w .13, w .14)
     (left-over
     (searched-here (w .1 .inv .0) (w .2 .taken) (w .4 .ensures)
-    (placed-more _ (w .8 .ensures) (w .5 .inv .0) (w .5 .inv .1) (w .6 .taken)
-    (omega (arith, w .5 .inv .0 .hi, w .1 .inv .0 .hi, c .before .before .pre .1 .1))))
-    (inr (w .11 .taken))))
+    (placed-more _ (w .9 .ensures) (w .6 .inv .0) (w .6 .inv .1) (w .7 .taken)
+    (omega (arith, w .6 .inv .0 .hi, w .1 .inv .0 .hi, c .before .before .pre .1 .1))))
+    (inr (w .12 .taken))))
     (λ w. rw (w .1, w .2) (left-none _ _ _ _ _ (w .0 .left))))
     (c .if1 .came)
 
@@ -106,14 +113,17 @@ move-entries-spec =
     pages-holds
     add-read-nibble
     read-nibble-requires
+    add-p-2
+    pages-less
+    pages-again
     loop-holds
     sub-u
     write-entry-requires
     loop-less
     loop-again
-    add-p-2
-    pages-less
-    pages-again
+    add-p-3
+    pages-less-2
+    pages-again-2
     fill-entries-requires
     same-length
     returns)

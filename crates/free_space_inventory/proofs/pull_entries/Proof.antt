@@ -1,3 +1,4 @@
+-- `free_space_inventory::pull_entries` meets its contract. Assumes nothing.
 use Prim.Native.Nat.{_-_}
 use mathlib.Core.Path.{_≡_, refl, _∙_, sym, ap}
 use native.Mathlib.Omega.{arith}
@@ -7,10 +8,6 @@ use Rattle.store.specs.Laws.Inventory.{length-setEntry}
 use Rattle.free_space_inventory.proofs.Turns.{pull-turn, pull-stop, pull-done}
 use Rattle.free_space_inventory.proofs.pull_entries.Statement.{statement}
 use Rattle.free_space_inventory.proofs.pull_entries.Tie as tie
-use Rattle.free_space_inventory.proofs.pull_entries.Reads as reads
-use Rattle.free_space_inventory.proofs.pull_entries.Lts as lts
-use Rattle.free_space_inventory.proofs.read_entry.Reads as read-entry-reads
-use Rattle.free_space_inventory.proofs.write_entry.Reads as write-entry-reads
 
 abbrev Inv-loop : tie.InvT-loop
 Inv-loop inventory₀ page new c₀ inventory c = (length inventory ≡ length inventory₀) × (pulledBack page c (15 - c) inventory ≡ pulledBack page new (15 - new) inventory₀)
@@ -40,14 +37,14 @@ loop-again c =
     let b = e .before .before .before in (
       ap length (t .write-entry .ensures) ∙ length-setEntry _ _ _ ∙ b .before .loop .inv .0,
       ap (pulledBack _ _ _) (t .write-entry .ensures)
-          ∙ sym (pull-turn _ _ _ (b .loop-test .taken) (omega (arith, e .if1 .left, e .before .read-entry .ensures))) ∙ b .before .loop .inv .1,
+          ∙ sym (pull-turn _ _ _ (omega arith) (omega (arith, e .if1 .left, e .before .read-entry .ensures))) ∙ b .before .loop .inv .1,
     )
 
 same-length : tie.Need-same-length Inv-loop μ-loop
 same-length c = c .before .loop .inv .0
 
 returns : tie.Need-returns Inv-loop μ-loop
-returns c = sym (pull-done _ _ _ (c .loop-test .left)) ∙ c .before .loop .inv .1
+returns c = sym (pull-done _ _ _ (omega arith)) ∙ c .before .loop .inv .1
 
 same-length-2 : tie.Need-same-length-2 Inv-loop μ-loop
 same-length-2 c = c .before .before .before .before .loop .inv .0
@@ -55,7 +52,7 @@ same-length-2 c = c .before .before .before .before .loop .inv .0
 returns-2 : tie.Need-returns-2 Inv-loop μ-loop
 returns-2 c =
     let b = c .before .before .before in
-    sym (pull-stop _ _ _ (b .loop-test .taken) (omega (arith, c .before .read-entry .ensures))) ∙ b .before .loop .inv .1
+    sym (pull-stop _ _ _ (omega arith) (omega (arith, c .before .read-entry .ensures))) ∙ b .before .loop .inv .1
 
 pub pull-entries-spec : {M : Type 1} → statement M
 pull-entries-spec =

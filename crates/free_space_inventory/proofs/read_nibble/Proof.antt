@@ -1,11 +1,9 @@
+-- `free_space_inventory::read_nibble` meets its contract. Assumes nothing.
 use borrow.Author.Tests.{eq-eqb, ne-eqb}
 use Rattle.store.specs.Inventory.{nibbleAt}
 use borrow.Author.Needs.{needs}
 use Rattle.free_space_inventory.proofs.read_nibble.Statement.{statement}
 use Rattle.free_space_inventory.proofs.read_nibble.Tie as tie
-use Rattle.free_space_inventory.proofs.read_nibble.Reads as reads
-use Rattle.free_space_inventory.proofs.read_nibble.Lts as lts
-use Rattle.free_space_inventory.proofs.wide.Reads as wide-reads
 
 shared-slice-read-wide : tie.Need-shared-slice-read-wide
 shared-slice-read-wide c = search needs

@@ -1,3 +1,4 @@
+-- `free_space_inventory::run_end` meets its contract. Assumes nothing.
 use Prim.Native.Nat.{_-_}
 use mathlib.Core.Path.{_≡_, refl, _∙_, sym}
 use native.Mathlib.Omega.{arith}
@@ -5,9 +6,6 @@ use Rattle.store.specs.Inventory.{runEnd}
 use Rattle.free_space_inventory.proofs.Turns.{run-turn, run-stop, run-done}
 use Rattle.free_space_inventory.proofs.run_end.Statement.{statement}
 use Rattle.free_space_inventory.proofs.run_end.Tie as tie
-use Rattle.free_space_inventory.proofs.run_end.Reads as reads
-use Rattle.free_space_inventory.proofs.run_end.Lts as lts
-use Rattle.free_space_inventory.proofs.read_entry.Reads as read-entry-reads
 
 abbrev Inv-loop : tie.InvT-loop
 Inv-loop inventory page old new c₀ c = runEnd inventory page c (new - c) ≡ runEnd inventory page old (new - old)

