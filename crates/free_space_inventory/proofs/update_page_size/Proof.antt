@@ -1,0 +1,80 @@
+-- `free_space_inventory::update_page_size` meets its contract. Assumes nothing.
+use mathlib.Core.Path.{_∙_, ap}
+use native.Mathlib.Omega.{arith}
+use Rattle.store.specs.Inventory.{updated, update}
+use Rattle.free_space_inventory.proofs.Update.{class-le, update-none, update-some}
+use borrow.Author.Needs.{needs}
+use Rattle.free_space_inventory.proofs.update_page_size.Statement.{statement}
+use Rattle.free_space_inventory.proofs.update_page_size.Tie as tie
+
+sub-class-of : tie.Need-sub-class-of
+sub-class-of c = search needs
+
+class-of-requires : tie.Need-class-of-requires
+class-of-requires c κs = search needs
+
+add-read-nibble : tie.Need-add-read-nibble
+add-read-nibble c = search needs
+
+read-nibble-requires : tie.Need-read-nibble-requires
+read-nibble-requires c κs = search needs
+
+add-write-nibble : tie.Need-add-write-nibble
+add-write-nibble c = search needs
+
+write-nibble-requires : tie.Need-write-nibble-requires
+write-nibble-requires c κs = omega (arith, class-le _ _ (c .before .before .before .before .class-of .ensures))
+
+run-end-requires : tie.Need-run-end-requires
+run-end-requires c κs =
+    let w = c .before .before .before in
+    omega (arith, class-le _ _ (w .before .before .before .before .before .class-of .ensures))
+
+move-entries-requires : tie.Need-move-entries-requires
+move-entries-requires c κs = search needs
+
+pull-entries-requires : tie.Need-pull-entries-requires
+pull-entries-requires c κs = search needs
+
+same-length : tie.Need-same-length
+same-length c = search needs
+
+returns : tie.Need-returns
+unfolding update
+returns c =
+    let l = c .before .before in
+    let v = l .before .before .before .before in
+    let e = v .before .before in
+    let m = e .before .before .before .before in
+    let t = m .before .before in
+    let k = t .before .before .before .class-of in
+    update-some _ _ _ _ _ (t .before .read-nibble .ensures .0) (t .if1 .taken) _ _ _ _ (m .write-nibble .ensures) (e .run-end .ensures .0)
+    (v .move-entries .ensures) (l .pull-entries .ensures)
+    ∙ ap (updated _ _ _) (k .ensures)
+
+same-length-2 : tie.Need-same-length-2
+same-length-2 c = search needs
+
+returns-2 : tie.Need-returns-2
+unfolding update
+returns-2 c =
+    let k = c .before .before .before .class-of in
+    update-none _ _ _ _ _ (c .before .read-nibble .ensures .0) (c .if1 .left) ∙ ap (updated _ _ _) (k .ensures)
+
+pub update-page-size-spec : {M : Type 1} → statement M
+update-page-size-spec =
+    tie.close
+    (tie.spec
+    sub-class-of
+    class-of-requires
+    add-read-nibble
+    read-nibble-requires
+    add-write-nibble
+    write-nibble-requires
+    run-end-requires
+    move-entries-requires
+    pull-entries-requires
+    same-length
+    returns
+    same-length-2
+    returns-2)
