@@ -1,0 +1,36 @@
+-- `page_check::records_fit` meets its contract. Assumes nothing.
+use native.Mathlib.Omega.{arith}
+use Prim.Native.Nat.{ℕ}
+use lib.ListN.{length-replicate}
+use Rattle.page_check.proofs.MapLaws.{blank}
+use borrow.Author.Needs.{needs}
+use Rattle.page_check.proofs.records_fit.Statement.{statement}
+use Rattle.page_check.proofs.records_fit.Tie as tie
+use Rattle.page_check.proofs.records_fit.Reads as reads
+use Rattle.page_check.proofs.records_fit.Lts as lts
+use Rattle.page_check.proofs.spread.spread.Reads as spread-reads
+use Rattle.page_check.proofs.sweep.sweep.Reads as sweep-reads
+
+sweep-requires : tie.Need-sweep-requires
+sweep-requires c κs = search needs
+
+returns : tie.Need-returns
+returns c =
+    let e = c .if1 .taken in
+    let w = c .before .sweep .ensures e in
+    (record { yes = λ _. w .0; back = λ _. e }, λ _. w .1)
+
+slice-aggregate-spread : tie.Need-slice-aggregate-spread
+slice-aggregate-spread c = search needs
+
+spread-requires : tie.Need-spread-requires
+spread-requires c κs =
+    let s = c .before .before .before .before .pre in
+    (s .0, s .1, s .2, length-replicate {A = ℕ} 256 0, blank)
+
+returns-2 : tie.Need-returns-2
+returns-2 c = search needs
+
+pub records-fit-spec : {M : Type 1} → statement M
+records-fit-spec =
+    tie.close (tie.spec sweep-requires returns slice-aggregate-spread spread-requires returns-2)
