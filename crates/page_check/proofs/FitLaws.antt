@@ -11,15 +11,15 @@ use lib.ListN.{length, drop, length-take, length-drop}
 use lib.Dec.{eqb, ltb}
 use borrow.Author.Tests.{le-ltb, eq-eqb, ne-eqb}
 use Rattle.store.specs.Numbers.{cut, be, sum}
-use Rattle.store.specs.Slots.{off, len, isFree, isTarget, slotOf, ofKind}
-use Rattle.store.specs.Page.{View, view, count, slotAt, fresh, sound}
+use Rattle.store.specs.Slots.{off, len, isTarget, slotOf, ofKind}
+use Rattle.store.specs.Page.{View, view, count, slotAt, sound}
 use Rattle.store.specs.Laws.Slots.{Codable}
 use Rattle.store.specs.Laws.Edits.{Apart}
 use Rattle.store.specs.Laws.Views.{Sound}
 use Rattle.store.specs.Laws.SoundPage.{sound-page, sound-test}
 use Rattle.store.specs.declared.Slot.{Slot}
-use Rattle.store.specs.declared.Slot.the-variants.{Ordinary, Free, Redirect, Target}
-use Rattle.page_check.specs.Fit.{Tells, Allowed, Runs, RecordsFit, Total, HeaderFits}
+use Rattle.store.specs.declared.Slot.the-variants.{Free}
+use Rattle.page_check.specs.Fit.{Allowed, Runs, RecordsFit, Total, HeaderFits}
 use Rattle.page_check.proofs.SlotLaws.{refuted}
 
 -- ---- one more slot

@@ -1,6 +1,6 @@
 -- Records on the map: what is marked is just the bytes of the records so far. Assumes nothing.
-use Prim.Native.Nat.{ℕ, zero, suc, _+_, _≤_, _<_}
-use mathlib.Core.Path.{_≡_, refl, sym, subst, _∙_}
+use Prim.Native.Nat.{ℕ, _+_, _≤_, _<_}
+use mathlib.Core.Path.{_≡_, subst, _∙_}
 use mathlib.Core.List.{List}
 use mathlib.Core.Logic.{_⊎_, inl, inr}
 use native.Mathlib.Omega.{arith}
@@ -9,7 +9,7 @@ use Rattle.store.specs.Slots.{off, len}
 use Rattle.store.specs.Page.{View}
 use Rattle.store.specs.Laws.Edits.{Apart}
 use Rattle.store.specs.declared.Slot.{Slot}
-use Rattle.page_check.specs.Fit.{Runs, RecordsFit}
+use Rattle.page_check.specs.Fit.{Runs}
 use Rattle.page_check.specs.Map.{mark, Blank, Clear, Claimed}
 
 abbrev Covers : Slot → ℕ → Type 0

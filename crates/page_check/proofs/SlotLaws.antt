@@ -1,5 +1,5 @@
 -- One slot: its entry in two halves of 32 bits, and what `run_of` finds of each kind. Assumes nothing.
-use Prim.Native.Nat.{ℕ, zero, suc, _+_, _-_, _*_, _/_, _%_, _^_, _≤_, _<_}
+use Prim.Native.Nat.{ℕ, _+_, _-_, _*_, _/_, _%_, _^_, _≤_, _<_}
 use mathlib.Core.Path.{_≡_, refl, sym, ap, subst, _∙_}
 use mathlib.Core.Bool.{Bool, true, false}
 use mathlib.Core.List.{List}
@@ -7,15 +7,15 @@ use native.Mathlib.Omega.{arith}
 use native.Mathlib.Decide.{decLt}
 use lib.ListN.{length}
 use lib.Dec.{leb}
-use borrow.Author.Tests.{le-leb, lt-leb, leb-true, leb-false}
+use borrow.Author.Tests.{le-leb, leb-true}
 use Rattle.store.specs.Numbers.{cut, be}
-use Rattle.store.specs.Slots.{ofKind, slotOf, off, len, isFree, isTarget}
+use Rattle.store.specs.Slots.{slotOf}
 use Rattle.store.specs.Page.{view}
 use Rattle.store.specs.declared.Slot.{Slot}
 use Rattle.store.specs.declared.Slot.the-variants.{Ordinary, Free, Redirect, Target}
 use Rattle.layout.proofs.Numbers.{num8}
 use Rattle.layout.proofs.Codec.{counted-slot}
-use Rattle.page_check.specs.Fit.{Tells, Allowed, Runs, Found}
+use Rattle.page_check.specs.Fit.{Tells, Found}
 
 pub refuted : {A : Type 0} → false ≡ true → A
 refuted h = absurd (let z : _≡_ {A = ℕ} 0 1 = cc in omega arith)

@@ -1,6 +1,7 @@
 // Whether a page is sound, by the definition of document 01: the header, then every slot in one pass, then the free space.
-pub mod spread;
-pub mod sweep;
+mod map;
+mod slot;
+mod sweep;
 
 use sweep::Pass;
 ghost use mathlib.Core.Path.{_≡_};
@@ -44,7 +45,7 @@ fn records_fit(page: &[u8], n: usize, f: usize, d: usize) -> Pass
         return swept;
     }
     let mut used = [0usize; 256];
-    spread::spread(page, n, f, d, &mut used)
+    map::place_all(page, n, f, d, &mut used)
 }
 
 pub fn is_sound(page: &[u8]) -> bool

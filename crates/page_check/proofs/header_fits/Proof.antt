@@ -1,6 +1,5 @@
 -- `page_check::header_fits` meets its contract. Assumes nothing.
-use Prim.Native.Nat.{ℕ}
-use mathlib.Core.Path.{_≡_, sym, ap, _∙_}
+use mathlib.Core.Path.{sym, ap, _∙_}
 use native.Mathlib.Omega.{arith}
 use Rattle.store.specs.Slots.{isFree}
 use Rattle.store.specs.Laws.Views.{is-free}

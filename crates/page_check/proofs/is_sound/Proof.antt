@@ -1,11 +1,7 @@
 -- `page_check::is_sound` meets its contract. Assumes nothing.
-use mathlib.Core.Path.{_≡_, refl, sym, ap, _∙_}
-use mathlib.Core.Bool.{true, false}
 use native.Mathlib.Omega.{arith}
 use denote.Ref.{now}
-use borrow.Author.Tests.{not-true, not-false, eq-eqb}
-use Rattle.store.specs.Page.{view, sound}
-use Rattle.page_check.specs.Fit.{HeaderFits}
+use borrow.Author.Tests.{not-true, not-false}
 use Rattle.page_check.proofs.SlotLaws.{told}
 use Rattle.page_check.proofs.FitLaws.{sound-header, sound-records, unsound, sound-space, fresh-sound}
 use borrow.Author.Needs.{needs}

@@ -1,5 +1,4 @@
 -- `page_check::records_fit` meets its contract. Assumes nothing.
-use native.Mathlib.Omega.{arith}
 use Prim.Native.Nat.{ℕ}
 use lib.ListN.{length-replicate}
 use Rattle.page_check.proofs.MapLaws.{blank}
@@ -8,7 +7,7 @@ use Rattle.page_check.proofs.records_fit.Statement.{statement}
 use Rattle.page_check.proofs.records_fit.Tie as tie
 use Rattle.page_check.proofs.records_fit.Reads as reads
 use Rattle.page_check.proofs.records_fit.Lts as lts
-use Rattle.page_check.proofs.spread.spread.Reads as spread-reads
+use Rattle.page_check.proofs.map.place_all.Reads as place-all-reads
 use Rattle.page_check.proofs.sweep.sweep.Reads as sweep-reads
 
 sweep-requires : tie.Need-sweep-requires
@@ -20,11 +19,11 @@ returns c =
     let w = c .before .sweep .ensures e in
     (record { yes = λ _. w .0; back = λ _. e }, λ _. w .1)
 
-slice-aggregate-spread : tie.Need-slice-aggregate-spread
-slice-aggregate-spread c = search needs
+slice-aggregate-place-all : tie.Need-slice-aggregate-place-all
+slice-aggregate-place-all c = search needs
 
-spread-requires : tie.Need-spread-requires
-spread-requires c κs =
+place-all-requires : tie.Need-place-all-requires
+place-all-requires c κs =
     let s = c .before .before .before .before .pre in
     (s .0, s .1, s .2, length-replicate {A = ℕ} 256 0, blank)
 
@@ -33,4 +32,4 @@ returns-2 c = search needs
 
 pub records-fit-spec : {M : Type 1} → statement M
 records-fit-spec =
-    tie.close (tie.spec sweep-requires returns slice-aggregate-spread spread-requires returns-2)
+    tie.close (tie.spec sweep-requires returns slice-aggregate-place-all place-all-requires returns-2)

@@ -1,7 +1,6 @@
 -- `page_check::sweep::sweep` meets its contract. Assumes nothing.
-use Prim.Native.Nat.{ℕ, _+_, _-_, _*_, _^_, _≤_, _<_}
-use mathlib.Core.Path.{_≡_, refl, sym, ap, subst, _∙_}
-use mathlib.Core.Bool.{true, false}
+use Prim.Native.Nat.{_+_, _-_, _*_, _≤_, _<_}
+use mathlib.Core.Path.{_≡_}
 use native.Mathlib.Omega.{arith}
 use denote.Ref.{now}
 use borrow.Author.Needs.{needs}
@@ -16,7 +15,7 @@ use Rattle.page_check.proofs.sweep.sweep.Tie as tie
 use Rattle.page_check.proofs.sweep.sweep.Reads as reads
 use Rattle.page_check.proofs.sweep.sweep.Lts as lts
 use Rattle.layout.proofs.get_u32.Reads as get-u32-reads
-use Rattle.page_check.proofs.sweep.run_of.Reads as run-of-reads
+use Rattle.page_check.proofs.slot.run_of.Reads as run-of-reads
 
 abbrev Inv-loop : tie.InvT-loop
 Inv-loop page n f d low₀ total₀ k₀ o₀ low total k o =

@@ -56,8 +56,8 @@ fn claim(used: &mut [usize], o: usize, end: usize) -> bool
     claim_word(used, last, m & bits_to((end - 1) % 64))
 }
 
-// A record of no bytes claims none, and lies anywhere.
-fn settle(used: &mut [usize], d: usize, o: usize, l: usize) -> bool
+// Puts the record of l bytes at o on the map. One of no bytes claims none, and lies anywhere.
+fn place(used: &mut [usize], d: usize, o: usize, l: usize) -> bool
     requires { ⌜ (length (now used) ≡ 256) × (o + l ≤ 16384) ⌝ }
     ensures { λ r. ⌜ Tells r ((0 < l → d ≤ o) × Clear (now (used .entry)) o (o + l)) × (r ≡ true → Claimed (now (used .entry)) (now (used .exit)) o (o + l)) ⌝ }
 {
@@ -70,7 +70,7 @@ fn settle(used: &mut [usize], d: usize, o: usize, l: usize) -> bool
     claim(used, o, o + l)
 }
 
-pub fn spread(page: &[u8], n: usize, f: usize, d: usize, used: &mut [usize]) -> Pass
+pub fn place_all(page: &[u8], n: usize, f: usize, d: usize, used: &mut [usize]) -> Pass
     requires { ⌜ (length (now page) ≡ 16384) × (n ≡ view (now page) .slotCount) × (n ≤ 2046) × (length (now used) ≡ 256) × Blank (now used) ⌝ }
     ensures { λ r. ⌜ Tells (r .fits) (RecordsFit (view (now (page .entry))) n f d) × (r .fits ≡ true → Total (view (now (page .entry))) n (r .total)) ⌝ }
 {
@@ -78,14 +78,14 @@ pub fn spread(page: &[u8], n: usize, f: usize, d: usize, used: &mut [usize]) -> 
     let mut k = 0;
     let mut o = layout::get_u32(page, 12);
     while k < n {
-        let run = crate::sweep::run_of(o, layout::get_u32(page, 16 + 8 * k), k, f, 16384);
+        let run = crate::slot::run_of(o, layout::get_u32(page, 16 + 8 * k), k, f, 16384);
         if !run.fits {
             return Pass {
                 fits: false,
                 total: 0,
             };
         }
-        if !settle(used, d, run.start, run.size) {
+        if !place(used, d, run.start, run.size) {
             return Pass {
                 fits: false,
                 total: 0,

@@ -1,13 +1,13 @@
--- `page_check::spread::bits_to` meets its contract. Assumes nothing.
+-- `page_check::map::bits_to` meets its contract. Assumes nothing.
 use Prim.Native.Nat.{_+_, _-_}
 use mathlib.Core.Path.{_≡_}
 use native.Mathlib.Omega.{arith}
 use Rattle.page_check.proofs.MapLaws.{mask-of, ones-shr}
 use borrow.Author.Needs.{needs}
-use Rattle.page_check.proofs.spread.bits_to.Statement.{statement}
-use Rattle.page_check.proofs.spread.bits_to.Tie as tie
-use Rattle.page_check.proofs.spread.bits_to.Reads as reads
-use Rattle.page_check.proofs.spread.bits_to.Lts as lts
+use Rattle.page_check.proofs.map.bits_to.Statement.{statement}
+use Rattle.page_check.proofs.map.bits_to.Tie as tie
+use Rattle.page_check.proofs.map.bits_to.Reads as reads
+use Rattle.page_check.proofs.map.bits_to.Lts as lts
 
 sub-result : tie.Need-sub-result
 sub-result c = search needs

@@ -1,11 +1,10 @@
--- `page_check::spread::claim_word` meets its contract. Assumes nothing.
-use native.Mathlib.Omega.{arith}
-use Rattle.page_check.proofs.SlotLaws.{tells-no, tells-yes, refuted}
+-- `page_check::map::claim_word` meets its contract. Assumes nothing.
+use Rattle.page_check.proofs.SlotLaws.{tells-no, refuted}
 use borrow.Author.Needs.{needs}
-use Rattle.page_check.proofs.spread.claim_word.Statement.{statement}
-use Rattle.page_check.proofs.spread.claim_word.Tie as tie
-use Rattle.page_check.proofs.spread.claim_word.Reads as reads
-use Rattle.page_check.proofs.spread.claim_word.Lts as lts
+use Rattle.page_check.proofs.map.claim_word.Statement.{statement}
+use Rattle.page_check.proofs.map.claim_word.Tie as tie
+use Rattle.page_check.proofs.map.claim_word.Reads as reads
+use Rattle.page_check.proofs.map.claim_word.Lts as lts
 
 mul-w : tie.Need-mul-w
 mul-w c = search needs

@@ -1,7 +1,7 @@
--- `page_check::spread::claim` meets its contract. Assumes nothing.
+-- `page_check::map::claim` meets its contract. Assumes nothing.
 use Prim.Native.Nat.{ℕ, _+_, _-_, _*_, _/_, _%_, _≤_, _<_}
-use mathlib.Core.Path.{_≡_, refl, sym, ap, subst, _∙_}
-use mathlib.Core.Bool.{true, false}
+use mathlib.Core.Path.{_≡_, refl, subst}
+use mathlib.Core.Bool.{true}
 use native.Mathlib.Omega.{arith}
 use lib.ListN.{length}
 use lib.Bits.{bitAnd}
@@ -12,13 +12,13 @@ use borrow.Author.Tests.{not-true, not-false}
 use Rattle.page_check.specs.Map.{Mask, Clear, Claimed}
 use Rattle.page_check.proofs.SlotLaws.{tells-no, told, refuted}
 use Rattle.page_check.proofs.MapLaws.{mask-of, mask-and, claimed-none, claim-more}
-use Rattle.page_check.proofs.spread.claim.Statement.{statement}
-use Rattle.page_check.proofs.spread.claim.Tie as tie
-use Rattle.page_check.proofs.spread.claim.Reads as reads
-use Rattle.page_check.proofs.spread.claim.Lts as lts
-use Rattle.page_check.proofs.spread.bits_from.Reads as bits-from-reads
-use Rattle.page_check.proofs.spread.bits_to.Reads as bits-to-reads
-use Rattle.page_check.proofs.spread.claim_word.Reads as claim-word-reads
+use Rattle.page_check.proofs.map.claim.Statement.{statement}
+use Rattle.page_check.proofs.map.claim.Tie as tie
+use Rattle.page_check.proofs.map.claim.Reads as reads
+use Rattle.page_check.proofs.map.claim.Lts as lts
+use Rattle.page_check.proofs.map.bits_from.Reads as bits-from-reads
+use Rattle.page_check.proofs.map.bits_to.Reads as bits-to-reads
+use Rattle.page_check.proofs.map.claim_word.Reads as claim-word-reads
 
 abbrev Inv-loop : tie.InvT-loop
 Inv-loop used₀ o end last m₀ i₀ used m i =

@@ -1,13 +1,13 @@
--- `page_check::spread::settle` meets its contract. Assumes nothing.
+-- `page_check::map::place` meets its contract. Assumes nothing.
 use native.Mathlib.Omega.{arith}
 use borrow.Author.Needs.{needs}
 use Rattle.page_check.proofs.SlotLaws.{tells-no, tells-yes, refuted}
 use Rattle.page_check.proofs.MapLaws.{claimed-none}
-use Rattle.page_check.proofs.spread.settle.Statement.{statement}
-use Rattle.page_check.proofs.spread.settle.Tie as tie
-use Rattle.page_check.proofs.spread.settle.Reads as reads
-use Rattle.page_check.proofs.spread.settle.Lts as lts
-use Rattle.page_check.proofs.spread.claim.Reads as claim-reads
+use Rattle.page_check.proofs.map.place.Statement.{statement}
+use Rattle.page_check.proofs.map.place.Tie as tie
+use Rattle.page_check.proofs.map.place.Reads as reads
+use Rattle.page_check.proofs.map.place.Lts as lts
+use Rattle.page_check.proofs.map.claim.Reads as claim-reads
 
 returns : tie.Need-returns
 returns c = (tells-yes (λ p. omega arith, λ i f g. absurd (omega arith)), λ _. claimed-none _ _ _ (omega arith))
@@ -29,5 +29,5 @@ returns-3 c =
     let w = c .before .before .claim .ensures in
     (record { yes = λ e. (λ p. omega arith, w .0 .yes e); back = λ h. w .0 .back (h .1) }, w .1)
 
-pub settle-spec : {M : Type 1} → statement M
-settle-spec = tie.close (tie.spec returns returns-2 add-claim claim-requires same-length returns-3)
+pub place-spec : {M : Type 1} → statement M
+place-spec = tie.close (tie.spec returns returns-2 add-claim claim-requires same-length returns-3)

@@ -1,7 +1,6 @@
--- `page_check::spread::spread` meets its contract. Assumes nothing.
-use Prim.Native.Nat.{ℕ, _+_, _-_, _*_, _≤_, _<_}
-use mathlib.Core.Path.{_≡_, refl, sym, ap, _∙_}
-use mathlib.Core.Bool.{true, false}
+-- `page_check::map::place_all` meets its contract. Assumes nothing.
+use Prim.Native.Nat.{_+_, _-_, _*_, _≤_, _<_}
+use mathlib.Core.Path.{_≡_, refl}
 use native.Mathlib.Omega.{arith}
 use lib.ListN.{length}
 use denote.Ref.{now}
@@ -13,13 +12,13 @@ use Rattle.page_check.specs.Fit.{Found, RecordsFit, Total}
 use Rattle.page_check.proofs.SlotLaws.{found-at, tells-no, tells-yes, told, refuted}
 use Rattle.page_check.proofs.FitLaws.{fit-none, fit-more, total-none, total-more}
 use Rattle.page_check.proofs.MarkLaws.{Marked, marked-none, marked-more, apart-before, clear-apart}
-use Rattle.page_check.proofs.spread.spread.Statement.{statement}
-use Rattle.page_check.proofs.spread.spread.Tie as tie
-use Rattle.page_check.proofs.spread.spread.Reads as reads
-use Rattle.page_check.proofs.spread.spread.Lts as lts
+use Rattle.page_check.proofs.map.place_all.Statement.{statement}
+use Rattle.page_check.proofs.map.place_all.Tie as tie
+use Rattle.page_check.proofs.map.place_all.Reads as reads
+use Rattle.page_check.proofs.map.place_all.Lts as lts
 use Rattle.layout.proofs.get_u32.Reads as get-u32-reads
-use Rattle.page_check.proofs.spread.settle.Reads as settle-reads
-use Rattle.page_check.proofs.sweep.run_of.Reads as run-of-reads
+use Rattle.page_check.proofs.map.place.Reads as place-reads
+use Rattle.page_check.proofs.slot.run_of.Reads as run-of-reads
 
 abbrev Inv-loop : tie.InvT-loop
 Inv-loop page n f d used₀ total₀ k₀ o₀ used total k o =
@@ -62,8 +61,8 @@ returns c =
     let at = c .before .before .before .before .before .loop in
     (tells-no (λ h. told _ (found (c .before .before) .tells) (not-true _ (c .if1 .taken)) (h .allowed (at .k) (omega arith))), refuted)
 
-settle-requires : tie.Need-settle-requires Inv-loop μ-loop
-settle-requires c κs =
+place-requires : tie.Need-place-requires Inv-loop μ-loop
+place-requires c κs =
     let r = found (c .before .before .before) .runs (not-false _ (c .before .if1 .left)) in
     omega (arith, r .down)
 
@@ -75,7 +74,7 @@ returns-2 c =
     let a = c .before .before .before .before .before .before .before .before .before .before .before .before .before .before .args in
     let at = c .before .before .before .before .before .before .before .before .before .before .loop in
     let r = found (c .before .before .before .before .before .before .before) .runs (not-false _ (c .before .before .before .before .before .if1 .left)) in
-    let w = c .before .before .before .settle in (
+    let w = c .before .before .before .place in (
       tells-no (λ h. told (w .result) (w .ensures .0) (not-true _ (c .if2 .taken)) (
         λ p. omega (arith, r .start p, h .above (at .k) (omega arith) (omega (arith, r .size))),
         clear-apart _ _ _ _ _ _ (at .inv .5) r (λ j g. h .apart j (at .k) g (omega arith)),
@@ -109,7 +108,7 @@ loop-again c =
     let s = found (c .before .before .before .before .before .before .before .before .before) in
     let e = not-false _ (c .before .before .before .before .before .before .before .if1 .left) in
     let r = s .runs e in
-    let w = c .before .before .before .before .before .settle in
+    let w = c .before .before .before .before .before .place in
     let g = not-false _ (c .before .before .if2 .left) in
     let lies = w .ensures .0 .yes g in (
       omega arith,
@@ -131,8 +130,8 @@ returns-3 c =
     let e : at .k ≡ c .before .before .before .before .before .args .n = omega arith in
     rw (← e) (tells-yes (at .inv .3), λ _. at .inv .4)
 
-pub spread-spec : {M : Type 1} → statement M
-spread-spec =
+pub place-all-spec : {M : Type 1} → statement M
+place-all-spec =
     tie.close
     (tie.spec
     Inv-loop
@@ -145,7 +144,7 @@ spread-spec =
     run-of-requires
     same-length
     returns
-    settle-requires
+    place-requires
     same-length-2
     returns-2
     add-total
