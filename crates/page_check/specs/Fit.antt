@@ -14,7 +14,8 @@ pub record Tells (r : Bool) (A : Type 0) : Type 0 where
   pub yes : r ≡ true → A
   pub back : A → r ≡ true
 
--- Slot k, whose record ends at or below `low`, may stand where it is; f is the first free slot.
+-- Slot k may stand where it is: its record ends at or below `low`, a target is long enough, and no slot below the first free one, f,
+-- is free.
 pub record Allowed (s : Slot) (k f low : ℕ) : Type 0 where
   pub under : off s + len s ≤ low
   pub long : isTarget s ≡ true → 8 ≤ len s
@@ -26,6 +27,7 @@ pub record Runs (s : Slot) (low o l : ℕ) : Type 0 where
   pub down : o + l ≤ low
   pub start : 0 < l → o ≡ off s
 
+-- what is found of slot k: whether it is allowed, and its run where it is
 pub record Found (s : Slot) (k f low : ℕ) (fits : Bool) (o l : ℕ) : Type 0 where
   pub tells : Tells fits (Allowed s k f low)
   pub runs : fits ≡ true → Runs s low o l
@@ -41,6 +43,7 @@ pub record Total (v : View) (n t : ℕ) : Type 0 where
   pub is : t ≡ sum n (λ k. len (v .at k))
   pub small : t ≤ 16384 * n
 
+-- The header's numbers fit, and slot f is free; one that is not counted is seen as free.
 pub record HeaderFits (v : View) (n f d : ℕ) : Type 0 where
   pub few : n ≤ 2046
   pub first : f ≤ n

@@ -1,4 +1,5 @@
-// Records in any order: a map of one bit for each byte of the page, on which each record claims its own.
+// Records in any order: a map of one bit for each byte of the page, on which each record claims its own. A record that is refused ends
+// the check, so what the map then holds is never read.
 use crate::sweep::Pass;
 ghost use mathlib.Core.Path.{_≡_};
 ghost use mathlib.Core.Bool.{true};
@@ -70,6 +71,8 @@ fn place(used: &mut [usize], d: usize, o: usize, l: usize) -> bool
     claim(used, o, o + l)
 }
 
+// "every record of positive length lies between data start and 16,384 and overlaps no other; a record of length 0 has an offset of at
+// most 16,384; a target has length 8 or more": every slot is looked at, so a no is as good as a yes.
 pub fn place_all(page: &[u8], n: usize, f: usize, d: usize, used: &mut [usize]) -> Pass
     requires { ⌜ (length (now page) ≡ 16384) × (n ≡ view (now page) .slotCount) × (n ≤ 2046) × (length (now used) ≡ 256) × Blank (now used) ⌝ }
     ensures { λ r. ⌜ Tells (r .fits) (RecordsFit (view (now (page .entry))) n f d) × (r .fits ≡ true → Total (view (now (page .entry))) n (r .total)) ⌝ }

@@ -12,8 +12,8 @@ pub struct Pass {
     pub total: usize,
 }
 
-// It may only say yes: records in another order can lie well too. The first half of a slot is read before the loop turns, so that it
-// stays one load, whatever its bits are used for.
+// It may only say yes: records in another order can lie well too. `low` is where the last record begins, so what ends there overlaps
+// none before it. The first half of a slot is read before the loop turns: so it stays one load, whatever its bits are used for.
 pub fn sweep(page: &[u8], n: usize, f: usize, d: usize) -> Pass
     requires { ⌜ (length (now page) ≡ 16384) × (n ≡ view (now page) .slotCount) × (n ≤ 2046) ⌝ }
     ensures { λ r. ⌜ (r .fits ≡ true → RecordsFit (view (now (page .entry))) n f d × Total (view (now (page .entry))) n (r .total)) ⌝ }
