@@ -1,0 +1,4 @@
+pub mod SlotLaws
+pub mod FitLaws
+pub mod MapLaws
+pub mod MarkLaws

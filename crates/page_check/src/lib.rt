@@ -1,0 +1,73 @@
+// Whether a page is sound, by document 01's "Sound page": the header, then every slot in one pass, then the free space. Each call
+// checks every page it touches, so this decides the store's speed: it takes time linear in the slots, and in the page's bytes by 64.
+mod map;
+mod slot;
+mod sweep;
+
+use sweep::Pass;
+ghost use mathlib.Core.Path.{_≡_};
+ghost use mathlib.Core.Bool.{true};
+ghost use Prim.Native.Nat.{_≤_, _<_};
+ghost use lib.ListN.{length};
+ghost use Rattle.store.specs.Page.{view, sound};
+ghost use Rattle.page_check.specs.Fit.{Tells, HeaderFits, RecordsFit, Total};
+
+// "count at most 2,046", "12 + 8 × count ≤ data start ≤ 16,384", and that the first free slot is free: it is the count if none is.
+// That no slot below it is free is found with the records.
+fn header_fits(page: &[u8], n: usize, f: usize, d: usize) -> bool
+    requires { ⌜ (length (now page) ≡ 16384) × (n ≡ view (now page) .slotCount) × (n < 65536) ⌝ }
+    ensures { λ r. ⌜ Tells r (HeaderFits (view (now (page .entry))) n f d) ⌝ }
+{
+    if 2046 < n {
+        return false;
+    }
+    if n < f {
+        return false;
+    }
+    if d < 12 + 8 * n {
+        return false;
+    }
+    if 16384 < d {
+        return false;
+    }
+    if f == n {
+        return true;
+    }
+    layout::slots::is_free(layout::slots::get_slot(page, f))
+}
+
+// Whether the n records lie well and apart, and the sum of their lengths. Where they lie in the order of their slots, as inserts leave
+// them, no map is needed; where they do not, the map decides.
+fn records_fit(page: &[u8], n: usize, f: usize, d: usize) -> Pass
+    requires { ⌜ (length (now page) ≡ 16384) × (n ≡ view (now page) .slotCount) × (n ≤ 2046) ⌝ }
+    ensures { λ r. ⌜ Tells (r .fits) (RecordsFit (view (now (page .entry))) n f d) × (r .fits ≡ true → Total (view (now (page .entry))) n (r .total)) ⌝ }
+{
+    let swept = sweep::sweep(page, n, f, d);
+    if swept.fits {
+        return swept;
+    }
+    let mut used = [0usize; 256];
+    map::place_all(page, n, f, d, &mut used)
+}
+
+// "A slot count of 0 means a fresh page and its other bytes don't matter." Last comes "free space = 16,372 − 8 × count − the sum of all
+// ordinary and target lengths".
+pub fn is_sound(page: &[u8]) -> bool
+    requires { ⌜ length (now page) ≡ 16384 ⌝ }
+    ensures { λ r. ⌜ r ≡ sound (view (now (page .entry))) ⌝ }
+{
+    let n = layout::header::get_slot_count(page);
+    if n == 0 {
+        return true;
+    }
+    let f = layout::header::get_first_free_slot(page);
+    let d = layout::header::get_data_start(page);
+    if !header_fits(page, n, f, d) {
+        return false;
+    }
+    let records = records_fit(page, n, f, d);
+    if !records.fits {
+        return false;
+    }
+    layout::header::get_free_space(page) + 8 * n + records.total == 16372
+}
