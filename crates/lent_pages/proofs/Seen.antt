@@ -10,7 +10,6 @@ use Rattle.store.specs.Numbers.{cut}
 use Rattle.store.specs.Slots.{off, len, isTarget}
 use Rattle.store.specs.Page.{view, sound}
 use Rattle.store.specs.Segment.{segView, pageOf}
-use Rattle.store.specs.Laws.Views.{Sound}
 use Rattle.store.specs.Laws.Segments.{length-page}
 use Rattle.store.specs.Laws.Calls.{shows-opened, sound-seen}
 use Rattle.store.specs.Laws.SoundSegment.{open-sound, seen-page}

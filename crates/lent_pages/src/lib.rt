@@ -5,7 +5,6 @@ ghost use mathlib.Core.Bool.{_&&_};
 ghost use Prim.Native.Nat.{_+_, _*_, _≤_, _<_};
 ghost use lib.ListN.{length};
 ghost use Rattle.store.specs.Numbers.{cut, be};
-ghost use Rattle.store.specs.Slots.{isTarget};
 ghost use Rattle.store.specs.Page.{view, sound};
 ghost use Rattle.store.specs.Laws.Slots.{Codable};
 ghost use Rattle.store.specs.Segment.{sizeOk, invOk, pageOf, segView, pointsBack};

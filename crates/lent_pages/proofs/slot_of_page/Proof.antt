@@ -1,6 +1,6 @@
 -- `lent_pages::slot_of_page` meets its contract. Assumes nothing.
 use Rattle.store.specs.Page.{view}
-use Prim.Native.Nat.{ℕ, _+_, _*_, _≤_, _<_}
+use Prim.Native.Nat.{ℕ, _+_, _*_, _≤_}
 use native.Mathlib.Omega.{arith}
 use mathlib.Core.Path.{_≡_, refl, ap, _∙_}
 use denote.Ref.{now}
