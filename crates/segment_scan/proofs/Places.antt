@@ -15,7 +15,8 @@ use Rattle.store.specs.Scan.{Scanned, without, overPage, nextRecord, scanFrom, 
 use Rattle.store.specs.Answers.{scannedOf}
 use Rattle.store.specs.Laws.SoundSegment.{seen-pages}
 use Rattle.store.specs.declared.Step.{Step}
-use Rattle.store.specs.declared.Step.the-variants.{End, Damaged}
+use Rattle.store.specs.declared.Step.the-variants.{Record, End, Size, Damaged}
+use Rattle.segment_scan.specs.Held.{pageAfter, slotAfter}
 use Rattle.segment_scan.specs.Pages.{recordOr, onPage, isEnd, orLater}
 
 -- ---- from slot to slot
@@ -107,3 +108,17 @@ module _ (s : List ℕ) (p k : ℕ) where
     pub step-plan : sizeOk s ≡ true → scanPlan (segView s) p k ≡ scanStep s p k
     unfolding scanStep
     step-plan e = rw (le-ltb 32527 p h, e)
+
+-- ---- the place after it
+
+pub page-of : (s : List ℕ) (r : Step) → pageAfter r ≡ scannedOf r s .page
+page-of s (Record i o l p k) = refl
+page-of s (End p k) = refl
+page-of s Size = refl
+page-of s Damaged = refl
+
+pub slot-of : (s : List ℕ) (r : Step) → slotAfter r ≡ scannedOf r s .slot
+slot-of s (Record i o l p k) = refl
+slot-of s (End p k) = refl
+slot-of s Size = refl
+slot-of s Damaged = refl
