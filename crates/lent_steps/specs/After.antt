@@ -7,17 +7,19 @@ use mathlib.Core.Logic.{_≢_}
 use native.Mathlib.Omega.{arith}
 use native.Mathlib.Decide.{decLt}
 use lib.ListN.{length}
-use borrow.Author.Tests.{eqb-true}
+use borrow.Author.Tests.{eqb-true, eq-eqb}
 use Rattle.store.specs.Numbers.{put}
-use Rattle.store.specs.Page.{View, view}
-use Rattle.store.specs.PageSteps.{opened, run, Plan}
+use Rattle.store.specs.Slots.{off, len}
+use Rattle.store.specs.Page.{View, view, slotAt}
+use Rattle.store.specs.PageSteps.{opened, apply, fill, run, Plan, withSlot, filled}
 use Rattle.store.specs.Inventory.{Room, update}
 use Rattle.store.specs.Segment.{segView, pageOf, OnPage, on, carriedOn, carried, sizeOk, invOk}
 use Rattle.store.specs.Laws.Numbers.{length-put, put-nil}
-use Rattle.store.specs.Laws.Exact.{length-run}
+use Rattle.store.specs.Laws.Exact.{Exact, length-run, run-append}
 use Rattle.store.specs.Laws.Segments.{length-page, page-same, page-other, ExactOn}
 use Rattle.store.specs.Laws.SoundPage.{and-both}
 use Rattle.store.specs.Laws.SoundSegment.{seen-page, seen-pages, sized}
+use Rattle.lent_steps.specs.Lent.{put-own}
 
 -- ---- sizes
 
@@ -74,6 +76,28 @@ module _ (s : List ℕ) (e : OnPage) (x : ExactOn s e) where
     -- what it leaves, planned from the segment as it was at first
     pub next-step : (f : View → Plan) → carriedOn (on q (f (segView (carriedOn e s) .page q))) (carriedOn e s) ≡ carried (e ∷ on q (f (segView s .page q)) ∷ []) s
     next-step f = ap (λ (v : View). carriedOn (on q (f v)) (carriedOn e s)) other-seen
+
+-- ---- a record's own bytes, written where it stands
+
+fill-put : (v : View) (k : ℕ) (bs q : List ℕ) → apply (fill k (withSlot v k (v .at k) bs)) q ≡ put q (off (v .at k)) bs
+unfolding apply
+fill-put v k bs q = rw (eq-eqb k k refl)
+
+pub fill-own : (q : List ℕ) (a : Plan) → length q ≡ 16384 → Exact q a → (k : ℕ) (bs : List ℕ) → a .after .bytes k ≡ bs
+    → run (filled a k bs .edits) q ≡ run (a .edits) q
+unfolding view
+fill-own q a whole x k bs e =
+    run-append (a .edits) (fill k (withSlot (a .after) k (a .after .at k) bs) ∷ []) q
+    ∙ fill-put (a .after) k bs r
+    ∙ ap (put r (off (a .after .at k))) (sym e)
+    ∙ subst (λ (v : View). off (v .at k) + len (v .at k) ≤ 16384 → put r (off (v .at k)) (v .bytes k) ≡ r) (x .seen) (λ h. put-own r (off (slotAt r k)) (len (slotAt r k)) (omega (arith, long)))
+    (x .sound .high k)
+  where
+    r : List ℕ
+    r = run (a .edits) q
+
+    long : length r ≡ 16384
+    long = length-run (a .edits) q ∙ whole
 
 -- ---- two steps on different pages, in either order
 
