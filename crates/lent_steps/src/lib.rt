@@ -1,0 +1,66 @@
+// One page of the segment lent on from its middle, to be written: the page steps on page p, and the update of its class.
+use store::Place;
+ghost use mathlib.Core.Path.{_≡_};
+ghost use mathlib.Core.Bool.{true, false};
+ghost use Prim.Native.Nat.{_+_, _*_, _/_, _≤_, _<_, _^_};
+ghost use lib.ListN.{length};
+ghost use Rattle.store.specs.Numbers.{put};
+ghost use Rattle.store.specs.Slots.{isFree};
+ghost use Rattle.store.specs.Page.{view, sound};
+ghost use Rattle.store.specs.PageSteps.{allocate, erase, eraseForRedirect};
+ghost use Rattle.store.specs.Inventory.{Room, update};
+ghost use Rattle.store.specs.Segment.{pageOf, segView, on, carriedOn};
+ghost use Rattle.slotted_page.specs.Words.{pageAfter, placeOf, filledAt};
+
+// A record of these bytes on page p, fresh or in use.
+pub fn insert_on(segment: &mut [u8], p: usize, bytes: &[u8]) -> Place
+    requires { ⌜ (p * 16384 + 16384 ≤ length (now segment)) × (sound (segView (now segment) .page p) ≡ true) × (length (now bytes) ≤ 16364) ⌝ }
+    ensures { λ r. ⌜ (now (segment .exit) ≡ put (now (segment .entry)) (p * 16384) (pageAfter (filledAt (allocate (segView (now (segment .entry)) .page p) (length (now (bytes .entry)))) (now (bytes .entry))) (pageOf (now (segment .entry)) p)))
+        × (r ≡ placeOf (allocate (segView (now (segment .entry)) .page p) (length (now (bytes .entry))))) ⌝ }
+{
+    let a = p * 16384;
+    let e = a + 16384;
+    slotted_page::insert::insert_bytes(&mut segment[a..e], bytes)
+}
+
+// A place of `size` bytes, all zero.
+pub fn allocate_on(segment: &mut [u8], p: usize, size: usize) -> Place
+    requires { ⌜ (p * 16384 + 16384 ≤ length (now segment)) × (sound (segView (now segment) .page p) ≡ true) × (size ≤ 16364) ⌝ }
+    ensures { λ r. ⌜ (now (segment .exit) ≡ put (now (segment .entry)) (p * 16384) (pageAfter (allocate (segView (now (segment .entry)) .page p) size) (pageOf (now (segment .entry)) p)))
+        × (r ≡ placeOf (allocate (segView (now (segment .entry)) .page p) size)) ⌝ }
+{
+    let a = p * 16384;
+    let e = a + 16384;
+    slotted_page::open::allocate_opened(&mut segment[a..e], size)
+}
+
+// Slot k of page p, which is not free, is freed.
+pub fn erase_on(segment: &mut [u8], p: usize, k: usize)
+    requires { ⌜ (p * 16384 + 16384 ≤ length (now segment)) × (sound (segView (now segment) .page p) ≡ true) × (isFree (segView (now segment) .page p .at k) ≡ false) ⌝ }
+    ensures { λ _. ⌜ now (segment .exit) ≡ carriedOn (on p (erase (segView (now (segment .entry)) .page p) k)) (now (segment .entry)) ⌝ }
+{
+    let a = p * 16384;
+    let e = a + 16384;
+    slotted_page::erase::erase(&mut segment[a..e], k);
+}
+
+// Slot k of page p, which is not free, becomes a redirect to the id.
+pub fn erase_for_redirect_on(segment: &mut [u8], p: usize, k: usize, id: usize)
+    requires { ⌜ (p * 16384 + 16384 ≤ length (now segment)) × (sound (segView (now segment) .page p) ≡ true) × (isFree (segView (now segment) .page p .at k) ≡ false) × (id < 2 ^ 62) ⌝ }
+    ensures { λ _. ⌜ now (segment .exit) ≡ carriedOn (on p (eraseForRedirect (segView (now (segment .entry)) .page p) k id)) (now (segment .entry)) ⌝ }
+{
+    let a = p * 16384;
+    let e = a + 16384;
+    slotted_page::erase::erase_for_redirect(&mut segment[a..e], k, id);
+}
+
+// The inventory's class of page p, from the free space that its header says.
+pub fn update_on(segment: &[u8], inventory: &mut [u8], p: usize)
+    requires { ⌜ Room (now inventory) (length (now segment) / 16384) ⌝ }
+    requires { ⌜ (p * 16384 + 16384 ≤ length (now segment)) × (view (pageOf (now segment) p) .freeSpace ≤ 16372) ⌝ }
+    ensures { λ _. ⌜ now (inventory .exit) ≡ update (now (inventory .entry)) (length (now (segment .entry)) / 16384) p (view (pageOf (now (segment .entry)) p) .freeSpace) ⌝ }
+{
+    let n = segment.len() / 16384;
+    let free = lent_pages::free_space_on(segment, p);
+    free_space_inventory::update_page_size(inventory, n, p, free);
+}
