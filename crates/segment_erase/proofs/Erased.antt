@@ -14,13 +14,13 @@ use Rattle.store.specs.PageSteps.{erase}
 use Rattle.store.specs.Inventory.{update}
 use Rattle.store.specs.Segment.{segView, pageOf, sizeOk, invOk, OnPage, on, carriedOn, carried, result, pointsBack, eraseBy, erasePlan, eraseStep}
 use Rattle.store.specs.Answers.{outcome}
-use Rattle.store.specs.Laws.Calls.{Back, back-ok, target-taken, erase-on}
-use Rattle.store.specs.Laws.Segments.{ExactOn}
+use Rattle.store.specs.Laws.SoundPage.{sound-test}
+use Rattle.store.specs.Laws.Calls.{back-ok, target-taken, erase-on}
 use Rattle.store.specs.Laws.SoundSegment.{seen-pages}
 use Rattle.store.specs.declared.Slot.{Slot}
 use Rattle.store.specs.declared.Slot.the-variants.{Ordinary, Free, Redirect, Target}
 use Rattle.store.specs.declared.Answer.the-variants as answer
-use Rattle.lent_steps.specs.After.{Took, took-length, Left, left-own, left-other, left-update, next-took}
+use Rattle.lent_steps.specs.After.{Took, took-length, Left, left-own, left-other, left-update, still, next-took}
 
 -- ---- 1, 2, 4 (root), then by the slot
 
@@ -56,7 +56,7 @@ module _ (s v : List ℕ) (i : ℕ) where
 
   -- ---- an ordinary slot
 
-  abbrev rootStep : OnPage
+  abbrev pub rootStep : OnPage
   rootStep = on (pageNo i) (erase (segView s .page (pageNo i)) (slotNo i))
 
   pub by-ordinary : (t w : List ℕ) → Took s rootStep t → w ≡ update v (length t / 16384) (pageNo i) (view (pageOf t (pageNo i)) .freeSpace)
@@ -73,20 +73,29 @@ module _ (s v : List ℕ) (i : ℕ) where
     unfolding result
     by-damaged e = rw e
 
-    abbrev targetStep : OnPage
+    abbrev pub targetStep : OnPage
     targetStep = on (pageNo j) (erase (segView s .page (pageNo j)) (slotNo j))
 
     module _ (back : pointsBack (segView s) i j ≡ true) (t : List ℕ) (x : Took s rootStep t) where
-      target-exact : ExactOn s targetStep
-      target-exact = let b = back-ok s i j back in erase-on s (pageNo j) (slotNo j) (b .0) (target-taken (segView s .page (pageNo j) .at (slotNo j)) (b .1))
+      away : pageNo j ≢ pageNo i
+      away = back-ok s i j back .2
 
-      -- once both are carried out, from r on
+      target-free : isFree (segView s .page (pageNo j) .at (slotNo j)) ≡ false
+      target-free = target-taken (segView s .page (pageNo j) .at (slotNo j)) (back-ok s i j back .1)
+
+      -- the root's step did not touch the target's page
+      pub target-asks : (pageNo j * 16384 + 16384 ≤ length t) × (sound (segView t .page (pageNo j)) ≡ true) × (isFree (segView t .page (pageNo j) .at (slotNo j)) ≡ false)
+      target-asks =
+          let b = back-ok s i j back .0 in (
+            omega (arith, took-length s rootStep t x, b .fits),
+            still s rootStep t x (pageNo j) away (λ u. sound u ≡ true) (sound-test (segView s .page (pageNo j)) (b .sound)),
+            still s rootStep t x (pageNo j) away (λ u. isFree (u .at (slotNo j)) ≡ false) target-free,
+          )
+
+      -- both carried out, which leaves r
       module _ (r : List ℕ) (er : r ≡ carriedOn (on (pageNo j) (erase (segView t .page (pageNo j)) (slotNo j))) t) where
-        away : pageNo j ≢ pageNo i
-        away = back-ok s i j back .2
-
         took : Took t targetStep r
-        took = next-took s rootStep t x (pageNo j) away (λ u. erase u (slotNo j)) target-exact r er
+        took = next-took s rootStep t x (pageNo j) away (λ u. erase u (slotNo j)) (erase-on s (pageNo j) (slotNo j) (back-ok s i j back .0) target-free) r er
 
         pub target-left : Left r (pageNo j) (targetStep .plan .after)
         target-left = left-own t targetStep r took
@@ -94,13 +103,15 @@ module _ (s v : List ℕ) (i : ℕ) where
         pub root-left : Left r (pageNo i) (rootStep .plan .after)
         root-left = left-other t targetStep r took (pageNo i) (λ e. away (sym e)) (rootStep .plan .after) (left-own s rootStep t x)
 
+        pub both-length : length r ≡ length s
+        both-length = took-length t targetStep r took ∙ took-length s rootStep t x
+
         pub by-redirect : (w y : List ℕ) → w ≡ update v (length r / 16384) (pageNo j) (view (pageOf r (pageNo j)) .freeSpace)
             → y ≡ update w (length r / 16384) (pageNo i) (view (pageOf r (pageNo i)) .freeSpace)
             → outcome (answer.Done i) r y ≡ result s (eraseBy (segView s) v i (Redirect j))
         unfolding result
         by-redirect w y ew ey =
-            let l = took-length t targetStep r took ∙ took-length s rootStep t x in
-            let f = left-update s r (pageNo j) (targetStep .plan .after) target-left l v w ew in
-            let g = left-update s r (pageNo i) (rootStep .plan .after) root-left l w y ey in
+            let f = left-update s r (pageNo j) (targetStep .plan .after) target-left both-length v w ew in
+            let g = left-update s r (pageNo i) (rootStep .plan .after) root-left both-length w y ey in
             let h : r ≡ carried (rootStep ∷ targetStep ∷ []) s = took .is ∙ ap (carriedOn targetStep) (x .is) in
             rw back (λ z. record { answer = 0; id = i; seg = h z; inv = (g ∙ ap (λ (m : List ℕ). update m (segView s .pages) (pageNo i) (rootStep .plan .after .freeSpace)) f) z })

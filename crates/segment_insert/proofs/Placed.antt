@@ -7,7 +7,7 @@ use native.Mathlib.Omega.{arith}
 use lib.ListN.{length, length-replicate}
 use borrow.Author.Tests.{le-ltb, lt-ltb}
 use Rattle.store.specs.Numbers.{put, idOf, zeros}
-use Rattle.store.specs.Page.{View, view, sound}
+use Rattle.store.specs.Page.{sound}
 use Rattle.store.specs.PageSteps.{Plan, filled, Alloc, noRoom, got, allocate}
 use Rattle.store.specs.Inventory.{foundIn}
 use Rattle.store.specs.Segment.{segView, pageOf, sizeOk, invOk, OnPage, on, result, taken, find, findOn, inserted, insertPlan, insertStep, allocateStep}
