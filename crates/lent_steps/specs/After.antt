@@ -1,7 +1,7 @@
 -- What is known of a segment after page steps, for the calls that take several. Assumes nothing.
 use Prim.Native.Nat.{ℕ, zero, suc, _+_, _*_, _/_, _≤_, _<_}
 use mathlib.Core.Path.{_≡_, refl, sym, ap, subst, _∙_}
-use mathlib.Core.Bool.{true, _&&_}
+use mathlib.Core.Bool.{true, false, _&&_}
 use mathlib.Core.List.{List, [], _∷_}
 use mathlib.Core.Logic.{_≢_}
 use native.Mathlib.Omega.{arith}
@@ -9,14 +9,15 @@ use native.Mathlib.Decide.{decLt}
 use lib.ListN.{length}
 use borrow.Author.Tests.{eqb-true, eq-eqb}
 use Rattle.store.specs.Numbers.{put}
-use Rattle.store.specs.Slots.{off, len}
-use Rattle.store.specs.Page.{View, view, slotAt}
-use Rattle.store.specs.PageSteps.{opened, apply, fill, run, Plan, withSlot, filled}
+use Rattle.store.specs.Slots.{off, len, isFree}
+use Rattle.store.specs.Page.{View, view, slotAt, sound}
+use Rattle.store.specs.PageSteps.{opened, apply, fill, run, Plan, withSlot, filled, erase}
 use Rattle.store.specs.Inventory.{Room, update}
-use Rattle.store.specs.Segment.{segView, pageOf, OnPage, on, carriedOn, carried, sizeOk, invOk}
+use Rattle.store.specs.Segment.{segView, pageOf, OnPage, on, carriedOn, sizeOk, invOk}
 use Rattle.store.specs.Laws.Numbers.{length-put, put-nil}
 use Rattle.store.specs.Laws.Exact.{Exact, length-run, run-append}
-use Rattle.store.specs.Laws.Segments.{length-page, page-same, page-other, ExactOn}
+use Rattle.store.specs.Laws.Segments.{length-page, page-same, page-other, ExactOn, exact-skip}
+use Rattle.store.specs.Laws.Calls.{page-ok, erase-on}
 use Rattle.store.specs.Laws.SoundPage.{and-both}
 use Rattle.store.specs.Laws.SoundSegment.{seen-page, seen-pages, sized}
 use Rattle.lent_steps.specs.Lent.{put-own}
@@ -38,44 +39,73 @@ sizes-room s v t w z l m = record { entries = omega (arith, z .one); pages = ome
 
 -- ---- one step
 
-pub carried-length : (e : OnPage) (s : List ℕ) → length (carriedOn e s) ≡ length s
-carried-length e s = length-put s (e .on * 16384) (run (e .plan .edits) (pageOf s (e .on)))
+-- the page step e was carried out on s, and left t
+pub record Took (s : List ℕ) (e : OnPage) (t : List ℕ) : Type 0 where
+  pub exact : ExactOn s e
+  pub is : t ≡ carriedOn e s
 
--- what stands on page p, and that an inventory can be told its free space
+-- what stands on page p, with a free space that an inventory can be told
 pub record Left (t : List ℕ) (p : ℕ) (w : View) : Type 0 where
   pub seen : view (pageOf t p) ≡ w
   pub room : w .freeSpace ≤ 16372
 
+pub left-room : (t : List ℕ) (p : ℕ) (w : View) → Left t p w → view (pageOf t p) .freeSpace ≤ 16372
+left-room t p w h = omega (arith, ap (λ (v : View). v .freeSpace) (h .seen), h .room)
+
 module _ (s : List ℕ) (e : OnPage) (x : ExactOn s e) where
-  run-whole : length (run (e .plan .edits) (pageOf s (e .on))) ≡ 16384
-  run-whole = length-run (e .plan .edits) (pageOf s (e .on)) ∙ length-page s (e .on) (x .inside)
+  ran : List ℕ
+  ran = run (e .plan .edits) (pageOf s (e .on))
+
+  ran-whole : length ran ≡ 16384
+  unfolding ran
+  ran-whole = length-run (e .plan .edits) (pageOf s (e .on)) ∙ length-page s (e .on) (x .inside)
+
+  else-where : (q : ℕ) → q ≢ e .on → pageOf (carriedOn e s) q ≡ pageOf s q
+  unfolding ran
+  else-where = page-other s (e .on) ran ran-whole
+
+module _ (s : List ℕ) (e : OnPage) (t : List ℕ) (x : Took s e t) where
+  pub took-length : length t ≡ length s
+  took-length = ap length (x .is) ∙ length-put s (e .on * 16384) (run (e .plan .edits) (pageOf s (e .on)))
 
   -- the step's page is left as its plan says
-  pub left-own : Left (carriedOn e s) (e .on) (e .plan .after)
+  pub left-own : Left t (e .on) (e .plan .after)
+  unfolding ran
   left-own =
       record {
-        seen = ap view (page-same s (e .on) (run (e .plan .edits) (pageOf s (e .on))) run-whole (x .inside)) ∙ x .exact .seen;
-        room = omega (arith, x .exact .sound .sums);
+        seen = ap (λ (l : List ℕ). view (pageOf l (e .on))) (x .is)
+            ∙ ap view (page-same s (e .on) (ran s e (x .exact)) (ran-whole s e (x .exact)) (x .exact .inside)) ∙ x .exact .exact .seen;
+        room = omega (arith, x .exact .exact .sound .sums);
       }
 
+  -- another page is as it was
   module _ (q : ℕ) (away : q ≢ e .on) where
-    -- another page is as it was
-    pub other-page : pageOf (carriedOn e s) q ≡ pageOf s q
-    other-page = page-other s (e .on) (run (e .plan .edits) (pageOf s (e .on))) run-whole q away
+    pub other-page : pageOf t q ≡ pageOf s q
+    other-page = ap (λ (l : List ℕ). pageOf l q) (x .is) ∙ else-where s e (x .exact) q away
 
-    pub other-seen : segView (carriedOn e s) .page q ≡ segView s .page q
-    other-seen = seen-page (carriedOn e s) q ∙ ap (λ (l : List ℕ). opened (view l)) other-page ∙ sym (seen-page s q)
+    pub other-seen : segView t .page q ≡ segView s .page q
+    other-seen = seen-page t q ∙ ap (λ (l : List ℕ). opened (view l)) other-page ∙ sym (seen-page s q)
 
-    pub left-other : (w : View) → Left s q w → Left (carriedOn e s) q w
+    pub left-other : (w : View) → Left s q w → Left t q w
     left-other w h = record { seen = ap view other-page ∙ h .seen; room = h .room }
 
-    -- what a further step there asks of the segment as it has become
-    pub still : (P : View → Type 0) → P (segView s .page q) → P (segView (carriedOn e s) .page q)
+    -- what a step there asks of t, and what it leaves, are what the plans say of s
+    pub still : (P : View → Type 0) → P (segView s .page q) → P (segView t .page q)
     still P = subst P (sym other-seen)
 
-    -- what it leaves, planned from the segment as it was at first
-    pub next-step : (f : View → Plan) → carriedOn (on q (f (segView (carriedOn e s) .page q))) (carriedOn e s) ≡ carried (e ∷ on q (f (segView s .page q)) ∷ []) s
-    next-step f = ap (λ (v : View). carriedOn (on q (f v)) (carriedOn e s)) other-seen
+    pub next-took : (f : View → Plan) → ExactOn s (on q (f (segView s .page q))) → (w : List ℕ) → w ≡ carriedOn (on q (f (segView t .page q))) t
+        → Took t (on q (f (segView s .page q))) w
+    next-took f y w ew =
+        record {
+          exact = subst (λ (l : List ℕ). ExactOn l (on q (f (segView s .page q)))) (sym (x .is)) (exact-skip s e (on q (f (segView s .page q))) (x .exact) y away);
+          is = ew ∙ ap (λ (v : View). carriedOn (on q (f v)) t) other-seen;
+        }
+
+-- ---- steps by name
+
+module _ (s : List ℕ) (p k : ℕ) (fits : p * 16384 + 16384 ≤ length s) (ok : sound (segView s .page p) ≡ true) (taken : isFree (segView s .page p .at k) ≡ false) where
+  pub erase-on-page : ExactOn s (on p (erase (segView s .page p) k))
+  erase-on-page = erase-on s p k (page-ok s p k fits ok taken) taken
 
 -- ---- a record's own bytes, written where it stands
 
@@ -110,20 +140,21 @@ put-swap (x ∷ s) zero (v ∷ a) zero b h = absurd (omega arith)
 put-swap (x ∷ s) zero (v ∷ a) (suc j) b h = ap {B = List ℕ} (λ r. v ∷ r) (put-swap s zero a j b (omega arith))
 
 pub carried-swap : (s : List ℕ) (e f : OnPage) → ExactOn s e → ExactOn s f → f .on ≢ e .on → carriedOn f (carriedOn e s) ≡ carriedOn e (carriedOn f s)
+unfolding ran
 carried-swap s e f x y n =
-    ap (λ (l : List ℕ). put (carriedOn e s) (f .on * 16384) (run (f .plan .edits) l)) (other-page s e x (f .on) n)
+    ap (λ (l : List ℕ). put (carriedOn e s) (f .on * 16384) (run (f .plan .edits) l)) (else-where s e x (f .on) n)
     ∙ swap (decLt (e .on) (f .on))
-    ∙ ap (λ (l : List ℕ). put (carriedOn f s) (e .on * 16384) (run (e .plan .edits) l)) (sym (other-page s f y (e .on) (λ z. n (sym z))))
+    ∙ ap (λ (l : List ℕ). put (carriedOn f s) (e .on * 16384) (run (e .plan .edits) l)) (sym (else-where s f y (e .on) (λ z. n (sym z))))
   where
     a : List ℕ
-    a = run (e .plan .edits) (pageOf s (e .on))
+    a = ran s e x
 
     b : List ℕ
-    b = run (f .plan .edits) (pageOf s (f .on))
+    b = ran s f y
 
     swap : Dec (e .on < f .on) → put (put s (e .on * 16384) a) (f .on * 16384) b ≡ put (put s (f .on * 16384) b) (e .on * 16384) a
-    swap (yes l) = put-swap s (e .on * 16384) a (f .on * 16384) b (omega (arith, run-whole s e x))
-    swap (no l) = sym (put-swap s (f .on * 16384) b (e .on * 16384) a (omega (arith, run-whole s f y)))
+    swap (yes l) = put-swap s (e .on * 16384) a (f .on * 16384) b (omega (arith, ran-whole s e x))
+    swap (no l) = sym (put-swap s (f .on * 16384) b (e .on * 16384) a (omega (arith, ran-whole s f y)))
 
 -- ---- the inventory, told of a page that the steps left
 

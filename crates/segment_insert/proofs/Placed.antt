@@ -7,7 +7,7 @@ use native.Mathlib.Omega.{arith}
 use lib.ListN.{length, length-replicate}
 use borrow.Author.Tests.{le-ltb, lt-ltb}
 use Rattle.store.specs.Numbers.{put, idOf, zeros}
-use Rattle.store.specs.Page.{View, view, sound}
+use Rattle.store.specs.Page.{sound}
 use Rattle.store.specs.PageSteps.{Plan, filled, Alloc, noRoom, got, allocate}
 use Rattle.store.specs.Inventory.{foundIn}
 use Rattle.store.specs.Segment.{segView, pageOf, sizeOk, invOk, OnPage, on, result, taken, find, findOn, inserted, insertPlan, insertStep, allocateStep}
@@ -23,7 +23,7 @@ use Rattle.store.specs.declared.Answer.{Answer}
 use Rattle.store.specs.declared.Answer.the-variants as answer
 use Rattle.slotted_page.specs.Words.{pageAfter, placeOf, filledAt}
 use Rattle.lent_steps.specs.Lent.{put-own}
-use Rattle.lent_steps.specs.After.{Left, carried-length, left-own, left-update, fill-own}
+use Rattle.lent_steps.specs.After.{Took, took-length, left-own, left-room, left-update, fill-own}
 use Rattle.segment_insert.specs.Words.{insertOn, answerAt, classedAt, Told}
 
 -- ---- before a page is named: 1, 3 and 7
@@ -94,14 +94,13 @@ module _ (s v bs : List ℕ) (n : ℕ) (size : length bs ≡ n) (p : ℕ) (fits 
         go : (a : Alloc) → AllocOk (pageOf s p) n a → t ≡ put s (p * 16384) (pageAfter (filledAt a bs) (pageOf s p)) → Told t p (placeOf a)
         go noRoom o e = tt
         go (got k a) o e =
-            let l = left-own s (on p (filled a k bs)) (exact-at k a o) in
-            let f : view (pageOf t p) .freeSpace ≡ a .after .freeSpace = ap (λ (z : List ℕ). view (pageOf z p) .freeSpace) e ∙ ap (λ (w : View). w .freeSpace) (l .seen) in
-            (omega (arith, o .1, o .0 .sound .few), omega (arith, f, l .room))
+            let l = left-own s (on p (filled a k bs)) t (record { exact = exact-at k a o; is = e }) in
+            (omega (arith, o .1, o .0 .sound .few), left-room t p (filled a k bs .after) l)
 
-    pub placed-at : (x : Answer) (w : List ℕ) → x ≡ answerAt p r → w ≡ classedAt t v p r → outcome x t w ≡ insertOn s v bs p
+    pub placed-at : (y : Answer) (w : List ℕ) → y ≡ answerAt p r → w ≡ classedAt t v p r → outcome y t w ≡ insertOn s v bs p
     unfolding result
-    placed-at x w ex ew =
-        ap (λ (y : Answer). outcome y t w) (ex ∙ ap (answerAt p) er)
+    placed-at y w ey ew =
+        ap (λ (z : Answer). outcome z t w) (ey ∙ ap (answerAt p) er)
         ∙ go (allocate (segView s .page p) n) got-ok et (ew ∙ ap (classedAt t v p) er)
         ∙ sym found-at
       where
@@ -110,8 +109,8 @@ module _ (s v bs : List ℕ) (n : ℕ) (size : length bs ≡ n) (p : ℕ) (fits 
         go noRoom o e f = λ i. record { answer = 8; id = 0; seg = (e ∙ put-own s (p * 16384) 16384 fits) i; inv = f i }
         go (got k a) o e f =
             let g : OnPage = on p (filled a k bs) in
-            let l = subst (λ (z : List ℕ). Left z p (filled a k bs .after)) (sym e) (left-own s g (exact-at k a o)) in
-            let h = left-update s t p (filled a k bs .after) l (ap length e ∙ carried-length g s) v w f in
+            let x : Took s g t = record { exact = exact-at k a o; is = e } in
+            let h = left-update s t p (filled a k bs .after) (left-own s g t x) (took-length s g t x) v w f in
             λ i. record { answer = 0; id = idOf p k; seg = e i; inv = h i }
 
 -- ---- what allocate leaves is what insert of zeros leaves
