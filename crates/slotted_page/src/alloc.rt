@@ -9,7 +9,7 @@ ghost use lib.ListN.{length};
 ghost use Rattle.store.specs.Page.{view};
 ghost use Rattle.store.specs.PageSteps.{run, makeRoom, nextFree, allocate};
 ghost use Rattle.store.specs.Laws.Views.{Sound};
-ghost use Rattle.slotted_page.specs.Words.{Roomed, pageAfter, placeOf, Inside};
+ghost use Rattle.slotted_page.specs.Words.{Roomed, pageBare, pageAfter, placeOf, Inside, PastEntry};
 
 // A gap of n bytes, by compactify where it has to be made; the data start.
 pub fn make_room(page: &mut [u8], n: usize) -> usize
@@ -51,10 +51,11 @@ fn added_for(f: usize, c: usize) -> usize
     0
 }
 
-pub fn allocate(page: &mut [u8], size: usize) -> Place
+// Allocate but for the record's bytes: room is made, and the header and the slot's entry are written.
+pub fn reserve(page: &mut [u8], size: usize) -> Place
     requires { ⌜ (length (now page) ≡ 16384) × Sound (view (now page)) × (size ≤ 16384) ⌝ }
-    ensures { λ r. ⌜ (now (page .exit) ≡ pageAfter (allocate (view (now (page .entry))) size) (now (page .entry)))
-        × (r ≡ placeOf (allocate (view (now (page .entry))) size)) × Inside r size ⌝ }
+    ensures { λ r. ⌜ (now (page .exit) ≡ pageBare (allocate (view (now (page .entry))) size) (now (page .entry)))
+        × (r ≡ placeOf (allocate (view (now (page .entry))) size)) × Inside r size × PastEntry r ⌝ }
 {
     let c = layout::header::get_slot_count(page);
     let f = layout::header::get_first_free_slot(page);
@@ -74,6 +75,20 @@ pub fn allocate(page: &mut [u8], size: usize) -> Place
             length: size,
         },
     );
-    layout::zero_fill(page, d, size);
     Place::At { slot: f, offset: d }
+}
+
+pub fn allocate(page: &mut [u8], size: usize) -> Place
+    requires { ⌜ (length (now page) ≡ 16384) × Sound (view (now page)) × (size ≤ 16384) ⌝ }
+    ensures { λ r. ⌜ (now (page .exit) ≡ pageAfter (allocate (view (now (page .entry))) size) (now (page .entry)))
+        × (r ≡ placeOf (allocate (view (now (page .entry))) size)) × Inside r size ⌝ }
+{
+    let place = reserve(page, size);
+    match place {
+        Place::At { slot, offset } => {
+            layout::zero_fill(page, offset, size);
+            Place::At { slot, offset }
+        }
+        Place::NoRoom => Place::NoRoom,
+    }
 }

@@ -4,5 +4,6 @@ pub mod compact;
 pub mod erase;
 pub mod insert;
 pub mod open;
+pub mod record;
 pub mod relocate;
 pub mod table;
