@@ -1,14 +1,14 @@
 -- The laws of `write`, which every proof on pages cites. Assumes nothing.
-use mathlib.Core.Path.{_≡_, refl, sym, ap, _∙_, subst}
+use mathlib.Core.Path.{_≡_, sym, ap, _∙_}
 use mathlib.Core.List.{List, [], _∷_, _++_, append-assoc, append-nil}
 use Prim.Native.Nat.{ℕ, zero, suc, _+_, _-_, _≤_, _<_}
-use native.Mathlib.Nat.{add-zero, add-suc, suc-add}
+use native.Mathlib.Nat.{add-zero, add-suc}
 use native.Mathlib.Numerals.{add-one}
 use native.Mathlib.Omega.{arith}
-use lib.ListN.{length, getD, take, drop, set, replicate, length-set, length-take, length-drop, length-replicate, length-append, replicate-append-replicate}
+use lib.ListN.{length, getD, take, drop, set, replicate, length-set, length-drop, length-replicate, length-append, replicate-append-replicate}
 use lib.Seq.{getD-set-same, getD-set-other, set-comm, take-suc, drop-cons, getD-take, getD-drop, length-take-le, take-at, drop-at, take-add, take-all}
 use Rattle.store.specs.Numbers.{cut, put, zeros, fit}
-use Rattle.store.specs.Laws.Numbers.{length-put, put-set, put-nil, cut-same, cut-before, cut-after, put-parts}
+use Rattle.store.specs.Laws.Numbers.{length-put, put-set, put-nil, put-parts}
 
 -- the names of these laws; each is another word for the store's `put` and `cut`
 abbrev pub part : ℕ → ℕ → List ℕ → List ℕ

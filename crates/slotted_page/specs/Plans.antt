@@ -5,7 +5,7 @@ use Prim.Native.Nat.{ℕ, _-_}
 use native.Mathlib.Omega.{arith}
 use lib.ListN.{length}
 use lib.Seq.{take-all}
-use Rattle.store.specs.Numbers.{toBE, zeros, fit}
+use Rattle.store.specs.Numbers.{toBE, fit}
 use Rattle.store.specs.PageSteps.{Plan}
 use Rattle.store.specs.Segment.{SegView, targeted}
 use Rattle.slotted_page.specs.Words.{targetPlan}

@@ -1,25 +1,17 @@
 -- Words for the contracts of the page's functions. Assumes nothing.
-use mathlib.Core.Path.{_≡_}
-use mathlib.Core.List.{List, [], _∷_, _++_}
+use mathlib.Core.List.{List, [], _∷_}
 use mathlib.Core.Bool.{Bool, true, false, cond}
 use Prim.Native.Nat.{ℕ, _+_, _-_, _*_, _≤_}
 use lib.Dec.{ltb}
 use Rattle.store.specs.Numbers.{put, zeros, fit}
 use Rattle.layout.specs.Run.{headOf}
 use Rattle.store.specs.Slots.{off, len, slotBytes, placed}
-use Rattle.store.specs.Page.{View, view}
+use Rattle.store.specs.Page.{View}
 use Rattle.store.specs.PageSteps.{Edit, head, move, commit, fill, Plan, run, withSlot, filled, andThen, makeRoom, moveUnder, shrunk, parked, Alloc, noRoom, got, Relocated, refused, moved, plan}
 use Rattle.store.specs.declared.Slot.{Slot}
 use Rattle.store.specs.declared.Slot.the-variants.{Ordinary, Redirect, Target}
 use Rattle.store.specs.declared.Place.{Place}
 use Rattle.store.specs.declared.Place.the-variants.{At, NoRoom}
-
--- what making room for n bytes leaves: the page q, with data start r
-pub record Roomed (n : ℕ) (p q : List ℕ) (r : ℕ) : Type 0 where
-  pub is : q ≡ run (makeRoom (view p) n .edits) p
-  pub begins : r ≡ makeRoom (view p) n .after .dataStart
-  pub low : 12 + 8 * view p .slotCount + n ≤ r
-  pub high : r ≤ 16384
 
 -- ---- the place of a record
 

@@ -7,22 +7,9 @@ ghost use Prim.Native.Nat.{_+_, _-_, _*_, _≤_, _<_};
 ghost use lib.Dec.{eqb};
 ghost use lib.ListN.{length};
 ghost use Rattle.store.specs.Page.{view};
-ghost use Rattle.store.specs.PageSteps.{run, makeRoom, nextFree, allocate};
+ghost use Rattle.store.specs.PageSteps.{nextFree, allocate};
 ghost use Rattle.store.specs.Laws.Views.{Sound};
-ghost use Rattle.slotted_page.specs.Words.{Roomed, pageBare, pageAfter, placeOf, Inside, PastEntry};
-
-// A gap of n bytes, by compactify where it has to be made; the data start.
-pub fn make_room(page: &mut [u8], n: usize) -> usize
-    requires { ⌜ (length (now page) ≡ 16384) × Sound (view (now page)) × (n ≤ view (now page) .freeSpace) ⌝ }
-    ensures { λ r. ⌜ Roomed n (now (page .entry)) (now (page .exit)) r ⌝ }
-{
-    let c = layout::header::get_slot_count(page);
-    let d = layout::header::get_data_start(page);
-    if d - (12 + 8 * c) < n {
-        return crate::compact::compactify(page);
-    }
-    d
-}
+ghost use Rattle.slotted_page.specs.Words.{pageBare, pageAfter, placeOf, Inside, PastEntry};
 
 // The lowest free slot from k on, or the count.
 fn next_free(page: &[u8], k: usize, c: usize) -> usize
@@ -65,7 +52,7 @@ pub fn reserve(page: &mut [u8], size: usize) -> Place
         return Place::NoRoom;
     }
     let next = next_free(page, f + 1, c);
-    let d = make_room(page, size + more) - size;
+    let d = compactify::room::make_room(page, size + more) - size;
     layout::header::set_header(page, c + more / 8, next, d, n - (size + more));
     layout::slots::write_slot(
         page,

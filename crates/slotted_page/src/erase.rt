@@ -1,13 +1,13 @@
 // Erase, and erase for a redirect.
 use store::Slot;
 ghost use mathlib.Core.Path.{_≡_};
-ghost use mathlib.Core.Bool.{cond, false};
+ghost use mathlib.Core.Bool.{cond};
 ghost use Prim.Native.Nat.{_+_, _*_, _≤_, _<_, _^_, min};
 ghost use lib.Dec.{eqb};
 ghost use lib.ListN.{length};
-ghost use Rattle.store.specs.Slots.{len, isFree};
+ghost use Rattle.store.specs.Slots.{len};
 ghost use Rattle.store.specs.Page.{view};
-ghost use Rattle.store.specs.PageSteps.{freeBelow, pruned, startWithout, eraseForRedirect, run, erase};
+ghost use Rattle.store.specs.PageSteps.{freeBelow, pruned, eraseForRedirect, run, erase};
 ghost use Rattle.store.specs.Laws.Views.{Sound};
 ghost use Rattle.slotted_page.specs.Words.{redirectPlan};
 

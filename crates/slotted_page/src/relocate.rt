@@ -77,7 +77,7 @@ fn put_under(page: &mut [u8], k: usize, s: Slot, size: usize) -> usize
     let c = layout::header::get_slot_count(page);
     let f = layout::header::get_first_free_slot(page);
     let n = layout::header::get_free_space(page);
-    let d = crate::alloc::make_room(page, size) - size;
+    let d = compactify::room::make_room(page, size) - size;
     commit(page, k, placed_slot(s, d, size), c, f, d, n - size);
     d
 }
