@@ -9,7 +9,7 @@ ghost use lib.ListN.{length};
 ghost use Rattle.store.specs.Page.{view};
 ghost use Rattle.store.specs.PageSteps.{nextFree, allocate};
 ghost use Rattle.store.specs.Laws.Views.{Sound};
-ghost use Rattle.slotted_page.specs.Words.{pageBare, pageAfter, placeOf, Inside, PastEntry};
+ghost use Rattle.slotted_page.specs.Words.{pageBare, placeOf, Inside, PastEntry};
 
 // The lowest free slot from k on, or the count.
 fn next_free(page: &[u8], k: usize, c: usize) -> usize
@@ -63,19 +63,4 @@ pub fn reserve(page: &mut [u8], size: usize) -> Place
         },
     );
     Place::At { slot: f, offset: d }
-}
-
-pub fn allocate(page: &mut [u8], size: usize) -> Place
-    requires { ⌜ (length (now page) ≡ 16384) × Sound (view (now page)) × (size ≤ 16384) ⌝ }
-    ensures { λ r. ⌜ (now (page .exit) ≡ pageAfter (allocate (view (now (page .entry))) size) (now (page .entry)))
-        × (r ≡ placeOf (allocate (view (now (page .entry))) size)) × Inside r size ⌝ }
-{
-    let place = reserve(page, size);
-    match place {
-        Place::At { slot, offset } => {
-            layout::zero_fill(page, offset, size);
-            Place::At { slot, offset }
-        }
-        Place::NoRoom => Place::NoRoom,
-    }
 }
