@@ -9,7 +9,7 @@ use lib.ListN.{length, length-replicate}
 use Rattle.store.specs.Numbers.{put, zeros}
 use Rattle.store.specs.Slots.{off, len, slotBytes}
 use Rattle.store.specs.Page.{View}
-use Rattle.store.specs.PageSteps.{Edit, apply, commit, fill, move, run, withSlot, Plan, filled, Alloc, noRoom, got, Relocated, refused, moved}
+use Rattle.store.specs.PageSteps.{Edit, apply, commit, fill, move, run, withSlot, Alloc, noRoom, got, Relocated, refused, moved}
 use Rattle.store.specs.Laws.Numbers.{put-nil}
 use Rattle.store.specs.Laws.Views.{upd-same}
 use Rattle.store.specs.Laws.Exact.{run-append}
@@ -34,7 +34,7 @@ put-over (x ∷ p) zero (y ∷ a) [] h = absurd (omega arith)
 put-over (x ∷ p) zero (y ∷ a) (z ∷ b) h = ap {B = List ℕ} (λ r. z ∷ r) (put-over p zero a b (omega arith))
 
 -- two writes, the first below the second
-put-swap : (p : List ℕ) (i j : ℕ) (a b : List ℕ) → i + length a ≤ j → put (put p j b) i a ≡ put (put p i a) j b
+pub put-swap : (p : List ℕ) (i j : ℕ) (a b : List ℕ) → i + length a ≤ j → put (put p j b) i a ≡ put (put p i a) j b
 put-swap [] i j a b h = refl
 put-swap (x ∷ p) (suc i) zero a b h = absurd (omega arith)
 put-swap (x ∷ p) (suc i) (suc j) a b h = ap {B = List ℕ} (λ r. x ∷ r) (put-swap p i j a b (omega arith))
@@ -157,3 +157,7 @@ module _ (p q : List ℕ) where
       → (q ≡ pageMoved r p) × (false ≡ wasMoved r) × ((bs : List ℕ) → q ≡ pageMoved (refilled r k bs) p)
   refused-done k refused e e₁ = (e₁, refl, λ bs. e₁)
   refused-done k (moved a) e e₁ = let z : _≡_ {A = ℕ} 1 0 = ap tag e in absurd (omega arith)
+
+  pub unmoved-done : (k : ℕ) (r : Relocated) (bs : List ℕ) → false ≡ wasMoved r → q ≡ pageMoved r p → q ≡ pageMoved (refilled r k bs) p
+  unmoved-done k refused bs e e₁ = e₁
+  unmoved-done k (moved a) bs e e₁ = let z : _≡_ {A = ℕ} 0 1 = cc in absurd (omega arith)

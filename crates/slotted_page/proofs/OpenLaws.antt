@@ -1,9 +1,9 @@
 -- A fresh page: initialised, then as any other. Assumes nothing.
 use mathlib.Core.Path.{_≡_, refl, sym, ap, _∙_}
 use mathlib.Core.Bool.{true, false}
-use mathlib.Core.List.{List, [], _∷_, _++_}
+use mathlib.Core.List.{List, [], _++_}
 use mathlib.Core.Logic.{_≢_}
-use Prim.Native.Nat.{ℕ, zero, suc, _+_, _-_, _≤_}
+use Prim.Native.Nat.{ℕ, _+_, _-_, _≤_}
 use native.Mathlib.Omega.{arith}
 use lib.ListN.{length}
 use lib.Dec.{ltb, eqb}
@@ -11,7 +11,7 @@ use borrow.Author.Tests.{le-ltb, eq-eqb, ne-eqb}
 use Rattle.store.specs.Numbers.{put, zeros, toBE}
 use Rattle.store.specs.Slots.{slotBytes}
 use Rattle.store.specs.Page.{View, view, sound}
-use Rattle.store.specs.PageSteps.{opened, initialised, apply, commit, putHead, headBytes, withHead, allocated, allocate}
+use Rattle.store.specs.PageSteps.{opened, initialised, apply, putHead, headBytes, withHead, allocate}
 use Rattle.store.specs.Laws.Numbers.{length-put}
 use Rattle.store.specs.Laws.Edits.{head-view}
 use Rattle.store.specs.Laws.Views.{Sound, sound-fits}

@@ -19,7 +19,6 @@ use Rattle.store.specs.Laws.Compactify.{placed-is}
 use Rattle.store.specs.Laws.Relocate.{park-exact}
 use Rattle.store.specs.declared.Slot.{Slot}
 use Rattle.store.specs.declared.Slot.the-variants.{Ordinary, Free, Redirect, Target}
-use Rattle.store.specs.declared.Place.{Place}
 use Rattle.store.specs.declared.Place.the-variants.{At, NoRoom}
 use Rattle.layout.specs.Run.{headOf}
 use Rattle.compactify.specs.Room.{Roomed}

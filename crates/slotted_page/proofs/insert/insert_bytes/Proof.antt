@@ -46,8 +46,7 @@ returns c =
     let a = b .args in
     let n = length (a .bytes .now) in
     let v = opened (view (a .page .now)) in
-    let e = sym (g .place .given .1) ∙ u .reserve-opened .ensures .1 in
-    (
+    let e = sym (g .place .given .1) ∙ u .reserve-opened .ensures .1 in (
       fill-done (g .place .given .0 .0) (g .place .given .0 .1 .0) (zeros n) (a .page .now) (u .reserve-opened .last .0) (z .copy-in .last .0) (allocate v n) (a .bytes .now)
           (allocate-ended (a .page .now) v n (sound-opened (a .page .now) (b .pre .0) (b .pre .1))) (sym (length-replicate n _)) e (u .reserve-opened .ensures .0) (z .copy-in .ensures),
       e,

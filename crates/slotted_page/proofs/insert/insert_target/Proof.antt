@@ -85,8 +85,7 @@ returns c =
     let s = sound-opened (a .page .now) (b .pre .0) (b .pre .1) in
     let o = g .place .given .0 .1 .0 in
     let bs = toBE 8 (a .id) ++ fit (a .size) (a .bytes .now) in
-    let e = sym (g .place .given .1) ∙ u .reserve-opened .ensures .1 in
-    (
+    let e = sym (g .place .given .1) ∙ u .reserve-opened .ensures .1 in (
       target-done (g .place .given .0 .0) o (zeros n) (a .page .now) (u .reserve-opened .last .0) (w .write-slot .last .0) (allocate v n) n bs (z .fit-in .last .0)
           (allocate-ended (a .page .now) v n s) (allocate-sized v n s) (omega (arith, length-fit (a .size) (a .bytes .now), length-zeros n)) (subst PastEntry (g .place .given .1) (u .reserve-opened .ensures .3))
           e (u .reserve-opened .ensures .0) (w .write-slot .ensures) (z .fit-in .ensures ∙ rw (i .put-u64 .ensures) (sym (write-append o (toBE 8 (a .id)) (fit (a .size) (a .bytes .now)) (w .write-slot .last .0)))),

@@ -43,8 +43,7 @@ returns c =
     let b = u .before .before .before in
     let a = b .args in
     let v = opened (view (a .page .now)) in
-    let e = sym (g .place .given .1) ∙ u .reserve-opened .ensures .1 in
-    (
+    let e = sym (g .place .given .1) ∙ u .reserve-opened .ensures .1 in (
       written-done (g .place .given .0 .0) (g .place .given .0 .1 .0) (zeros (a .size)) (a .page .now) (u .reserve-opened .last .0) (z .zero-fill .last .0) (allocate v (a .size))
           (allocate-ended (a .page .now) v (a .size) (sound-opened (a .page .now) (b .pre .0) (b .pre .1))) e (u .reserve-opened .ensures .0) (z .zero-fill .ensures),
       e,

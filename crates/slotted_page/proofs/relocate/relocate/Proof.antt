@@ -1,4 +1,7 @@
 -- `slotted_page::relocate::relocate` meets its contract. Assumes nothing.
+use mathlib.Core.Path.{ap}
+use native.Mathlib.Omega.{arith}
+use Rattle.store.specs.Slots.{len}
 use borrow.Author.Needs.{needs}
 use Rattle.slotted_page.proofs.relocate.relocate.Statement.{statement}
 use Rattle.slotted_page.proofs.relocate.relocate.Tie as tie
@@ -19,7 +22,12 @@ len-of-requires : tie.Need-len-of-requires
 len-of-requires c κs = search needs
 
 settle-requires : tie.Need-settle-requires
-settle-requires c κs = ?
+settle-requires c κs =
+    let e = c .before in
+    let l = c .before .before in
+    let g = c .before .before .before in
+    let b = g .before .before .before in
+    (b .pre .0, b .pre .1, b .pre .2, omega (arith, ap len (g .get-slot .ensures .0), l .len-of .ensures, e .if1 .taken))
 
 same-length : tie.Need-same-length
 same-length c = search needs
