@@ -1,53 +1,25 @@
--- Making room and allocate against the store's plans. Assumes nothing.
-use mathlib.Core.Path.{_≡_, refl, sym, ap, _∙_}
+-- Allocate against the store's plan. Assumes nothing.
+use mathlib.Core.Path.{_≡_, refl, sym, ap, _∙_, subst}
 use mathlib.Core.Bool.{Bool, true, false, cond}
 use mathlib.Core.List.{List, [], _∷_, _++_}
 use Prim.Native.Nat.{ℕ, zero, suc, _+_, _-_, _*_, _/_, _≤_, _<_}
 use native.Mathlib.Omega.{arith}
-use lib.ListN.{length}
 use lib.Dec.{ltb, eqb}
-use borrow.Author.Tests.{lt-ltb, le-ltb, eq-eqb, ne-eqb}
+use borrow.Author.Tests.{lt-ltb, le-ltb}
 use Rattle.store.specs.Numbers.{put, zeros, upd}
 use Rattle.store.specs.Slots.{slotBytes, off, len, isFree}
-use Rattle.store.specs.Page.{View, view}
-use Rattle.store.specs.PageSteps.{apply, commit, run, withHead, withSlot, Plan, stay, andThen, gap, makeRoom, compactify, nextFree, isNew, cost, allocated, noRoom, got, allocate}
+use Rattle.store.specs.Page.{View}
+use Rattle.store.specs.PageSteps.{Edit, commit, run, withHead, plan, andThen, makeRoom, nextFree, isNew, cost, allocated, noRoom, got, allocate}
 use Rattle.store.specs.Laws.Views.{Sound, upd-same}
-use Rattle.store.specs.Laws.Exact.{run-append}
-use Rattle.store.specs.Laws.Compactify.{Kept, compact-exact, compact-keeps, compact-gap}
+use Rattle.store.specs.Laws.Calls.{by-test}
+use Rattle.store.specs.Laws.Compactify.{Kept}
 use Rattle.store.specs.declared.Slot.{Slot}
-use Rattle.store.specs.declared.Slot.the-variants.{Ordinary, Free, Redirect, Target}
-use Rattle.store.specs.declared.Place.{Place}
+use Rattle.store.specs.declared.Slot.the-variants.{Ordinary}
 use Rattle.store.specs.declared.Place.the-variants.{At, NoRoom}
 use Rattle.layout.specs.Run.{headOf}
-use Rattle.slotted_page.specs.Words.{Roomed, pageAfter, placeOf}
-use Rattle.slotted_page.proofs.StepLaws.{commit-writes}
-
--- ---- room
-
-module _ (p : List ℕ) (n r : ℕ) (whole : length p ≡ 16384) (s : Sound (view p)) where
-  pub room-made : (q : List ℕ) → n ≤ view p .freeSpace → gap (view p) < n → q ≡ run (compactify (view p) .edits) p → r ≡ compactify (view p) .after .dataStart → Roomed n p q r
-  room-made q h g e b =
-      let x = compact-exact p (view p) whole refl s .sound in
-      let k = compact-keeps (view p) s in
-      let t : ltb (gap (view p)) n ≡ true = lt-ltb (gap (view p)) n g in
-      record {
-        is = rw t e;
-        begins = rw t b;
-        low = omega (arith, x .dir, k .slotCount, compact-gap (view p) s);
-        high = omega (arith, x .start≤);
-      }
-
-  pub room-there : n ≤ gap (view p) → r ≡ view p .dataStart → Roomed n p p r
-  room-there g b =
-      let t : ltb (gap (view p)) n ≡ false = le-ltb (gap (view p)) n g in
-      record { is = rw t; begins = rw t b; low = omega (arith, s .dir); high = omega (arith, s .start≤) }
-
-pub roomy-keeps : (v : View) (n : ℕ) → Sound v → Kept v (makeRoom v n .after)
-roomy-keeps v n s = go (ltb (gap v) n)
-  where
-    go : (b : Bool) → Kept v (cond b (compactify v) (stay v) .after)
-    go true = compact-keeps v s
-    go false = record { slotCount = refl; firstFree = refl; freeSpace = refl; bytes = λ j. refl; lens = λ j. refl; kinds = λ j. refl; tags = λ j. refl }
+use Rattle.compactify.proofs.RoomLaws.{roomy-keeps}
+use Rattle.slotted_page.specs.Words.{unfilled, pageBare, placeOf}
+use Rattle.slotted_page.proofs.FillLaws.{run-bare, Ends, Ended, Sized, commit-ends}
 
 -- ---- the next free slot
 
@@ -78,46 +50,68 @@ new-cost : (b : Bool) (n : ℕ) → cond b (n + 8) n ≡ n + cond b 8 0
 new-cost true n = refl
 new-cost false n = omega arith
 
+-- the header that allocate leaves
+abbrev headAfter : View → ℕ → View
+headAfter w n =
+    withHead w (cond (isNew w) (w .slotCount + 1) (w .slotCount)) (nextFree (w .slotCount - (w .firstFree + 1)) (w .at) (w .firstFree + 1)) (w .dataStart - n) (w .freeSpace - cost w n)
+
 module _ (v : View) (size c f n m : ℕ) (ec : c ≡ v .slotCount) (ef : f ≡ v .firstFree) (en : n ≡ v .freeSpace) (em : m ≡ cond (eqb f c) 8 0) where
   cost-is : cost v size ≡ size + m
   cost-is = rw (em, ec, ef) (new-cost (isNew v) size)
 
-  pub allocate-none : (p : List ℕ) → n < size + m → (p ≡ pageAfter (allocate v size) p) × (NoRoom ≡ placeOf (allocate v size))
+  pub reserve-none : (p : List ℕ) → n < size + m → (p ≡ pageBare (allocate v size) p) × (NoRoom ≡ placeOf (allocate v size))
   unfolding allocate
-  allocate-none p h =
+  reserve-none p h =
       let t : ltb (v .freeSpace) (cost v size) ≡ true = lt-ltb (v .freeSpace) (cost v size) (omega (arith, cost-is)) in
       rw t (refl, refl)
 
-  -- the commit, on a page that shows w, which keeps v's numbers
-  commit-done : (w : View) → Kept v w → (r next : ℕ) (q₁ q₂ q₃ q₄ : List ℕ) → r ≡ w .dataStart → next ≡ nextFree (c - (f + 1)) (v .at) (f + 1)
+  -- the header and the entry, on a page that shows w, which keeps v's numbers
+  entry-done : (w : View) → Kept v w → (es : List Edit) (r next : ℕ) (p q₁ q₂ q₃ : List ℕ) → r ≡ w .dataStart → next ≡ nextFree (c - (f + 1)) (v .at) (f + 1)
+      → q₁ ≡ run es p
       → q₂ ≡ put q₁ 0 (headOf (c + m / 8) next (r - size) (n - (size + m)))
       → q₃ ≡ put q₂ (12 + 8 * f) (slotBytes (Ordinary (r - size) size))
-      → q₄ ≡ put q₃ (r - size) (zeros size)
-      → q₄ ≡ apply (commit (w .firstFree) (allocated w size)) q₁
-  commit-done w k r next q₁ q₂ q₃ q₄ er ex e₂ e₃ e₄ =
+      → q₃ ≡ run (unfilled (es ++ commit (w .firstFree) (allocated w size) ∷ [])) p
+  entry-done w k es r next p q₁ q₂ q₃ er ex e₁ e₂ e₃ =
       let a : w .firstFree ≡ f = k .firstFree ∙ sym ef in
       let b : w .slotCount ≡ c = k .slotCount ∙ sym ec in
       let y : w .freeSpace ≡ n = k .freeSpace ∙ sym en in
       let g : cond (isNew w) (w .slotCount + 1) (w .slotCount) ≡ c + m / 8 = rw (a, b, em) (new-count (eqb f c) c) in
       let h : cost w size ≡ size + m = rw (a, b, em) (new-cost (eqb f c) size) in
       let x : nextFree (w .slotCount - (w .firstFree + 1)) (w .at) (w .firstFree + 1) ≡ next = rw (a, b) (next-same (c - (f + 1)) (v .at) (w .at) (f + 1) (k .kinds) ∙ sym ex) in
-      let u : View = withHead w (cond (isNew w) (w .slotCount + 1) (w .slotCount)) (nextFree (w .slotCount - (w .firstFree + 1)) (w .at) (w .firstFree + 1)) (w .dataStart - size) (w .freeSpace - cost w size) in
-      sym (commit-writes u (w .firstFree) (Ordinary (w .dataStart - size) size) (zeros size) q₁ ∙ rw (g, x, h, a, y, ← er, ← e₂, ← e₃) (sym e₄))
+      sym (run-bare es (headAfter w size) (w .firstFree) (Ordinary (w .dataStart - size) size) (zeros size) p ∙ rw (g, x, h, a, y, ← er, ← e₁, ← e₂) (sym e₃))
 
-  pub allocate-done : Sound v → (r next : ℕ) (p q₁ q₂ q₃ q₄ : List ℕ) → size + m ≤ n
+  pub reserve-done : Sound v → (r next : ℕ) (p q₁ q₂ q₃ : List ℕ) → size + m ≤ n
       → next ≡ nextFree (c - (f + 1)) (v .at) (f + 1)
       → q₁ ≡ run (makeRoom v (size + m) .edits) p → r ≡ makeRoom v (size + m) .after .dataStart
       → q₂ ≡ put q₁ 0 (headOf (c + m / 8) next (r - size) (n - (size + m)))
       → q₃ ≡ put q₂ (12 + 8 * f) (slotBytes (Ordinary (r - size) size))
-      → q₄ ≡ put q₃ (r - size) (zeros size)
-      → (q₄ ≡ pageAfter (allocate v size) p) × (At f (r - size) ≡ placeOf (allocate v size))
+      → (q₃ ≡ pageBare (allocate v size) p) × (At f (r - size) ≡ placeOf (allocate v size))
   unfolding allocate
-  allocate-done s r next p q₁ q₂ q₃ q₄ h ex e₁ er e₂ e₃ e₄ =
+  reserve-done s r next p q₁ q₂ q₃ h ex e₁ er e₂ e₃ =
       let t : ltb (v .freeSpace) (cost v size) ≡ false = le-ltb (v .freeSpace) (cost v size) (omega (arith, cost-is)) in
       let w : View = makeRoom v (size + m) .after in
       let k : Kept v w = roomy-keeps v (size + m) s in
-      let d = commit-done w k r next q₁ q₂ q₃ q₄ er ex e₂ e₃ e₄ in
       let j : off (upd (w .at) (w .firstFree) (Ordinary (w .dataStart - size) size) (v .firstFree)) ≡ r - size =
       rw (k .firstFree) (ap off (upd-same (w .at) (v .firstFree) (Ordinary (w .dataStart - size) size)) ∙ rw er) in
-      rw (t, cost-is)
-      (d ∙ sym (run-append (makeRoom v (size + m) .edits) (commit (w .firstFree) (allocated w size) ∷ []) p ∙ rw (← e₁)), λ i. At (ef i) (sym j i))
+      rw (t, cost-is) (entry-done w k (makeRoom v (size + m) .edits) r next p q₁ q₂ q₃ er ex e₁ e₂ e₃, λ i. At (ef i) (sym j i))
+
+-- the record's bytes: the plan's own zeros, or any of its size
+pub allocate-ended : (p : List ℕ) (v : View) (n : ℕ) → Sound v → Ended p (zeros n) (allocate v n)
+unfolding allocate
+allocate-ended p v n s =
+    by-test (Ended p (zeros n)) (ltb (v .freeSpace) (cost v n)) noRoom (got (v .firstFree) (andThen (makeRoom v (cost v n)) (λ u. plan (commit (u .firstFree) (allocated u n) ∷ []) (allocated u n))))
+    (λ e. tt)
+    (λ e.
+    let w : View = makeRoom v (cost v n) .after in
+    let es : List Edit = makeRoom v (cost v n) .edits in
+    subst (λ (j : ℕ). Ends p j (zeros n) (es ++ commit (w .firstFree) (allocated w n) ∷ []) (allocated w n)) (roomy-keeps v (cost v n) s .firstFree)
+    (commit-ends p es (headAfter w n) (w .firstFree) (Ordinary (w .dataStart - n) n) (zeros n)))
+
+pub allocate-sized : (v : View) (n : ℕ) → Sound v → Sized n (allocate v n)
+unfolding allocate
+allocate-sized v n s =
+    by-test (Sized n) (ltb (v .freeSpace) (cost v n)) noRoom (got (v .firstFree) (andThen (makeRoom v (cost v n)) (λ u. plan (commit (u .firstFree) (allocated u n) ∷ []) (allocated u n))))
+    (λ e. tt)
+    (λ e.
+    let w : View = makeRoom v (cost v n) .after in
+    ap (λ (j : ℕ). len (allocated w n .at j)) (sym (roomy-keeps v (cost v n) s .firstFree)) ∙ ap len (upd-same (w .at) (w .firstFree) (Ordinary (w .dataStart - n) n)))

@@ -1,7 +1,6 @@
 pub mod AllocLaws
 pub mod FillLaws
-pub mod KeyLaws
 pub mod OpenLaws
-pub mod PackLaws
+pub mod RecordLaws
 pub mod RelocLaws
 pub mod StepLaws

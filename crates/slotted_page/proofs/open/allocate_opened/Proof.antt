@@ -1,27 +1,36 @@
 -- `slotted_page::open::allocate_opened` meets its contract. Assumes nothing.
+use mathlib.Core.Path.{sym, subst, _∙_}
 use native.Mathlib.Omega.{arith}
-use Rattle.slotted_page.proofs.OpenLaws.{init-sound, fresh-done, used-sound, used-done}
+use Rattle.store.specs.Numbers.{zeros}
+use Rattle.store.specs.Page.{view}
+use Rattle.store.specs.PageSteps.{opened, allocate}
+use Rattle.store.specs.Laws.SoundPage.{sound-opened}
+use Rattle.store.specs.declared.Place.{Place}
+use Rattle.slotted_page.specs.Words.{Inside}
+use Rattle.slotted_page.proofs.AllocLaws.{allocate-ended}
+use Rattle.slotted_page.proofs.FillLaws.{written-done, none-done}
 use borrow.Author.Needs.{needs}
 use Rattle.slotted_page.proofs.open.allocate_opened.Statement.{statement}
 use Rattle.slotted_page.proofs.open.allocate_opened.Tie as tie
 use Rattle.slotted_page.proofs.open.allocate_opened.Reads as reads
 use Rattle.slotted_page.proofs.open.allocate_opened.Lts as lts
-use Rattle.slotted_page.proofs.alloc.allocate.Reads as allocate-reads
-use Rattle.layout.proofs.header.get_slot_count.Reads as get-slot-count-reads
-use Rattle.slotted_page.proofs.open.initialize.Reads as initialize-reads
+use Rattle.layout.proofs.zero_fill.Reads as zero-fill-reads
+use Rattle.slotted_page.proofs.open.reserve_opened.Reads as reserve-opened-reads
 
-get-slot-count-requires : tie.Need-get-slot-count-requires
-get-slot-count-requires c κs = search needs
+reserve-opened-requires : tie.Need-reserve-opened-requires
+reserve-opened-requires c κs = search needs
 
-initialize-requires : tie.Need-initialize-requires
-initialize-requires c κs = search needs
+enum-known-place : tie.Need-enum-known-place
+enum-known-place c = search needs
 
-allocate-requires : tie.Need-allocate-requires
-allocate-requires c κs =
-    let i = c .before .before .before in
-    let b = c .before .before .before .before .before .before .before .before .before in
-    let x = init-sound (b .args .page .now) (i .initialize .last .0) (b .pre .0) (i .initialize .ensures) in
-    (x .0, x .1, omega arith)
+zero-fill-requires : tie.Need-zero-fill-requires
+zero-fill-requires c κs =
+    let u = c .before .before .before .before .before .before in
+    let n = u .before .before .before .args .size in
+    omega (arith, subst (λ (x : Place). Inside x n) (c .before .before .place .given .1) (u .reserve-opened .ensures .2))
+
+enum-told : tie.Need-enum-told
+enum-told c = search needs
 
 same-length : tie.Need-same-length
 same-length c = search needs
@@ -29,44 +38,37 @@ same-length c = search needs
 returns : tie.Need-returns
 returns c =
     let z = c .before .before in
-    let i = z .before .before .before .before in
-    let e = i .before .before in
-    let n = e .before in
-    let b = n .before .before .before in
+    let g = c .before .before .before .before .before in
+    let u = c .before .before .before .before .before .before .before .before .before in
+    let b = u .before .before .before in
     let a = b .args in
-    let y = fresh-done (a .page .now) (a .size) (n .get-slot-count .result) (n .get-slot-count .ensures .0) (i .initialize .last .0) (z .allocate .last .0) (z .allocate .result) (b .pre .0) (b .pre .2) (e .if1 .taken)
-    (i .initialize .ensures) (z .allocate .ensures .0, z .allocate .ensures .1) in
-    (y .0, y .1, z .allocate .ensures .2)
-
-allocate-requires-2 : tie.Need-allocate-requires-2
-allocate-requires-2 c κs =
-    let n = c .before .before in
-    let b = n .before .before .before in
-    let a = b .args in
-    (b .pre .0, used-sound (a .page .now) (a .size) (n .get-slot-count .result) (n .get-slot-count .ensures .0) (b .pre .0) (b .pre .1) (c .before .if1 .left), omega arith)
+    let v = opened (view (a .page .now)) in
+    let e = sym (g .place .given .1) ∙ u .reserve-opened .ensures .1 in (
+      written-done (g .place .given .0 .0) (g .place .given .0 .1 .0) (zeros (a .size)) (a .page .now) (u .reserve-opened .last .0) (z .zero-fill .last .0) (allocate v (a .size))
+          (allocate-ended (a .page .now) v (a .size) (sound-opened (a .page .now) (b .pre .0) (b .pre .1))) e (u .reserve-opened .ensures .0) (z .zero-fill .ensures),
+      e,
+      subst (λ (x : Place). Inside x (a .size)) (g .place .given .1) (u .reserve-opened .ensures .2),
+    )
 
 same-length-2 : tie.Need-same-length-2
 same-length-2 c = search needs
 
 returns-2 : tie.Need-returns-2
 returns-2 c =
-    let z = c .before .before in
-    let e = z .before .before in
-    let n = e .before in
-    let b = n .before .before .before in
-    let a = b .args in
-    let y = used-done (a .page .now) (a .size) (n .get-slot-count .result) (n .get-slot-count .ensures .0) (z .allocate2 .last .0) (z .allocate2 .result) (e .if1 .left) (z .allocate2 .ensures .0, z .allocate2 .ensures .1) in
-    (y .0, y .1, z .allocate2 .ensures .2)
+    let u = c .before .before .before .before in
+    let a = u .before .before .before .args in
+    let e = sym (c .enum-told .given .1) ∙ u .reserve-opened .ensures .1 in
+    (none-done (a .page .now) (u .reserve-opened .last .0) (allocate (opened (view (a .page .now))) (a .size)) e (u .reserve-opened .ensures .0) .0, e, tt)
 
 pub allocate-opened-spec : {M : Type 1} → statement M
 allocate-opened-spec =
     tie.close
     (tie.spec
-    get-slot-count-requires
-    initialize-requires
-    allocate-requires
+    reserve-opened-requires
+    enum-known-place
+    zero-fill-requires
+    enum-told
     same-length
     returns
-    allocate-requires-2
     same-length-2
     returns-2)

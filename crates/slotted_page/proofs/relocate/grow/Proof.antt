@@ -1,57 +1,68 @@
 -- `slotted_page::relocate::grow` meets its contract. Assumes nothing.
-use mathlib.Core.Path.{ap}
+use mathlib.Core.Path.{sym, ap, subst, _∙_}
 use native.Mathlib.Omega.{arith}
-use lib.ListN.{length-take, replicate, length-replicate}
 use Rattle.store.specs.Slots.{len, off}
-use Rattle.slotted_page.proofs.RelocLaws.{parked-by, grow-done}
+use Rattle.store.specs.PageSteps.{relocate}
+use Rattle.store.specs.Page.{view}
+use Rattle.store.specs.declared.Place.{Place}
+use Rattle.slotted_page.specs.Words.{Inside}
+use Rattle.slotted_page.proofs.RecordLaws.{grow-done, old-done}
+use Rattle.slotted_page.proofs.FillLaws.{refused-done}
 use borrow.Author.Needs.{needs}
 use Rattle.slotted_page.proofs.relocate.grow.Statement.{statement}
 use Rattle.slotted_page.proofs.relocate.grow.Tie as tie
 use Rattle.slotted_page.proofs.relocate.grow.Reads as reads
 use Rattle.slotted_page.proofs.relocate.grow.Lts as lts
-use Rattle.slotted_page.proofs.relocate.park.Reads as park-reads
-use Rattle.slotted_page.proofs.relocate.put_under.Reads as put-under-reads
-use Rattle.slotted_page.proofs.relocate.refill.Reads as refill-reads
-use Rattle.slotted_page.proofs.relocate.save.Reads as save-reads
+use Rattle.layout.proofs.move_within.Reads as move-within-reads
 use Rattle.layout.proofs.slots.len_of.Reads as len-of-reads
 use Rattle.layout.proofs.slots.off_of.Reads as off-of-reads
+use Rattle.layout.proofs.zero_fill.Reads as zero-fill-reads
+use Rattle.slotted_page.proofs.relocate.move_slot.Reads as move-slot-reads
 
 len-of-requires : tie.Need-len-of-requires
 len-of-requires c κs = search needs
 
+move-slot-requires : tie.Need-move-slot-requires
+move-slot-requires c κs = search needs
+
+enum-known-place : tie.Need-enum-known-place
+enum-known-place c = search needs
+
 off-of-requires : tie.Need-off-of-requires
 off-of-requires c κs = search needs
 
-slice-aggregate-save : tie.Need-slice-aggregate-save
-slice-aggregate-save c = search needs
+move-within-requires : tie.Need-move-within-requires
+move-within-requires c κs =
+    let g = c .before .before .before in
+    let u = c .before .before .before .before .before .before .before in
+    let l = c .before .before .before .before .before .before .before .before .before in
+    let b = l .before .before in
+    let h = subst (λ (x : Place). Inside x (b .args .size)) (g .place .given .1) (u .move-slot .ensures .2) in
+    omega (arith, h, b .pre .1 .high (b .args .k), ap len (b .pre .3), ap off (b .pre .3), c .off-of .ensures, l .len-of .ensures, b .pre .4)
 
-save-requires : tie.Need-save-requires
-save-requires c κs =
-    let b = c .before .before .before .before .before in
-    omega (arith, b .pre .1 .high (b .args .k), ap len (b .pre .3), ap off (b .pre .3), c .before .before .off-of .ensures, c .before .before .before .len-of .ensures)
+add-zero-fill : tie.Need-add-zero-fill
+add-zero-fill c =
+    let g = c .before .before .before .before .before .before .before in
+    let u = c .before .before .before .before .before .before .before .before .before .before .before in
+    let l = c .before .before .before .before .before .before .before .before .before .before .before .before .before in
+    let b = l .before .before in
+    let h = subst (λ (x : Place). Inside x (b .args .size)) (g .place .given .1) (u .move-slot .ensures .2) in
+    omega (arith, h, l .len-of .ensures, b .pre .4)
 
-park-requires : tie.Need-park-requires
-park-requires c κs =
-    let b = c .before .before .before .before .before .before .before .before in
-    (b .pre .0, b .pre .1, b .pre .2, omega (arith, b .pre .1 .high (b .args .k), ap len (b .pre .3), c .before .before .before .before .before .before .len-of .ensures))
+sub-zero-fill : tie.Need-sub-zero-fill
+sub-zero-fill c = search needs
 
-put-under-requires : tie.Need-put-under-requires
-put-under-requires c κs =
-    let k = c .before .before .before in
-    let l = c .before .before .before .before .before .before .before .before .before .before in
-    let b = c .before .before .before .before .before .before .before .before .before .before .before .before in
-    let a = b .args in
-    let x = parked-by (a .page .now) (a .k) (l .len-of .result) (a .s) (k .park .last .0) (b .pre .0) (b .pre .1) (b .pre .2) (b .pre .3) (b .pre .4) (l .len-of .ensures) (k .park .ensures) in
-    (x .whole, rw (x .seen) (x .sound), rw (x .seen) (b .pre .2), rw (x .seen) (omega (arith, ap len (b .pre .3), b .pre .6)))
+zero-fill-requires : tie.Need-zero-fill-requires
+zero-fill-requires c κs =
+    let g = c .before .before .before .before .before .before .before in
+    let u = c .before .before .before .before .before .before .before .before .before .before .before in
+    let l = c .before .before .before .before .before .before .before .before .before .before .before .before .before in
+    let b = l .before .before in
+    let h = subst (λ (x : Place). Inside x (b .args .size)) (g .place .given .1) (u .move-slot .ensures .2) in
+    omega (arith, h, l .len-of .ensures, b .pre .4)
 
-array-share-prefix-saved : tie.Need-array-share-prefix-saved
-array-share-prefix-saved c = search needs
-
-slice-aggregate-refill : tie.Need-slice-aggregate-refill
-slice-aggregate-refill c = rw length-take (omega arith)
-
-refill-requires : tie.Need-refill-requires
-refill-requires c κs = rw length-take (omega (arith, c .before .before .before .before .before .before .before .before .before .before .before .before .before .before .before .len-of .ensures, c .before .before .before .before .before .before .before .before .before .before .before .before .before .before .before .before .before .pre .5, c .before .before .before .before .put-under .ensures))
+enum-told : tie.Need-enum-told
+enum-told c = search needs
 
 same-length : tie.Need-same-length
 same-length c = search needs
@@ -59,30 +70,45 @@ same-length c = search needs
 returns : tie.Need-returns
 returns c =
     let z = c .before .before in
-    let u = c .before .before .before .before .before .before .before in
-    let k = c .before .before .before .before .before .before .before .before .before .before .before in
-    let o = c .before .before .before .before .before .before .before .before .before .before .before .before .before .before in
-    let f = c .before .before .before .before .before .before .before .before .before .before .before .before .before .before .before .before .before in
-    let l = c .before .before .before .before .before .before .before .before .before .before .before .before .before .before .before .before .before .before in
-    let b = c .before .before .before .before .before .before .before .before .before .before .before .before .before .before .before .before .before .before .before .before in
+    let m = c .before .before .before .before .before .before in
+    let f = m .before in
+    let g = c .before .before .before .before .before .before .before .before .before .before in
+    let u = c .before .before .before .before .before .before .before .before .before .before .before .before .before .before in
+    let l = c .before .before .before .before .before .before .before .before .before .before .before .before .before .before .before .before in
+    let b = l .before .before in
     let a = b .args in
-    grow-done (a .page .now) (a .k) (l .len-of .result) (a .s) (k .park .last .0) (b .pre .0) (b .pre .1) (b .pre .2) (b .pre .3) (b .pre .4) (l .len-of .ensures)
-    (a .size) (f .off-of .result) (u .put-under .result) (replicate 16384 0) (o .save .last .1 .1 .1 .0) (u .put-under .last .0) (z .refill .last .0)
-    (b .pre .5) (f .off-of .ensures) (rw length-replicate (omega (arith, b .pre .1 .high (a .k), ap len (b .pre .3), l .len-of .ensures)))
-    (o .save .ensures) (k .park .ensures) (u .put-under .ensures .0) (u .put-under .ensures .1) (z .refill .ensures)
+    let e = sym (g .place .given .1) ∙ u .move-slot .ensures .1 in
+    let j = g .place .given .0 .0 in
+    let d = g .place .given .0 .1 .0 in
+    let x = grow-done (a .page .now) (a .k) (a .size) (b .pre .0) (b .pre .1) (b .pre .2) j d (u .move-slot .last .0) (m .move-within .last .0) e (u .move-slot .ensures .0)
+    (f .off-of .result) (l .len-of .result) (z .zero-fill .last .0) (f .off-of .ensures ∙ ap off (b .pre .3)) (l .len-of .ensures ∙ ap len (b .pre .3)) (omega (arith, l .len-of .ensures, b .pre .4)) (b .pre .5)
+    (m .move-within .ensures) (z .zero-fill .ensures) in
+    old-done (a .page .now) (a .k) (a .size) (b .pre .0) (b .pre .1) (b .pre .2) j d (u .move-slot .last .0) (z .zero-fill .last .0) e (u .move-slot .ensures .0) x
+
+same-length-2 : tie.Need-same-length-2
+same-length-2 c = search needs
+
+returns-2 : tie.Need-returns-2
+returns-2 c =
+    let u = c .before .before .before .before in
+    let a = u .before .before .before .before .args in
+    let y = refused-done (a .page .now) (u .move-slot .last .0) (a .k) (relocate (view (a .page .now)) (a .k) (a .size)) (sym (c .enum-told .given .1) ∙ u .move-slot .ensures .1) (u .move-slot .ensures .0) in
+    (y .0, y .1)
 
 pub grow-spec : {M : Type 1} → statement M
 grow-spec =
     tie.close
     (tie.spec
     len-of-requires
+    move-slot-requires
+    enum-known-place
     off-of-requires
-    slice-aggregate-save
-    save-requires
-    park-requires
-    put-under-requires
-    array-share-prefix-saved
-    slice-aggregate-refill
-    refill-requires
+    move-within-requires
+    add-zero-fill
+    sub-zero-fill
+    zero-fill-requires
+    enum-told
     same-length
-    returns)
+    returns
+    same-length-2
+    returns-2)

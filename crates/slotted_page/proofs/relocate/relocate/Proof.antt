@@ -1,72 +1,90 @@
 -- `slotted_page::relocate::relocate` meets its contract. Assumes nothing.
-use mathlib.Core.Path.{refl, sym, _∙_}
-use Rattle.store.specs.Page.{view}
-use Rattle.slotted_page.proofs.RelocLaws.{is-free-slot, is-record-slot, is-redirect-slot}
+use mathlib.Core.Path.{ap}
+use native.Mathlib.Omega.{arith}
+use Rattle.store.specs.Slots.{len}
 use borrow.Author.Needs.{needs}
 use Rattle.slotted_page.proofs.relocate.relocate.Statement.{statement}
 use Rattle.slotted_page.proofs.relocate.relocate.Tie as tie
 use Rattle.slotted_page.proofs.relocate.relocate.Reads as reads
 use Rattle.slotted_page.proofs.relocate.relocate.Lts as lts
-use Rattle.slotted_page.proofs.relocate.come_home.Reads as come-home-reads
-use Rattle.slotted_page.proofs.relocate.is_record.Reads as is-record-reads
-use Rattle.slotted_page.proofs.relocate.resize.Reads as resize-reads
+use Rattle.layout.proofs.header.get_data_start.Reads as get-data-start-reads
+use Rattle.layout.proofs.header.get_slot_count.Reads as get-slot-count-reads
 use Rattle.layout.proofs.slots.get_slot.Reads as get-slot-reads
-use Rattle.layout.proofs.slots.is_free.Reads as is-free-reads
+use Rattle.layout.proofs.slots.len_of.Reads as len-of-reads
+use Rattle.slotted_page.proofs.relocate.grow.Reads as grow-reads
+use Rattle.slotted_page.proofs.relocate.grow_packed.Reads as grow-packed-reads
+use Rattle.slotted_page.proofs.relocate.settle.Reads as settle-reads
 
 get-slot-requires : tie.Need-get-slot-requires
 get-slot-requires c κs = search needs
 
-is-free-requires : tie.Need-is-free-requires
-is-free-requires c κs = search needs
+len-of-requires : tie.Need-len-of-requires
+len-of-requires c κs = search needs
+
+settle-requires : tie.Need-settle-requires
+settle-requires c κs =
+    let e = c .before in
+    let l = c .before .before in
+    let g = c .before .before .before in
+    let b = g .before .before .before in
+    (b .pre .0, b .pre .1, b .pre .2, omega (arith, ap len (g .get-slot .ensures .0), l .len-of .ensures, e .if1 .taken))
 
 same-length : tie.Need-same-length
 same-length c = search needs
 
 returns : tie.Need-returns
-returns c =
-    let g = c .before .before in
-    let a = c .before .before .before .before .before .args in
-    rw (is-free-slot (view (a .page .now)) (a .k) (a .size) (g .get-slot .result) (g .get-slot .ensures .0) (sym (c .if1 .taken) ∙ c .before .is-free .ensures)) (refl, refl)
+returns c = search needs
 
-is-record-requires : tie.Need-is-record-requires
-is-record-requires c κs = search needs
+get-slot-count-requires : tie.Need-get-slot-count-requires
+get-slot-count-requires c κs = search needs
 
-resize-requires : tie.Need-resize-requires
-resize-requires c κs = search needs
+get-data-start-requires : tie.Need-get-data-start-requires
+get-data-start-requires c κs = search needs
+
+mul-if2 : tie.Need-mul-if2
+mul-if2 c = search needs
+
+add-if2 : tie.Need-add-if2
+add-if2 c = search needs
+
+sub-if2 : tie.Need-sub-if2
+sub-if2 c = search needs
+
+grow-packed-requires : tie.Need-grow-packed-requires
+grow-packed-requires c κs = search needs
 
 same-length-2 : tie.Need-same-length-2
 same-length-2 c = search needs
 
 returns-2 : tie.Need-returns-2
-returns-2 c =
-    let g = c .before .before .before .before .before .before .before .before in
-    let a = c .before .before .before .before .before .before .before .before .before .before .before .args in
-    rw (is-record-slot (view (a .page .now)) (a .k) (a .size) (g .get-slot .result) (g .get-slot .ensures .0) (sym (c .before .before .before .before .if2 .taken) ∙ c .before .before .before .before .before .is-record .ensures)) (c .before .before .resize .ensures)
+returns-2 c = search needs
 
-come-home-requires : tie.Need-come-home-requires
-come-home-requires c κs = search needs
+grow-requires : tie.Need-grow-requires
+grow-requires c κs = search needs
 
 same-length-3 : tie.Need-same-length-3
 same-length-3 c = search needs
 
 returns-3 : tie.Need-returns-3
-returns-3 c =
-    let g = c .before .before .before .before .before .before .before .before in
-    let a = c .before .before .before .before .before .before .before .before .before .before .before .args in
-    rw (is-redirect-slot (view (a .page .now)) (a .k) (a .size) (g .get-slot .result) (g .get-slot .ensures .0) (sym (c .before .before .before .before .before .before .if1 .left) ∙ c .before .before .before .before .before .before .before .is-free .ensures) (sym (c .before .before .before .before .if2 .left) ∙ c .before .before .before .before .before .is-record .ensures)) (c .before .before .come-home .ensures)
+returns-3 c = search needs
 
 pub relocate-spec : {M : Type 1} → statement M
 relocate-spec =
     tie.close
     (tie.spec
     get-slot-requires
-    is-free-requires
+    len-of-requires
+    settle-requires
     same-length
     returns
-    is-record-requires
-    resize-requires
+    get-slot-count-requires
+    get-data-start-requires
+    mul-if2
+    add-if2
+    sub-if2
+    grow-packed-requires
     same-length-2
     returns-2
-    come-home-requires
+    grow-requires
     same-length-3
     returns-3)

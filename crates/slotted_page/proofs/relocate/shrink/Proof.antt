@@ -3,6 +3,7 @@ use mathlib.Core.Path.{ap}
 use native.Mathlib.Omega.{arith}
 use Rattle.store.specs.Slots.{len, off}
 use Rattle.slotted_page.proofs.RelocLaws.{shrink-done}
+use Rattle.store.specs.Page.{view}
 use borrow.Author.Needs.{needs}
 use Rattle.slotted_page.proofs.relocate.shrink.Statement.{statement}
 use Rattle.slotted_page.proofs.relocate.shrink.Tie as tie
@@ -66,8 +67,8 @@ returns c =
     let n = f .before .before in
     let b = n .before .before .before in
     let a = b .args in
-    shrink-done (a .page .now) (a .k) (a .size) (n .get-slot-count .result) (f .get-first-free-slot .result) (d .get-data-start .result) (m .get-free-space .result) (l .len-of .result) (o .off-of .result)
-    (a .s) (t .placed-slot .result) (z .commit .last .0) (b .pre .0) (b .pre .1) (b .pre .2) (b .pre .4) (b .pre .5)
+    shrink-done (view (a .page .now)) (a .k) (a .size) (n .get-slot-count .result) (f .get-first-free-slot .result) (d .get-data-start .result) (m .get-free-space .result) (l .len-of .result) (o .off-of .result)
+    (a .s) (t .placed-slot .result) (a .page .now) (z .commit .last .0)
     (b .pre .3) (n .get-slot-count .ensures .0) (f .get-first-free-slot .ensures .0) (d .get-data-start .ensures .0) (m .get-free-space .ensures .0) (l .len-of .ensures) (o .off-of .ensures) (t .placed-slot .ensures .0) (z .commit .ensures)
 
 pub shrink-spec : {M : Type 1} → statement M
