@@ -108,6 +108,21 @@ module _ (s : List ℕ) (e : OnPage) (t : List ℕ) (x : Took s e t) where
           is = ew ∙ ap (λ (v : View). carriedOn (on q (f v)) t) other-seen;
         }
 
+-- a third step, on a third page
+module _ (s : List ℕ) (e : OnPage) (t : List ℕ) (x : Took s e t) (f : OnPage) (r : List ℕ) (y : Took t f r) (q : ℕ) (n : q ≢ e .on) (m : q ≢ f .on) where
+  pub still-twice : (P : View → Type 0) → P (segView s .page q) → P (segView r .page q)
+  still-twice P h = still t f r y q m P (still s e t x q n P h)
+
+  pub third-took : (g : View → Plan) → ExactOn s (on q (g (segView s .page q))) → (w : List ℕ) → w ≡ carriedOn (on q (g (segView r .page q))) r
+      → Took r (on q (g (segView s .page q))) w
+  third-took g z w ew =
+      let h : OnPage = on q (g (segView s .page q)) in
+      let on-t : ExactOn t h = subst (λ (l : List ℕ). ExactOn l h) (sym (x .is)) (exact-skip s e h (x .exact) z n) in
+      record {
+        exact = subst (λ (l : List ℕ). ExactOn l h) (sym (y .is)) (exact-skip t f h (y .exact) on-t m);
+        is = ew ∙ ap (λ (v : View). carriedOn (on q (g v)) r) (other-seen t f r y q m ∙ other-seen s e t x q n);
+      }
+
 -- ---- which way a step went, from what it answered
 
 pub record MovedTo (r : Relocated) : Type 0 where
@@ -279,6 +294,12 @@ carried-swap s e f x y n =
     swap : Dec (e .on < f .on) → put (put s (e .on * 16384) a) (f .on * 16384) b ≡ put (put s (f .on * 16384) b) (e .on * 16384) a
     swap (yes l) = put-swap s (e .on * 16384) a (f .on * 16384) b (omega (arith, ran-whole s e x))
     swap (no l) = sym (put-swap s (f .on * 16384) b (e .on * 16384) a (omega (arith, ran-whole s f y)))
+
+-- three on different pages, the first of them last
+pub carried-last : (s : List ℕ) (e f g : OnPage) → ExactOn s e → ExactOn s f → ExactOn s g → f .on ≢ e .on → g .on ≢ e .on → g .on ≢ f .on
+    → carriedOn g (carriedOn f (carriedOn e s)) ≡ carriedOn e (carriedOn g (carriedOn f s))
+carried-last s e f g x y z n m o =
+    ap (carriedOn g) (carried-swap s e f x y n) ∙ carried-swap (carriedOn f s) e g (exact-skip s f e y x (λ h. n (sym h))) (exact-skip s f g y z o) m
 
 -- ---- the inventory, told of a page that the steps left
 

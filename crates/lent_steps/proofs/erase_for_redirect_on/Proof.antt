@@ -1,11 +1,9 @@
 -- `lent_steps::erase_for_redirect_on` meets its contract. Assumes nothing.
 use denote.Ref.{now}
-use Prim.Native.Nat.{_<_}
 use Rattle.store.specs.Page.{View, view}
 use Rattle.store.specs.PageSteps.{eraseForRedirect}
-use Rattle.store.specs.Laws.Views.{Sound}
 use Rattle.store.specs.Laws.Calls.{page-ok}
-use Rattle.lent_steps.specs.Lent.{lent-whole, lent-fact, lent-plan}
+use Rattle.lent_steps.specs.Lent.{lent-taken, lent-plan}
 use borrow.Author.Needs.{needs}
 use Rattle.lent_steps.proofs.erase_for_redirect_on.Statement.{statement}
 use Rattle.lent_steps.proofs.erase_for_redirect_on.Tie as tie
@@ -31,13 +29,8 @@ part-erase-for-redirect-end c = search needs
 erase-for-redirect-requires : tie.Need-erase-for-redirect-requires
 erase-for-redirect-requires c κs =
     let z = c .before .before in
-    let s = now (z .args .segment) in
-    let o = page-ok s (z .args .p) (z .args .k) (z .pre .0) (z .pre .1) (z .pre .2) in (
-      lent-whole s (z .args .p) (z .pre .0),
-      lent-fact s (z .args .p) (z .pre .0) view (o .seen) Sound (o .sound),
-      lent-fact s (z .args .p) (z .pre .0) view (o .seen) (λ (v : View). z .args .k < v .slotCount) (o .counted),
-      z .pre .3,
-    )
+    let o = lent-taken (now (z .args .segment)) (z .args .p) (z .args .k) (z .pre .0) (z .pre .1) (z .pre .2) in
+    (o .0, o .1, o .2, z .pre .3)
 
 same-length : tie.Need-same-length
 same-length c = search needs

@@ -1,11 +1,9 @@
 -- `lent_steps::erase_on` meets its contract. Assumes nothing.
 use denote.Ref.{now}
-use Prim.Native.Nat.{_<_}
 use Rattle.store.specs.Page.{View, view}
 use Rattle.store.specs.PageSteps.{erase}
-use Rattle.store.specs.Laws.Views.{Sound}
 use Rattle.store.specs.Laws.Calls.{page-ok}
-use Rattle.lent_steps.specs.Lent.{lent-whole, lent-fact, lent-plan}
+use Rattle.lent_steps.specs.Lent.{lent-taken, lent-plan}
 use borrow.Author.Needs.{needs}
 use Rattle.lent_steps.proofs.erase_on.Statement.{statement}
 use Rattle.lent_steps.proofs.erase_on.Tie as tie
@@ -31,12 +29,7 @@ part-erase-end c = search needs
 erase-requires : tie.Need-erase-requires
 erase-requires c κs =
     let z = c .before .before in
-    let s = now (z .args .segment) in
-    let o = page-ok s (z .args .p) (z .args .k) (z .pre .0) (z .pre .1) (z .pre .2) in (
-      lent-whole s (z .args .p) (z .pre .0),
-      lent-fact s (z .args .p) (z .pre .0) view (o .seen) Sound (o .sound),
-      lent-fact s (z .args .p) (z .pre .0) view (o .seen) (λ (v : View). z .args .k < v .slotCount) (o .counted),
-    )
+    lent-taken (now (z .args .segment)) (z .args .p) (z .args .k) (z .pre .0) (z .pre .1) (z .pre .2)
 
 same-length : tie.Need-same-length
 same-length c = search needs
