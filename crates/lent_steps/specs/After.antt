@@ -170,7 +170,7 @@ module _ (s : List ℕ) (p k : ℕ) (fits : p * 16384 + 16384 ≤ length s) (ok 
       → Took s (on p (eraseForRedirect (segView s .page p) k id)) t
   took-for-redirect id small t e = record { exact = for-redirect-on-page id small; is = e }
 
-  -- the slot's record at another size n, with these bytes; "a target's record has at least 8 bytes"
+  -- the slot's record at another size n, with these bytes; "a target has length 8 or more"
   module _ (n : ℕ) (target : isTarget (segView s .page p .at k) ≡ true → 8 ≤ n) where
     moves : Answered (pageOf s p) (segView s .page p) k n (relocate (segView s .page p) k n)
     moves = relocate-answer (pageOf s p) (segView s .page p) (length-page s p fits) (page .seen) (page .sound) k (page .counted) n target
@@ -188,7 +188,7 @@ module _ (s : List ℕ) (p k : ℕ) (fits : p * 16384 + 16384 ≤ length s) (ok 
 pub no-target : (x : Slot) (n : ℕ) → isTarget x ≡ false → isTarget x ≡ true → 8 ≤ n
 no-target x n e f = let z : _≡_ {A = ℕ} 0 1 = cc in absurd (omega arith)
 
--- "a target's record begins with 8 bytes"
+-- "A target's record begins with 8 bytes, the big-endian id of its root, and its length counts them."
 pub target-length : (id : ℕ) (bs : List ℕ) (n : ℕ) → length bs ≡ n → length (toBE 8 id ++ bs) ≡ n + 8
 target-length id bs n e = length-append (toBE 8 id) bs ∙ omega (arith, e)
 
