@@ -17,9 +17,9 @@ use Rattle.store.specs.declared.Slot.{Slot}
 use Rattle.store.specs.declared.Slot.the-variants.{Target}
 use Rattle.store.specs.declared.Place.{Place}
 use Rattle.store.specs.declared.Place.the-variants.{At, NoRoom}
-use Rattle.layout.specs.Run.{headOf}
-use Rattle.slotted_page.specs.Words.{bare, unfilled, pageBare, pageAfter, placeOf, filledAt, targetAt, allocOf, pageMoved, wasMoved, refilled}
-use Rattle.slotted_page.proofs.StepLaws.{commit-writes}
+use Rattle.places.specs.Words.{unfilled, pageBare, placeOf, allocOf}
+use Rattle.slotted_page.specs.Words.{pageAfter, filledAt, targetAt, pageMoved, wasMoved, refilled}
+use Rattle.places.proofs.BareLaws.{commit-writes, run-bare}
 
 pub length-zeros : (n : ℕ) → length (zeros n) ≡ n
 length-zeros n = length-replicate n 0
@@ -41,22 +41,6 @@ put-swap (x ∷ p) (suc i) (suc j) a b h = ap {B = List ℕ} (λ r. x ∷ r) (pu
 put-swap (x ∷ p) zero j [] b h = put-nil (put (x ∷ p) j b) 0
 put-swap (x ∷ p) zero zero (y ∷ a) b h = absurd (omega arith)
 put-swap (x ∷ p) zero (suc j) (y ∷ a) b h = ap {B = List ℕ} (λ r. y ∷ r) (put-swap p zero j a b (omega arith))
-
--- ---- the last edit but for its bytes
-
-unfilled-last : (es : List Edit) (e : Edit) → unfilled (es ++ e ∷ []) ≡ es ++ bare e ∷ []
-unfilled-last [] e = refl
-unfilled-last (x ∷ []) e = refl
-unfilled-last (x ∷ y ∷ es) e = ap {B = List Edit} (λ r. x ∷ r) (unfilled-last (y ∷ es) e)
-
-pub run-bare : (es : List Edit) (w : View) (k : ℕ) (s : Slot) (bs p : List ℕ)
-    → run (unfilled (es ++ commit k (withSlot w k s bs) ∷ [])) p
-    ≡ put (put (run es p) 0 (headOf (w .slotCount) (w .firstFree) (w .dataStart) (w .freeSpace))) (12 + 8 * k) (slotBytes s)
-run-bare es w k s bs p =
-    let u : View = withSlot w k s bs in
-    let q : List ℕ = put (run es p) 0 (headOf (w .slotCount) (w .firstFree) (w .dataStart) (w .freeSpace)) in
-    ap (λ (l : List Edit). run l p) (unfilled-last es (commit k u)) ∙ run-append es (bare (commit k u) ∷ []) p ∙ commit-writes u k (u .at k) [] (run es p)
-    ∙ put-nil (put q (12 + 8 * k) (slotBytes (u .at k))) (off (u .at k)) ∙ ap (λ (x : Slot). put q (12 + 8 * k) (slotBytes x)) (upd-same (w .at) k s)
 
 -- ---- the bytes written afterwards
 

@@ -1,6 +1,5 @@
-pub mod AllocLaws
+pub mod AllocateLaws
+pub mod EraseLaws
 pub mod FillLaws
 pub mod OpenLaws
 pub mod RecordLaws
-pub mod RelocLaws
-pub mod StepLaws

@@ -20,8 +20,9 @@ use Rattle.store.specs.declared.Slot.{Slot}
 use Rattle.store.specs.declared.Slot.the-variants.{Ordinary}
 use Rattle.store.specs.declared.Place.{Place}
 use Rattle.layout.specs.Run.{headOf}
-use Rattle.slotted_page.specs.Words.{pageBare, placeOf}
-use Rattle.slotted_page.proofs.FillLaws.{put-over, run-bare}
+use Rattle.places.specs.Words.{pageBare, placeOf}
+use Rattle.places.proofs.BareLaws.{run-bare}
+use Rattle.slotted_page.proofs.FillLaws.{put-over}
 
 pub head-init : (p : List ℕ) → put p 0 (headOf 0 0 16384 16372) ≡ putHead initialised p
 unfolding headOf

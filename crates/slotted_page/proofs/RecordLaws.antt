@@ -27,9 +27,11 @@ use Rattle.store.specs.declared.Place.the-variants.{At}
 use Rattle.layout.specs.Run.{headOf}
 use Rattle.layout.proofs.Writes.{write-append, fit-cut, fit-filled}
 use Rattle.compactify.proofs.PackLaws.{shown-bytes}
-use Rattle.slotted_page.specs.Words.{unfilled, shrinkPlan, growPlan, allocOf, pageBare, pageAfter, placeOf, pageMoved, wasMoved, refilled}
-use Rattle.slotted_page.proofs.StepLaws.{commit-writes}
-use Rattle.slotted_page.proofs.FillLaws.{put-over, put-swap, run-bare, Ends, Ended, ends-by, commit-ends, written-done, fill-done, moved-done, refilled-done}
+use Rattle.places.specs.Words.{unfilled, shrinkPlan, growPlan, allocOf, pageBare, placeOf}
+use Rattle.slotted_page.specs.Words.{pageAfter, pageMoved, wasMoved, refilled}
+use Rattle.places.proofs.BareLaws.{commit-writes}
+use Rattle.places.proofs.BareLaws.{run-bare}
+use Rattle.slotted_page.proofs.FillLaws.{put-over, put-swap, Ends, Ended, ends-by, commit-ends, written-done, fill-done, moved-done, refilled-done}
 
 -- ---- bytes that stand there already
 

@@ -7,8 +7,8 @@ use Rattle.store.specs.Page.{view}
 use Rattle.store.specs.PageSteps.{opened, allocate}
 use Rattle.store.specs.Laws.SoundPage.{sound-opened}
 use Rattle.store.specs.declared.Place.{Place}
-use Rattle.slotted_page.specs.Words.{Inside}
-use Rattle.slotted_page.proofs.AllocLaws.{allocate-ended}
+use Rattle.places.specs.Words.{Inside}
+use Rattle.slotted_page.proofs.AllocateLaws.{allocate-ended}
 use Rattle.slotted_page.proofs.FillLaws.{fill-done, none-done}
 use borrow.Author.Needs.{needs}
 use Rattle.slotted_page.proofs.insert.insert_bytes.Statement.{statement}

@@ -10,8 +10,8 @@ use Rattle.store.specs.Laws.SoundPage.{sound-opened}
 use Rattle.store.specs.Laws.Relocate.{length-fit}
 use Rattle.store.specs.declared.Place.{Place}
 use Rattle.layout.proofs.Writes.{write-append}
-use Rattle.slotted_page.specs.Words.{Inside, PastEntry}
-use Rattle.slotted_page.proofs.AllocLaws.{allocate-ended, allocate-sized}
+use Rattle.places.specs.Words.{Inside, PastEntry}
+use Rattle.slotted_page.proofs.AllocateLaws.{allocate-ended, allocate-sized}
 use Rattle.slotted_page.proofs.FillLaws.{length-zeros, target-done, none-done}
 use borrow.Author.Needs.{needs}
 use Rattle.slotted_page.proofs.insert.insert_target.Statement.{statement}

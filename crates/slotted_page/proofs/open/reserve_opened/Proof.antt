@@ -7,7 +7,7 @@ use Rattle.slotted_page.proofs.open.reserve_opened.Tie as tie
 use Rattle.slotted_page.proofs.open.reserve_opened.Reads as reads
 use Rattle.slotted_page.proofs.open.reserve_opened.Lts as lts
 use Rattle.layout.proofs.header.get_slot_count.Reads as get-slot-count-reads
-use Rattle.slotted_page.proofs.alloc.reserve.Reads as reserve-reads
+use Rattle.places.proofs.reserve.reserve.Reads as reserve-reads
 use Rattle.slotted_page.proofs.open.initialize.Reads as initialize-reads
 
 get-slot-count-requires : tie.Need-get-slot-count-requires
