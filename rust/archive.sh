@@ -24,13 +24,13 @@ need_cargo() {
 # libhekatosuy.a: in the folder that HEKATOSUY_LIB_DIR names, or in target/staticlib, where it is
 # written anew if a crate has changed since.
 need_archive() {
-    [ -z "${HEKATOSUY_LIB_DIR:-}" ] || HEKATOSUY_LIB_DIR="$(cd "$HEKATOSUY_LIB_DIR" && pwd)" || { why_not="HEKATOSUY_LIB_DIR names no folder"; return 1; }
+    [ -z "${HEKATOSUY_LIB_DIR:-}" ] || HEKATOSUY_LIB_DIR="$(cd "$HEKATOSUY_LIB_DIR" 2>/dev/null && pwd)" || { why_not="HEKATOSUY_LIB_DIR names no folder"; return 1; }
     local archive="${HEKATOSUY_LIB_DIR:-$repository/target/staticlib}/libhekatosuy.a"
     if [ -z "${HEKATOSUY_LIB_DIR:-}" ] && [ -d "$repository/crates/hekatosuy" ] && command -v rt >/dev/null && ! is_current "$archive"; then
         local said
         said="$(cd "$repository" && rt staticlib hekatosuy 2>&1)" || { printf '%s\n' "$said" | tail -n 20; why_not="rt staticlib hekatosuy failed"; return 1; }
     fi
-    [ -f "$archive" ] || { why_not="no $archive"; return 1; }
+    [ -f "$archive" ] || { why_not="no libhekatosuy.a in ${HEKATOSUY_LIB_DIR:-target/staticlib}"; return 1; }
 }
 
 is_current() {
