@@ -1,25 +1,32 @@
 -- What is known of a segment after page steps, for the calls that take several. Assumes nothing.
-use Prim.Native.Nat.{ℕ, zero, suc, _+_, _*_, _/_, _≤_, _<_}
+use Prim.Native.Nat.{ℕ, zero, suc, _+_, _*_, _/_, _^_, _≤_, _<_}
 use mathlib.Core.Path.{_≡_, refl, sym, ap, subst, _∙_}
 use mathlib.Core.Bool.{true, false, _&&_}
-use mathlib.Core.List.{List, [], _∷_}
+use mathlib.Core.List.{List, [], _∷_, _++_}
 use mathlib.Core.Logic.{_≢_}
 use native.Mathlib.Omega.{arith}
 use native.Mathlib.Decide.{decLt}
-use lib.ListN.{length}
+use lib.ListN.{length, length-append}
 use borrow.Author.Tests.{eqb-true, eq-eqb}
-use Rattle.store.specs.Numbers.{put}
-use Rattle.store.specs.Slots.{off, len, isFree}
+use Rattle.store.specs.Numbers.{put, toBE, idOf}
+use Rattle.store.specs.Slots.{off, len, isFree, isTarget}
 use Rattle.store.specs.Page.{View, view, slotAt, sound}
-use Rattle.store.specs.PageSteps.{opened, apply, fill, run, Plan, withSlot, filled, erase}
+use Rattle.store.specs.PageSteps.{opened, apply, move, fill, run, Plan, plan, stay, withSlot, filled, erase, eraseForRedirect, Alloc, noRoom, got, allocate, Relocated, refused, moved, relocate}
 use Rattle.store.specs.Inventory.{Room, update}
 use Rattle.store.specs.Segment.{segView, pageOf, OnPage, on, carriedOn, sizeOk, invOk}
 use Rattle.store.specs.Laws.Numbers.{length-put, put-nil}
-use Rattle.store.specs.Laws.Exact.{Exact, length-run, run-append}
+use Rattle.store.specs.Laws.Exact.{Exact, exact-then, length-run, run-append}
 use Rattle.store.specs.Laws.Segments.{length-page, page-same, page-other, ExactOn, exact-skip}
-use Rattle.store.specs.Laws.Calls.{page-ok, erase-on}
+use Rattle.store.specs.Laws.OneSlot.{redirect-exact}
+use Rattle.store.specs.Laws.Relocate.{fill-exact, retype-exact, relocate-answer, Answered, Moved}
+use Rattle.store.specs.Laws.Calls.{PageOk, page-ok, shows-ok, erase-on, AllocOk, alloc-ok}
 use Rattle.store.specs.Laws.SoundPage.{and-both}
 use Rattle.store.specs.Laws.SoundSegment.{seen-page, seen-pages, sized}
+use Rattle.store.specs.declared.Slot.{Slot}
+use Rattle.store.specs.declared.Slot.the-variants.{Redirect, Target}
+use Rattle.store.specs.declared.Place.{Place}
+use Rattle.store.specs.declared.Place.the-variants.{At, NoRoom}
+use Rattle.slotted_page.specs.Words.{pageAfter, placeOf, targetPlan, targetAt, redirectPlan, pageMoved, wasMoved, refilled}
 use Rattle.lent_steps.specs.Lent.{put-own}
 
 -- ---- sizes
@@ -101,11 +108,128 @@ module _ (s : List ℕ) (e : OnPage) (t : List ℕ) (x : Took s e t) where
           is = ew ∙ ap (λ (v : View). carriedOn (on q (f v)) t) other-seen;
         }
 
--- ---- steps by name
+-- ---- which way a step went, from what it answered
+
+pub record MovedTo (r : Relocated) : Type 0 where
+  pub to : Plan
+  pub is : r ≡ moved to
+
+pub moved-to : (r : Relocated) → wasMoved r ≡ true → MovedTo r
+moved-to refused e = let z : _≡_ {A = ℕ} 0 1 = cc in absurd (omega arith)
+moved-to (moved a) e = record { to = a; is = refl }
+
+pub not-moved : (r : Relocated) → wasMoved r ≡ false → r ≡ refused
+not-moved refused e = refl
+not-moved (moved a) e = let z : _≡_ {A = ℕ} 0 1 = cc in absurd (omega arith)
+
+pub record GotAt (x : Alloc) (j : ℕ) : Type 0 where
+  pub to : Plan
+  pub is : x ≡ got j to
+
+abbrev slotIn : Place → ℕ
+slotIn (At k o) = suc k
+slotIn NoRoom = 0
+
+pub got-at : (x : Alloc) (j o : ℕ) → placeOf x ≡ At j o → GotAt x j
+got-at noRoom j o e = let z : 0 ≡ suc j = ap slotIn e in absurd (omega arith)
+got-at (got k a) j o e = let z : suc k ≡ suc j = ap slotIn e in let y : k ≡ j = omega arith in record { to = a; is = ap (λ (i : ℕ). got i a) y }
+
+pub got-none : (x : Alloc) → placeOf x ≡ NoRoom → x ≡ noRoom
+got-none noRoom e = refl
+got-none (got k a) e = let z : suc k ≡ 0 = ap slotIn e in absurd (omega arith)
+
+-- ---- steps by name: on a slot that is not free
 
 module _ (s : List ℕ) (p k : ℕ) (fits : p * 16384 + 16384 ≤ length s) (ok : sound (segView s .page p) ≡ true) (taken : isFree (segView s .page p .at k) ≡ false) where
+  page : PageOk s p k
+  page = page-ok s p k fits ok taken
+
   pub erase-on-page : ExactOn s (on p (erase (segView s .page p) k))
-  erase-on-page = erase-on s p k (page-ok s p k fits ok taken) taken
+  erase-on-page = erase-on s p k page taken
+
+  pub for-redirect-on-page : (id : ℕ) → id < 2 ^ 62 → ExactOn s (on p (eraseForRedirect (segView s .page p) k id))
+  for-redirect-on-page id small =
+      record { inside = fits; exact = redirect-exact (segView s .page p) (page .sound) k (page .counted) taken id small (pageOf s p) (shows-ok s p k page) }
+
+  pub took-for-redirect : (id : ℕ) → id < 2 ^ 62 → (t : List ℕ) → t ≡ carriedOn (on p (eraseForRedirect (segView s .page p) k id)) s
+      → Took s (on p (eraseForRedirect (segView s .page p) k id)) t
+  took-for-redirect id small t e = record { exact = for-redirect-on-page id small; is = e }
+
+  -- the slot's record at another size n, with these bytes; "a target's record has at least 8 bytes"
+  module _ (n : ℕ) (target : isTarget (segView s .page p .at k) ≡ true → 8 ≤ n) where
+    moves : Answered (pageOf s p) (segView s .page p) k n (relocate (segView s .page p) k n)
+    moves = relocate-answer (pageOf s p) (segView s .page p) (length-page s p fits) (page .seen) (page .sound) k (page .counted) n target
+
+    module _ (a : Plan) (way : relocate (segView s .page p) k n ≡ moved a) (bs : List ℕ) (size : length bs ≡ n) where
+      pub filled-on-page : ExactOn s (on p (filled a k bs))
+      filled-on-page =
+          let m : Moved (pageOf s p) (segView s .page p) k n a = subst (Answered (pageOf s p) (segView s .page p) k n) way moves in
+          record { inside = fits; exact = fill-exact (pageOf s p) a (length-page s p fits) (m .exact) k (m .inside) (m .free) bs (size ∙ sym (m .size)) }
+
+      pub took-filled : (t : List ℕ) → t ≡ put s (p * 16384) (pageMoved (refilled (relocate (segView s .page p) k n) k bs) (pageOf s p)) → Took s (on p (filled a k bs)) t
+      took-filled t e = record { exact = filled-on-page; is = e ∙ ap (λ (r : Relocated). put s (p * 16384) (pageMoved (refilled r k bs) (pageOf s p))) way }
+
+-- what is no target's may have any size
+pub no-target : (x : Slot) (n : ℕ) → isTarget x ≡ false → isTarget x ≡ true → 8 ≤ n
+no-target x n e f = let z : _≡_ {A = ℕ} 0 1 = cc in absurd (omega arith)
+
+-- "a target's record begins with 8 bytes"
+pub target-length : (id : ℕ) (bs : List ℕ) (n : ℕ) → length bs ≡ n → length (toBE 8 id ++ bs) ≡ n + 8
+target-length id bs n e = length-append (toBE 8 id) bs ∙ omega (arith, e)
+
+-- the entry of a redirect names another id
+module _ (s : List ℕ) (p k : ℕ) (fits : p * 16384 + 16384 ≤ length s) (ok : sound (segView s .page p) ≡ true) (i : ℕ) (here : segView s .page p .at k ≡ Redirect i)
+    (id : ℕ) (small : id < 2 ^ 62) where
+  pub redirect-on-page : ExactOn s (on p (redirectPlan (segView s .page p) k id))
+  redirect-on-page =
+      let o = page-ok s p k fits ok (ap isFree here) in
+      record {
+        inside = fits;
+        exact = retype-exact (pageOf s p) (stay (segView s .page p)) (length-page s p fits) (record { seen = o .seen; sound = o .sound }) k (o .counted) (ap isFree here) (Redirect id)
+            (sym (ap off here)) (sym (ap len here)) refl small (λ e. let z : _≡_ {A = ℕ} 0 1 = cc in omega arith) [] refl;
+      }
+
+  pub took-redirect : (t : List ℕ) → t ≡ carriedOn (on p (redirectPlan (segView s .page p) k id)) s → Took s (on p (redirectPlan (segView s .page p) k id)) t
+  took-redirect t e = record { exact = redirect-on-page; is = e }
+
+-- a new place of n bytes on a sound page, fresh or in use
+module _ (s : List ℕ) (p : ℕ) (fits : p * 16384 + 16384 ≤ length s) (ok : sound (segView s .page p) ≡ true) (n j : ℕ) (a : Plan) (way : allocate (segView s .page p) n ≡ got j a) where
+  place : AllocOk (pageOf s p) n (got j a)
+  unfolding segView
+  place = subst (AllocOk (pageOf s p) n) way (alloc-ok (pageOf s p) n (length-page s p fits) ok)
+
+  -- its id can stand in a redirect
+  pub small-id : length s / 16384 ≤ 32527 → idOf p j < 2 ^ 62
+  small-id few = omega (arith, fits, place .1, place .0 .sound .few)
+
+  module _ (long : 8 ≤ n) (bs : List ℕ) (size : length bs ≡ n) where
+    pub target-on-page : ExactOn s (on p (targetPlan j a bs))
+    target-on-page =
+        let w = a .after in
+        let o = place in
+        let h : off (w .at j) + len (w .at j) ≤ 16384 = o .0 .sound .high j in
+        record {
+          inside = fits;
+          exact = exact-then (pageOf s p) a (λ u. let x = withSlot u j (Target (off (u .at j)) (len (u .at j))) bs in plan (move j x ∷ []) x)
+              (retype-exact (pageOf s p) a (length-page s p fits) (o .0) j (o .1) (o .2) (Target (off (w .at j)) (len (w .at j))) refl refl refl (omega arith, omega arith)
+              (λ e. omega (arith, o .3)) bs (size ∙ sym (o .3)));
+        }
+
+    pub took-target : (t : List ℕ) → t ≡ put s (p * 16384) (pageAfter (targetAt (allocate (segView s .page p) n) bs) (pageOf s p)) → Took s (on p (targetPlan j a bs)) t
+    took-target t e = record { exact = target-on-page; is = e ∙ ap (λ (x : Alloc). put s (p * 16384) (pageAfter (targetAt x bs) (pageOf s p))) way }
+
+-- ---- a step refused leaves the segment as it was
+
+module _ (s : List ℕ) (p : ℕ) (fits : p * 16384 + 16384 ≤ length s) (t : List ℕ) where
+  pub refused-same : (k n : ℕ) → relocate (segView s .page p) k n ≡ refused → (bs : List ℕ)
+      → t ≡ put s (p * 16384) (pageMoved (refilled (relocate (segView s .page p) k n) k bs) (pageOf s p)) → t ≡ s
+  refused-same k n way bs e =
+      e ∙ ap (λ (r : Relocated). put s (p * 16384) (pageMoved (refilled r k bs) (pageOf s p))) way ∙ put-own s (p * 16384) 16384 fits
+
+  pub no-room-same : (n : ℕ) → allocate (segView s .page p) n ≡ noRoom → (bs : List ℕ)
+      → t ≡ put s (p * 16384) (pageAfter (targetAt (allocate (segView s .page p) n) bs) (pageOf s p)) → t ≡ s
+  no-room-same n way bs e =
+      e ∙ ap (λ (x : Alloc). put s (p * 16384) (pageAfter (targetAt x bs) (pageOf s p))) way ∙ put-own s (p * 16384) 16384 fits
 
 -- ---- a record's own bytes, written where it stands
 
