@@ -26,12 +26,15 @@ use Rattle.store.specs.declared.Place.{Place}
 use Rattle.store.specs.declared.Place.the-variants as place
 use Rattle.store.specs.declared.Slot.the-variants.{Redirect}
 use Rattle.store.specs.declared.Answer.{Answer}
-use Rattle.store.specs.declared.Answer as answers
+use Rattle.store.proofs.Answer as answers
 use Rattle.store.specs.declared.Answer.the-variants as answer
 use Rattle.slotted_page.specs.Words.{pageAfter, placeOf, targetPlan, targetAt, redirectPlan, pageMoved, wasMoved, refilled}
-use Rattle.lent_steps.specs.After.{Took, Left, left-own, left-other, took-length, other-seen, next-took, got-at, got-none, took-target, small-id, no-room-same, for-redirect-on-page, redirect-on-page, erase-on-page, target-length, MovedTo, moved-to, not-moved, took-filled, refused-same, no-target}
+use Rattle.lent_steps.specs.After.{Took, Left, left-own, left-other, took-length, other-seen, next-took, got-at, got-none, took-target, target-on-page, small-id, no-room-same, for-redirect-on-page, redirect-on-page, erase-on-page, target-length, MovedTo, moved-to, not-moved, took-filled, refused-same, no-target}
 use Rattle.segment_forward.specs.Words.{rootOrOld, newTarget}
 use Rattle.segment_forward.proofs.Steps.{Asks, asks-still, exact-still, two-length, first-left, two-swapped, three-swapped, told-both}
+
+true-false : _≡_ {A = Bool} true false → ⊥
+true-false e = let z : _≡_ {A = ℕ} 0 1 = cc in absurd (omega arith)
 
 -- ---- the search: 7, 4 (new page), 8
 
@@ -133,3 +136,148 @@ module _ (i t p : ℕ) where
 
   pub is-other : p ≢ pageNo i → p ≢ pageNo t → rootOrOld i t p ≡ false
   is-other a b = rw (ne-eqb p (pageNo i) a, ne-eqb p (pageNo t) b)
+
+-- the first forwarding has no old target
+pub root-alone : (i : ℕ) → rootOrOld i i ≡ (λ p. eqb p (pageNo i))
+root-alone i = λ z p. once (eqb p (pageNo i)) z
+  where
+    once : (b : Bool) → (b || b) ≡ b
+    once true = refl
+    once false = refl
+
+-- ---- what the search answered: refused, or a target at k
+
+not-done : (y : Answer) → OneOf (1 ∷ 2 ∷ 3 ∷ 4 ∷ 5 ∷ 6 ∷ 7 ∷ 8 ∷ []) (tagOf answers.the-type y) → 0 < answerNo y
+not-done (answer.Done k) h =
+    absurd
+    (⊎-elim (λ e. omega arith)
+    (⊎-elim (λ e. omega arith) (⊎-elim (λ e. omega arith) (⊎-elim (λ e. omega arith) (⊎-elim (λ e. omega arith) (⊎-elim (λ e. omega arith) (⊎-elim (λ e. omega arith) (λ e. omega arith)))))))
+    h)
+not-done answer.Size h = omega arith
+not-done answer.NoPage h = omega arith
+not-done answer.Long h = omega arith
+not-done answer.Damaged h = omega arith
+not-done answer.NoRecord h = omega arith
+not-done answer.Forwarded h = omega arith
+not-done answer.Full h = omega arith
+not-done answer.Stale h = omega arith
+
+-- what is known of a page found; a refusal has a number
+abbrev FoundBy : List ℕ → ℕ → (ℕ → Bool) → Found → Type 0
+FoundBy s m ex (nowhere a) = 0 < a
+FoundBy s m ex (found q j a) = (q * 16384 + 16384 ≤ length s) × (sound (segView s .page q) ≡ true) × (ex q ≡ false) × (allocate (segView s .page q) m ≡ got j a)
+
+found-by : (s v : List ℕ) (m : ℕ) (ex : ℕ → Bool) → FoundBy s m ex (find foundIn (segView s) v m ex)
+unfolding find
+found-by s v m ex = go (foundIn v (segView s .pages) (m + 8)) (named-ok v (segView s .pages) (m + 8))
+  where
+    go : (x : Named) → NamedOk (segView s .pages) x → FoundBy s m ex (findOn (segView s) m ex x)
+    go Full h = omega arith
+    go (At p) h =
+        by-test (FoundBy s m ex) (not (sound (segView s .page p))) (nowhere 4) (cond (ex p) (nowhere 8) (taken p (allocate (segView s .page p) m))) (λ f. omega arith)
+        (λ f. by-test (FoundBy s m ex) (ex p) (nowhere 8) (taken p (allocate (segView s .page p) m)) (λ x. omega arith)
+        (λ x. at-place (allocate (segView s .page p) m) refl (not-false (sound (segView s .page p)) f) x))
+      where
+        at-place : (a : Alloc) → allocate (segView s .page p) m ≡ a → sound (segView s .page p) ≡ true → ex p ≡ false → FoundBy s m ex (taken p a)
+        at-place noRoom e f x = omega arith
+        at-place (got k a) e f x = (omega (arith, seen-pages s, h), f, x, e)
+
+-- the target is at k, and its page step left t
+pub record Placed (s : List ℕ) (i n : ℕ) (bs : List ℕ) (ex : ℕ → Bool) (f : Found) (k : ℕ) (t : List ℕ) : Type 0 where
+  pub plan : Plan
+  pub is : f ≡ found (pageNo k) (slotNo k) plan
+  pub fits : pageNo k * 16384 + 16384 ≤ length s
+  pub took : Took s (on (pageNo k) (targetPlan (slotNo k) plan (toBE 8 i ++ bs))) t
+  pub away : ex (pageNo k) ≡ false
+  pub small : k < 2 ^ 62
+
+module _ (s v : List ℕ) (i n : ℕ) (bs : List ℕ) (t : List ℕ) where
+  -- a refusal of the search is one of the forwarding
+  module _ (y : Answer) (refused : OneOf (1 ∷ 2 ∷ 3 ∷ 4 ∷ 5 ∷ 6 ∷ 7 ∷ 8 ∷ []) (tagOf answers.the-type y)) where
+    pub forward-refused : (f : Found) → outcome y t v ≡ result s (newTarget v i bs f) → outcome y t v ≡ result s (forwarded (segView s) v i n (λ o. bs) [] f)
+    unfolding result
+    forward-refused (nowhere a) e = e
+    forward-refused (found q j a) e = let z : answerNo y ≡ 0 = ap (λ (r : Result). r .answer) e in absurd (omega (arith, z, not-done y refused))
+
+    pub again-refused : (j : ℕ) (f : Found) → outcome y t v ≡ result s (newTarget v i bs f) → outcome y t v ≡ result s (forwardedAgain (segView s) v i n (λ o. bs) j [] f)
+    unfolding result
+    again-refused j (nowhere a) e = e
+    again-refused j (found q k a) e = let z : answerNo y ≡ 0 = ap (λ (r : Result). r .answer) e in absurd (omega (arith, z, not-done y refused))
+
+  pub placed-at : (few : length s / 16384 ≤ 32527) (size : length bs ≡ n) (ex : ℕ → Bool) (k : ℕ) → outcome (answer.Done k) t v ≡ placing s v i n bs ex
+      → Placed s i n bs ex (find foundIn (segView s) v (n + 8) ex) k t
+  unfolding result
+  placed-at few size ex k = go (find foundIn (segView s) v (n + 8) ex) (found-by s v (n + 8) ex)
+    where
+      go : (f : Found) → FoundBy s (n + 8) ex f → outcome (answer.Done k) t v ≡ result s (newTarget v i bs f) → Placed s i n bs ex f k t
+      go (nowhere a) o e = let z : 0 ≡ a = ap (λ (r : Result). r .answer) e in absurd (omega arith)
+      go (found q j a) o e =
+          let ek : k ≡ idOf q j = ap (λ (r : Result). r .id) e in
+          let et : t ≡ carriedOn (on q (targetPlan j a (toBE 8 i ++ bs))) s = ap (λ (r : Result). r .seg) e in
+          let l = got-small s q (o .0) (o .1) (n + 8) j a (o .3) in
+          let p : pageNo k ≡ q = omega (arith, ek, l) in
+          let m : slotNo k ≡ j = omega (arith, ek, l) in
+          record {
+            plan = a;
+            is = rw (p, m);
+            fits = rw p (o .0);
+            took = rw (p, m) (record { exact = target-on-page s q (o .0) (o .1) (n + 8) j a (o .3) (omega arith) (toBE 8 i ++ bs) (target-length i bs n size); is = et });
+            away = rw p (o .2);
+            small = omega (arith, ek, small-id s q (o .0) (o .1) (n + 8) j a (o .3) few);
+          }
+
+-- ---- done: the new target's page is written first, since the root's slot names its slot
+
+-- the id that the plan writes into the root's slot
+whole-id : (k : ℕ) → k ≡ idOf (pageNo k) (slotNo k)
+whole-id k = omega arith
+
+-- what the search left of t, and the root's page as the step there asks for it
+module _ (s v : List ℕ) (i n : ℕ) (bs : List ℕ) (j : ℕ) (f : Found) (k : ℕ) (t : List ℕ) (o : Placed s i n bs (rootOrOld i j) f k t) where
+  abbrev pub newStep : OnPage
+  newStep = on (pageNo k) (targetPlan (slotNo k) (o .plan) (toBE 8 i ++ bs))
+
+  others : (pageNo i ≢ pageNo k) × (pageNo j ≢ pageNo k)
+  others = apart (eqb (pageNo k) (pageNo i)) (eqb (pageNo k) (pageNo j)) refl refl (o .away)
+    where
+      apart : (a b : Bool) → eqb (pageNo k) (pageNo i) ≡ a → eqb (pageNo k) (pageNo j) ≡ b → (a || b) ≡ false → (pageNo i ≢ pageNo k) × (pageNo j ≢ pageNo k)
+      apart true b x y z = absurd (true-false z)
+      apart false b x y z = (λ e. eqb-false (pageNo k) (pageNo i) x (sym e), λ e. eqb-false (pageNo k) (pageNo j) (y ∙ z) (sym e))
+
+  pub placed-id : idOf (pageNo k) (slotNo k) < 2 ^ 62
+  placed-id = omega (arith, o .small)
+
+  pub root-asks : Asks s (pageNo i) (slotNo i) → Asks t (pageNo i) (slotNo i)
+  root-asks = asks-still s newStep t (o .took) (pageNo i) (others .0) (slotNo i)
+
+  -- the first forwarding: the root's step left r
+  module _ (asks : Asks s (pageNo i) (slotNo i)) (r : List ℕ) (er : r ≡ carriedOn (on (pageNo i) (eraseForRedirect (segView t .page (pageNo i)) (slotNo i) k)) t) where
+    abbrev pub rootStep : OnPage
+    rootStep = on (pageNo i) (eraseForRedirect (segView s .page (pageNo i)) (slotNo i) (idOf (pageNo k) (slotNo k)))
+
+    root-exact : ExactOn s rootStep
+    root-exact = for-redirect-on-page s (pageNo i) (slotNo i) (asks .0) (asks .1) (asks .2) (idOf (pageNo k) (slotNo k)) placed-id
+
+    root-took : Took t rootStep r
+    root-took =
+        next-took s newStep t (o .took) (pageNo i) (others .0) (λ u. eraseForRedirect u (slotNo i) (idOf (pageNo k) (slotNo k))) root-exact r
+        (er ∙ ap (λ (m : ℕ). carriedOn (on (pageNo i) (eraseForRedirect (segView t .page (pageNo i)) (slotNo i) m)) t) (whole-id k))
+
+    pub forward-length : length r ≡ length s
+    forward-length = two-length s newStep rootStep t r (o .took) root-took (others .0)
+
+    pub root-left : Left r (pageNo i) (rootStep .plan .after)
+    root-left = left-own t rootStep r root-took
+
+    pub new-left : Left r (pageNo k) (newStep .plan .after)
+    new-left = first-left s newStep rootStep t r (o .took) root-took (others .0)
+
+    pub forward-done : (w y : List ℕ) → w ≡ update v (length r / 16384) (pageNo i) (view (pageOf r (pageNo i)) .freeSpace)
+        → y ≡ update w (length r / 16384) (pageNo k) (view (pageOf r (pageNo k)) .freeSpace)
+        → outcome (answer.Done i) r y ≡ result s (forwarded (segView s) v i n (λ b. bs) [] f)
+    unfolding result
+    forward-done w y ew ey =
+        let h = two-swapped s newStep rootStep t r (o .took) root-took (others .0) root-exact in
+        let g = told-both s v r forward-length (pageNo i) (rootStep .plan .after) root-left (pageNo k) (newStep .plan .after) new-left w y ew ey in
+        let d : outcome (answer.Done i) r y ≡ result s (forwarded (segView s) v i n (λ b. bs) [] (found (pageNo k) (slotNo k) (o .plan))) = λ z. record { answer = 0; id = i; seg = h z; inv = g z } in
+        d ∙ ap (λ (x : Found). result s (forwarded (segView s) v i n (λ b. bs) [] x)) (sym (o .is))
