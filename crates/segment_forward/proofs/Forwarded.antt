@@ -11,6 +11,7 @@ use borrow.Author.Tests.{ltb-false, eqb-false, eq-eqb, ne-eqb, not-false}
 use types.Run.{OneOf}
 use denote.Enum.Declared.{tagOf}
 use Rattle.store.specs.Numbers.{put, toBE, idOf, pageNo, slotNo}
+use Rattle.store.specs.Slots.{isFree, isTarget}
 use Rattle.store.specs.Page.{View, view, sound}
 use Rattle.store.specs.PageSteps.{Plan, Alloc, noRoom, got, allocate, erase, eraseForRedirect, filled, Relocated, moved, relocate}
 use Rattle.store.specs.Inventory.{foundIn, entryAt, entryFor, update}
@@ -204,10 +205,10 @@ module _ (s v : List ℕ) (i n : ℕ) (bs : List ℕ) (t : List ℕ) where
     again-refused j (nowhere a) e = e
     again-refused j (found q k a) e = let z : answerNo y ≡ 0 = ap (λ (r : Result). r .answer) e in absurd (omega (arith, z, not-done y refused))
 
-  pub placed-at : (few : length s / 16384 ≤ 32527) (size : length bs ≡ n) (ex : ℕ → Bool) (k : ℕ) → outcome (answer.Done k) t v ≡ placing s v i n bs ex
+  pub placed-at : (few : length s / 16384 ≤ 32527) (size : length bs ≡ n) (ex : ℕ → Bool) (y : Answer) (k : ℕ) → y ≡ answer.Done k → outcome y t v ≡ placing s v i n bs ex
       → Placed s i n bs ex (find foundIn (segView s) v (n + 8) ex) k t
   unfolding result
-  placed-at few size ex k = go (find foundIn (segView s) v (n + 8) ex) (found-by s v (n + 8) ex)
+  placed-at few size ex y k is e = go (find foundIn (segView s) v (n + 8) ex) (found-by s v (n + 8) ex) (ap (λ (x : Answer). outcome x t v) (sym is) ∙ e)
     where
       go : (f : Found) → FoundBy s (n + 8) ex f → outcome (answer.Done k) t v ≡ result s (newTarget v i bs f) → Placed s i n bs ex f k t
       go (nowhere a) o e = let z : 0 ≡ a = ap (λ (r : Result). r .answer) e in absurd (omega arith)
@@ -281,3 +282,127 @@ module _ (s v : List ℕ) (i n : ℕ) (bs : List ℕ) (j : ℕ) (f : Found) (k :
         let g = told-both s v r forward-length (pageNo i) (rootStep .plan .after) root-left (pageNo k) (newStep .plan .after) new-left w y ew ey in
         let d : outcome (answer.Done i) r y ≡ result s (forwarded (segView s) v i n (λ b. bs) [] (found (pageNo k) (slotNo k) (o .plan))) = λ z. record { answer = 0; id = i; seg = h z; inv = g z } in
         d ∙ ap (λ (x : Found). result s (forwarded (segView s) v i n (λ b. bs) [] x)) (sym (o .is))
+
+-- ---- the old target at j, which the root's redirect names
+
+module _ (s : List ℕ) (i j : ℕ) (back : pointsBack (segView s) i j ≡ true) where
+  abbrev pub oldStep : OnPage
+  oldStep = on (pageNo j) (erase (segView s .page (pageNo j)) (slotNo j))
+
+  old-away : pageNo j ≢ pageNo i
+  old-away = back-ok s i j back .2
+
+  old-asks : Asks s (pageNo j) (slotNo j)
+  old-asks =
+      let b = back-ok s i j back in
+      (b .0 .fits, sound-test (segView s .page (pageNo j)) (b .0 .sound), target-taken (segView s .page (pageNo j) .at (slotNo j)) (b .1))
+
+  old-exact : ExactOn s oldStep
+  old-exact = erase-on-page s (pageNo j) (slotNo j) (old-asks .0) (old-asks .1) (old-asks .2)
+
+-- ---- the second forwarding: the root's entry names the new target, which left r
+
+module _ (s v : List ℕ) (i n : ℕ) (bs : List ℕ) (j : ℕ) (f : Found) (k : ℕ) (t : List ℕ) (o : Placed s i n bs (rootOrOld i j) f k t)
+    (fits : pageNo i * 16384 + 16384 ≤ length s) (ok : sound (segView s .page (pageNo i)) ≡ true) (here : segView s .page (pageNo i) .at (slotNo i) ≡ Redirect j)
+    (back : pointsBack (segView s) i j ≡ true) (r : List ℕ) (er : r ≡ carriedOn (on (pageNo i) (redirectPlan (segView t .page (pageNo i)) (slotNo i) k)) t) where
+  abbrev freshStep : OnPage
+  freshStep = newStep s v i n bs j f k t o
+
+  abbrev entryStep : OnPage
+  entryStep = on (pageNo i) (redirectPlan (segView s .page (pageNo i)) (slotNo i) (idOf (pageNo k) (slotNo k)))
+
+  apart : (pageNo i ≢ pageNo k) × (pageNo j ≢ pageNo k)
+  apart = others s v i n bs j f k t o
+
+  entry-exact : ExactOn s entryStep
+  entry-exact = redirect-on-page s (pageNo i) (slotNo i) fits ok j here (idOf (pageNo k) (slotNo k)) (placed-id s v i n bs j f k t o)
+
+  entry-took : Took t entryStep r
+  entry-took =
+      next-took s freshStep t (o .took) (pageNo i) (apart .0) (λ u. redirectPlan u (slotNo i) (idOf (pageNo k) (slotNo k))) entry-exact r
+      (er ∙ ap (λ (m : ℕ). carriedOn (on (pageNo i) (redirectPlan (segView t .page (pageNo i)) (slotNo i) m)) t) (whole-id k))
+
+  -- neither step touched the old target's page
+  pub again-asks : Asks r (pageNo j) (slotNo j)
+  again-asks =
+      asks-still t entryStep r entry-took (pageNo j) (old-away s i j back) (slotNo j)
+      (asks-still s freshStep t (o .took) (pageNo j) (apart .1) (slotNo j) (old-asks s i j back))
+
+  -- the old one is freed, which leaves q
+  module _ (q : List ℕ) (eq : q ≡ carriedOn (on (pageNo j) (erase (segView r .page (pageNo j)) (slotNo j))) r) where
+    freed : Took r (oldStep s i j back) q
+    freed =
+        record {
+          exact = exact-still t entryStep r entry-took (pageNo j) (old-away s i j back) (oldStep s i j back .plan)
+              (exact-still s freshStep t (o .took) (pageNo j) (apart .1) (oldStep s i j back .plan) (old-exact s i j back));
+          is = eq
+              ∙ ap (λ (u : View). carriedOn (on (pageNo j) (erase u (slotNo j))) r)
+              (other-seen t entryStep r entry-took (pageNo j) (old-away s i j back) ∙ other-seen s freshStep t (o .took) (pageNo j) (apart .1));
+        }
+
+    pub again-length : length q ≡ length s
+    again-length = took-length r (oldStep s i j back) q freed ∙ two-length s freshStep entryStep t r (o .took) entry-took (apart .0)
+
+    pub again-old-left : Left q (pageNo j) (oldStep s i j back .plan .after)
+    again-old-left = left-own r (oldStep s i j back) q freed
+
+    pub again-new-left : Left q (pageNo k) (freshStep .plan .after)
+    again-new-left =
+        left-other r (oldStep s i j back) q freed (pageNo k) (λ e. apart .1 (sym e)) (freshStep .plan .after)
+        (first-left s freshStep entryStep t r (o .took) entry-took (apart .0))
+
+    pub again-done : (w y : List ℕ) → w ≡ update v (length q / 16384) (pageNo j) (view (pageOf q (pageNo j)) .freeSpace)
+        → y ≡ update w (length q / 16384) (pageNo k) (view (pageOf q (pageNo k)) .freeSpace)
+        → outcome (answer.Done i) q y ≡ result s (forwardedAgain (segView s) v i n (λ b. bs) j [] f)
+    unfolding result
+    again-done w y ew ey =
+        let h = three-swapped s freshStep entryStep t r (o .took) entry-took (apart .0) entry-exact (oldStep s i j back) q freed (old-exact s i j back) (apart .1) (old-away s i j back) in
+        let g = told-both s v q again-length (pageNo j) (oldStep s i j back .plan .after) again-old-left (pageNo k) (freshStep .plan .after) again-new-left w y ew ey in
+        let d : outcome (answer.Done i) q y ≡ result s (forwardedAgain (segView s) v i n (λ b. bs) j [] (found (pageNo k) (slotNo k) (o .plan))) = λ z. record { answer = 0; id = i; seg = h z; inv = g z } in
+        d ∙ ap (λ (x : Found). result s (forwardedAgain (segView s) v i n (λ b. bs) j [] x)) (sym (o .is))
+
+-- ---- "moving home frees the target": t is what the step on the root's page left
+
+module _ (s v : List ℕ) (i n : ℕ) (bs : List ℕ) (j : ℕ) (fits : pageNo i * 16384 + 16384 ≤ length s) (t : List ℕ)
+    (et : t ≡ put s (pageNo i * 16384) (pageMoved (refilled (relocate (segView s .page (pageNo i)) (slotNo i) n) (slotNo i) bs) (pageOf s (pageNo i)))) where
+  pub home-stays : wasMoved (relocate (segView s .page (pageNo i)) (slotNo i) n) ≡ false → t ≡ s
+  home-stays e = refused-same s (pageNo i) fits t (slotNo i) n (not-moved (relocate (segView s .page (pageNo i)) (slotNo i) n) e) bs et
+
+  module _ (ok : sound (segView s .page (pageNo i)) ≡ true) (here : segView s .page (pageNo i) .at (slotNo i) ≡ Redirect j) (back : pointsBack (segView s) i j ≡ true)
+      (size : length bs ≡ n) (went : wasMoved (relocate (segView s .page (pageNo i)) (slotNo i) n) ≡ true) where
+    pub home : MovedTo (relocate (segView s .page (pageNo i)) (slotNo i) n)
+    home = moved-to (relocate (segView s .page (pageNo i)) (slotNo i) n) went
+
+    abbrev homeStep : OnPage
+    homeStep = on (pageNo i) (filled (home .to) (slotNo i) bs)
+
+    home-took : Took s homeStep t
+    home-took =
+        took-filled s (pageNo i) (slotNo i) fits ok (ap isFree here) n (no-target (segView s .page (pageNo i) .at (slotNo i)) n (ap isTarget here)) (home .to) (home .is) bs size t et
+
+    pub home-asks : Asks t (pageNo j) (slotNo j)
+    home-asks = asks-still s homeStep t home-took (pageNo j) (old-away s i j back) (slotNo j) (old-asks s i j back)
+
+    -- the target is freed, which leaves r
+    module _ (r : List ℕ) (er : r ≡ carriedOn (on (pageNo j) (erase (segView t .page (pageNo j)) (slotNo j))) t) where
+      left-behind : Took t (oldStep s i j back) r
+      left-behind = next-took s homeStep t home-took (pageNo j) (old-away s i j back) (λ u. erase u (slotNo j)) (old-exact s i j back) r er
+
+      pub home-length : length r ≡ length s
+      home-length = two-length s homeStep (oldStep s i j back) t r home-took left-behind (old-away s i j back)
+
+      pub home-left : Left r (pageNo i) (homeStep .plan .after)
+      home-left = first-left s homeStep (oldStep s i j back) t r home-took left-behind (old-away s i j back)
+
+      pub home-old-left : Left r (pageNo j) (oldStep s i j back .plan .after)
+      home-old-left = left-own t (oldStep s i j back) r left-behind
+
+      pub home-done : (w y : List ℕ) → w ≡ update v (length r / 16384) (pageNo i) (view (pageOf r (pageNo i)) .freeSpace)
+          → y ≡ update w (length r / 16384) (pageNo j) (view (pageOf r (pageNo j)) .freeSpace)
+          → outcome (answer.Done i) r y ≡ result s (atHome (segView s) v i n (λ b. bs) j [] (relocate (segView s .page (pageNo i)) (slotNo i) n))
+      unfolding result
+      home-done w y ew ey =
+          let h : r ≡ carried (homeStep ∷ oldStep s i j back ∷ []) s = left-behind .is ∙ ap (carriedOn (oldStep s i j back)) (home-took .is) in
+          let g = told-both s v r home-length (pageNo i) (homeStep .plan .after) home-left (pageNo j) (oldStep s i j back .plan .after) home-old-left w y ew ey in
+          let d : outcome (answer.Done i) r y ≡ result s (atHome (segView s) v i n (λ b. bs) j [] (moved (home .to))) = λ z. record { answer = 0; id = i; seg = h z; inv = g z } in
+          d ∙ ap (λ (x : Relocated). result s (atHome (segView s) v i n (λ b. bs) j [] x)) (sym (home .is))

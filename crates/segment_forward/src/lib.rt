@@ -47,3 +47,19 @@ fn place_target(segment: &mut [u8], inventory: &[u8], id: usize, old: usize, byt
         id: page * 65536 + slot,
     }
 }
+
+// The first forwarding: the root's record becomes a redirect. The new target has the bytes, cut off or filled up with zeros to `size`.
+pub fn forward(segment: &mut [u8], inventory: &mut [u8], id: usize, bytes: &[u8], size: usize) -> Answer
+    requires { ⌜ Sizes (now segment) (now inventory) ⌝ }
+    requires { ⌜ (pageNo id * 16384 + 16384 ≤ length (now segment)) × (sound (segView (now segment) .page (pageNo id)) ≡ true) × (isFree (segView (now segment) .page (pageNo id) .at (slotNo id)) ≡ false) × (size ≤ 16364) ⌝ }
+    ensures { λ r. ⌜ outcome r (now (segment .exit)) (now (inventory .exit)) ≡ result (now (segment .entry)) (forwarded (segView (now (segment .entry))) (now (inventory .entry)) id size (λ o. fit size (now (bytes .entry))) [] (find foundIn (segView (now (segment .entry))) (now (inventory .entry)) (size + 8) (λ p. eqb p (pageNo id)))) ⌝ }
+{
+    let placed = place_target(segment, inventory, id, id, bytes, size);
+    let Answer::Done { id: target } = placed else {
+        return placed;
+    };
+    lent_steps::erase_for_redirect_on(segment, id / 65536, id % 65536, target);
+    lent_steps::update_on(segment, inventory, id / 65536);
+    lent_steps::update_on(segment, inventory, target / 65536);
+    Answer::Done { id }
+}
