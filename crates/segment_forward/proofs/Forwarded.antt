@@ -34,8 +34,8 @@ use Rattle.lent_steps.specs.After.{Took, Left, left-own, left-other, took-lengt
 use Rattle.segment_forward.specs.Words.{rootOrOld, newTarget}
 use Rattle.segment_forward.proofs.Steps.{Asks, asks-still, exact-still, two-length, first-left, two-swapped, three-swapped, told-both}
 
-true-false : _≡_ {A = Bool} true false → ⊥
-true-false e = let z : _≡_ {A = ℕ} 0 1 = cc in absurd (omega arith)
+pub clash : {A : Type 0} (b : Bool) → b ≡ true → b ≡ false → A
+clash b x y = let z : _≡_ {A = ℕ} 0 1 = cc in absurd (omega arith)
 
 -- ---- the search: 7, 4 (new page), 8
 
@@ -242,7 +242,7 @@ module _ (s v : List ℕ) (i n : ℕ) (bs : List ℕ) (j : ℕ) (f : Found) (k :
   others = apart (eqb (pageNo k) (pageNo i)) (eqb (pageNo k) (pageNo j)) refl refl (o .away)
     where
       apart : (a b : Bool) → eqb (pageNo k) (pageNo i) ≡ a → eqb (pageNo k) (pageNo j) ≡ b → (a || b) ≡ false → (pageNo i ≢ pageNo k) × (pageNo j ≢ pageNo k)
-      apart true b x y z = absurd (true-false z)
+      apart true b x y z = clash true refl z
       apart false b x y z = (λ e. eqb-false (pageNo k) (pageNo i) x (sym e), λ e. eqb-false (pageNo k) (pageNo j) (y ∙ z) (sym e))
 
   pub placed-id : idOf (pageNo k) (slotNo k) < 2 ^ 62
@@ -292,7 +292,7 @@ module _ (s : List ℕ) (i j : ℕ) (back : pointsBack (segView s) i j ≡ true)
   old-away : pageNo j ≢ pageNo i
   old-away = back-ok s i j back .2
 
-  old-asks : Asks s (pageNo j) (slotNo j)
+  pub old-asks : Asks s (pageNo j) (slotNo j)
   old-asks =
       let b = back-ok s i j back in
       (b .0 .fits, sound-test (segView s .page (pageNo j)) (b .0 .sound), target-taken (segView s .page (pageNo j) .at (slotNo j)) (b .1))

@@ -23,10 +23,10 @@ Asks s p k = (p * 16384 + 16384 ≤ length s) × (sound (segView s .page p) ≡ 
 module _ (s : List ℕ) (e : OnPage) (t : List ℕ) (x : Took s e t) (p : ℕ) (away : p ≢ e .on) where
   pub asks-still : (k : ℕ) → Asks s p k → Asks t p k
   asks-still k h = (
-        omega (arith, took-length s e t x, h .0),
-        still s e t x p away (λ u. sound u ≡ true) (h .1),
-        still s e t x p away (λ u. isFree (u .at k) ≡ false) (h .2),
-      )
+    omega (arith, took-length s e t x, h .0),
+    still s e t x p away (λ u. sound u ≡ true) (h .1),
+    still s e t x p away (λ u. isFree (u .at k) ≡ false) (h .2),
+  )
 
   pub exact-still : (a : Plan) → ExactOn s (on p a) → ExactOn t (on p a)
   exact-still a y = subst (λ (l : List ℕ). ExactOn l (on p a)) (sym (x .is)) (exact-skip s e (on p a) (x .exact) y away)
