@@ -1,150 +1,35 @@
--- Forwarding: what the code did is what the plan says. Assumes nothing.
+-- Forwarding: what the code did after the search is what the plan says. Assumes nothing.
 use Prim.Native.Nat.{ℕ, _+_, _*_, _/_, _^_, _≤_, _<_}
-use mathlib.Core.Path.{_≡_, refl, sym, ap, subst, _∙_}
+use mathlib.Core.Path.{_≡_, refl, sym, ap, _∙_}
 use mathlib.Core.Bool.{Bool, true, false, not, cond, _||_}
 use mathlib.Core.List.{List, [], _∷_, _++_}
 use mathlib.Core.Logic.{_≢_, ⊎-elim}
 use native.Mathlib.Omega.{arith}
 use lib.ListN.{length}
-use lib.Dec.{eqb, ltb}
-use borrow.Author.Tests.{ltb-false, eqb-false, eq-eqb, ne-eqb, not-false}
+use lib.Dec.{eqb}
+use borrow.Author.Tests.{eqb-false, not-false}
 use types.Run.{OneOf}
 use denote.Enum.Declared.{tagOf}
-use Rattle.store.specs.Numbers.{put, toBE, idOf, pageNo, slotNo}
-use Rattle.store.specs.Slots.{isFree, isTarget}
+use Rattle.store.specs.Numbers.{toBE, idOf, pageNo, slotNo}
 use Rattle.store.specs.Page.{View, view, sound}
-use Rattle.store.specs.PageSteps.{Plan, Alloc, noRoom, got, allocate, erase, eraseForRedirect, filled, Relocated, moved, relocate}
-use Rattle.store.specs.Inventory.{foundIn, entryAt, entryFor, update}
-use Rattle.store.specs.Segment.{SegView, segView, pageOf, OnPage, on, carriedOn, carried, Result, result, Found, nowhere, found, taken, find, findOn, pointsBack, forwarded, forwardedAgain, atHome}
+use Rattle.store.specs.PageSteps.{Plan, Alloc, noRoom, got, allocate, erase, eraseForRedirect}
+use Rattle.store.specs.Inventory.{foundIn, update}
+use Rattle.store.specs.Segment.{segView, pageOf, OnPage, on, carriedOn, Result, result, Found, nowhere, found, taken, find, findOn, pointsBack, forwarded, forwardedAgain}
 use Rattle.store.specs.Answers.{outcome, answerNo}
-use Rattle.store.specs.Laws.SoundPage.{sound-test}
-use Rattle.store.specs.Laws.Calls.{by-test, NamedOk, named-ok, AllocOk, alloc-ok, back-ok, target-taken}
-use Rattle.store.specs.Laws.Segments.{ExactOn, length-page}
+use Rattle.store.specs.Laws.Segments.{ExactOn}
+use Rattle.store.specs.Laws.Calls.{by-test, NamedOk, named-ok}
 use Rattle.store.specs.Laws.SoundSegment.{seen-pages}
 use Rattle.store.specs.declared.Named.{Named}
 use Rattle.store.specs.declared.Named.the-variants.{At, Full}
-use Rattle.store.specs.declared.Place.{Place}
-use Rattle.store.specs.declared.Place.the-variants as place
 use Rattle.store.specs.declared.Slot.the-variants.{Redirect}
 use Rattle.store.specs.declared.Answer.{Answer}
-use Rattle.store.proofs.Answer as answers
 use Rattle.store.specs.declared.Answer.the-variants as answer
-use Rattle.slotted_page.specs.Words.{pageAfter, placeOf, targetPlan, targetAt, redirectPlan, pageMoved, wasMoved, refilled}
-use Rattle.lent_steps.specs.After.{Took, Left, left-own, left-other, took-length, other-seen, next-took, got-at, got-none, took-target, target-on-page, small-id, no-room-same, for-redirect-on-page, redirect-on-page, erase-on-page, target-length, MovedTo, moved-to, not-moved, took-filled, refused-same, no-target}
+use Rattle.store.proofs.Answer as answers
+use Rattle.slotted_page.specs.Words.{targetPlan, redirectPlan}
+use Rattle.lent_steps.specs.After.{Took, took-length, Left, left-own, left-other, other-seen, next-took, target-on-page, small-id, for-redirect-on-page, redirect-on-page, target-length}
 use Rattle.segment_forward.specs.Words.{rootOrOld, newTarget}
-use Rattle.segment_forward.proofs.Steps.{Asks, asks-still, exact-still, two-length, first-left, two-swapped, three-swapped, told-both}
-
-pub clash : {A : Type 0} (b : Bool) → b ≡ true → b ≡ false → A
-clash b x y = let z : _≡_ {A = ℕ} 0 1 = cc in absurd (omega arith)
-
--- ---- the search: 7, 4 (new page), 8
-
--- a page is named only for a need that some page may have
-abbrev NeedOk : ℕ → Named → Type 0
-NeedOk need (At p) = need ≤ 16372
-NeedOk need Full = Unit {0}
-
-need-ok : (v : List ℕ) (n need : ℕ) → NeedOk need (foundIn v n need)
-unfolding foundIn
-need-ok v n need =
-    let e : ℕ = entryAt v (entryFor need) in
-    by-test (NeedOk need) (ltb 16372 need) Full (cond (ltb e n) (At e) Full) (λ t. tt)
-    (λ t. by-test (NeedOk need) (ltb e n) (At e) Full (λ l. ltb-false 16372 need t) (λ l. tt))
-
--- a place's slot is one of an id
-got-small : (s : List ℕ) (p : ℕ) → p * 16384 + 16384 ≤ length s → sound (segView s .page p) ≡ true → (m k : ℕ) (a : Plan) → allocate (segView s .page p) m ≡ got k a → k < 65536
-unfolding segView
-got-small s p fits ok m k a e =
-    let o : AllocOk (pageOf s p) m (got k a) = subst (AllocOk (pageOf s p) m) e (alloc-ok (pageOf s p) m (length-page s p fits) ok) in
-    omega (arith, o .1, o .0 .sound .few)
-
-module _ (s v : List ℕ) (i n : ℕ) (bs : List ℕ) (ex : ℕ → Bool) where
-  abbrev pub placing : Result
-  placing = result s (newTarget v i bs (find foundIn (segView s) v (n + 8) ex))
-
-  by-named : (m : Named) → foundIn v (length s / 16384) (n + 16) ≡ m → result s (newTarget v i bs (findOn (segView s) (n + 8) ex m)) ≡ placing
-  unfolding find
-  by-named m e =
-      let d : n + 8 + 8 ≡ n + 16 = omega arith in
-      let g : foundIn v (segView s .pages) (n + 8 + 8) ≡ m = ap (λ (k : ℕ). foundIn v k (n + 8 + 8)) (seen-pages s) ∙ ap (foundIn v (length s / 16384)) d ∙ e in
-      sym (rw g)
-
-  pub place-full : foundIn v (length s / 16384) (n + 16) ≡ Full → outcome answer.Full s v ≡ placing
-  unfolding result
-  place-full e = by-named Full e
-
-  module _ (p : ℕ) (named : foundIn v (length s / 16384) (n + 16) ≡ At p) where
-    pub place-fits : p * 16384 + 16384 ≤ length s
-    place-fits = let h = subst (NamedOk (length s / 16384)) named (named-ok v (length s / 16384) (n + 16)) in omega arith
-
-    pub place-short : n ≤ 16356
-    place-short = let h = subst (NeedOk (n + 16)) named (need-ok v (length s / 16384) (n + 16)) in omega arith
-
-    pub place-damaged : sound (segView s .page p) ≡ false → outcome answer.Damaged s v ≡ placing
-    unfolding result
-    place-damaged e = at-page ∙ by-named (At p) named
-      where
-        at-page : outcome answer.Damaged s v ≡ result s (newTarget v i bs (findOn (segView s) (n + 8) ex (At p)))
-        at-page = rw e
-
-    module _ (ok : sound (segView s .page p) ≡ true) where
-      pub place-excluded : ex p ≡ true → outcome answer.Stale s v ≡ placing
-      unfolding result
-      place-excluded e = at-page ∙ by-named (At p) named
-        where
-          at-page : outcome answer.Stale s v ≡ result s (newTarget v i bs (findOn (segView s) (n + 8) ex (At p)))
-          at-page = rw (ok, e)
-
-      -- t is what the page step left, and it answered with no place or with slot k
-      module _ (away : ex p ≡ false) (t : List ℕ) (et : t ≡ put s (p * 16384) (pageAfter (targetAt (allocate (segView s .page p) (n + 8)) (toBE 8 i ++ bs)) (pageOf s p))) where
-        by-place : (x : Alloc) → allocate (segView s .page p) (n + 8) ≡ x → result s (newTarget v i bs (taken p x)) ≡ placing
-        by-place x e = sym at-page ∙ by-named (At p) named
-          where
-            at-page : result s (newTarget v i bs (findOn (segView s) (n + 8) ex (At p))) ≡ result s (newTarget v i bs (taken p x))
-            at-page = rw (ok, away, e)
-
-        pub place-no-room : placeOf (allocate (segView s .page p) (n + 8)) ≡ place.NoRoom → outcome answer.Stale t v ≡ placing
-        unfolding result
-        place-no-room e =
-            let x = got-none (allocate (segView s .page p) (n + 8)) e in
-            ap (λ (l : List ℕ). outcome answer.Stale l v) (no-room-same s p place-fits t (n + 8) x (toBE 8 i ++ bs) et) ∙ by-place noRoom x
-
-        module _ (k o : ℕ) (e : placeOf (allocate (segView s .page p) (n + 8)) ≡ place.At k o) where
-          pub place-slot : k < 65536
-          place-slot =
-              let x = got-at (allocate (segView s .page p) (n + 8)) k o e in
-              got-small s p place-fits ok (n + 8) k (x .to) (x .is)
-
-          pub place-taken : length bs ≡ n → outcome (answer.Done (idOf p k)) t v ≡ placing
-          unfolding result
-          place-taken size =
-              let x = got-at (allocate (segView s .page p) (n + 8)) k o e in
-              let h = took-target s p place-fits ok (n + 8) k (x .to) (x .is) (omega arith) (toBE 8 i ++ bs) (target-length i bs n size) t et in
-              ap (λ (l : List ℕ). outcome (answer.Done (idOf p k)) l v) (h .is) ∙ by-place (got k (x .to)) (x .is)
-
--- ---- the pages excluded
-
-module _ (i t p : ℕ) where
-  pub is-root : p ≡ pageNo i → rootOrOld i t p ≡ true
-  is-root e = rw (eq-eqb p (pageNo i) e)
-
-  pub is-old : p ≡ pageNo t → rootOrOld i t p ≡ true
-  is-old e = go (eqb p (pageNo i)) (eqb p (pageNo t)) (eq-eqb p (pageNo t) e)
-    where
-      go : (a b : Bool) → b ≡ true → (a || b) ≡ true
-      go true b h = refl
-      go false b h = h
-
-  pub is-other : p ≢ pageNo i → p ≢ pageNo t → rootOrOld i t p ≡ false
-  is-other a b = rw (ne-eqb p (pageNo i) a, ne-eqb p (pageNo t) b)
-
--- the first forwarding has no old target
-pub root-alone : (i : ℕ) → rootOrOld i i ≡ (λ p. eqb p (pageNo i))
-root-alone i = λ z p. once (eqb p (pageNo i)) z
-  where
-    once : (b : Bool) → (b || b) ≡ b
-    once true = refl
-    once false = refl
+use Rattle.segment_forward.proofs.Steps.{Asks, asks-still, exact-still, two-length, first-left, two-swapped, three-swapped, told-both, clash, oldStep, old-away, old-asks, old-exact}
+use Rattle.segment_forward.proofs.Search.{got-small, placing}
 
 -- ---- what the search answered: refused, or a target at k
 
@@ -184,7 +69,7 @@ found-by s v m ex = go (foundIn v (segView s .pages) (m + 8)) (named-ok v (segVi
         at-place (got k a) e f x = (omega (arith, seen-pages s, h), f, x, e)
 
 -- the target is at k, and its page step left t
-pub record Placed (s : List ℕ) (i n : ℕ) (bs : List ℕ) (ex : ℕ → Bool) (f : Found) (k : ℕ) (t : List ℕ) : Type 0 where
+pub record Placed (s : List ℕ) (i : ℕ) (bs : List ℕ) (ex : ℕ → Bool) (f : Found) (k : ℕ) (t : List ℕ) : Type 0 where
   pub plan : Plan
   pub is : f ≡ found (pageNo k) (slotNo k) plan
   pub fits : pageNo k * 16384 + 16384 ≤ length s
@@ -206,11 +91,11 @@ module _ (s v : List ℕ) (i n : ℕ) (bs : List ℕ) (t : List ℕ) where
     again-refused j (found q k a) e = let z : answerNo y ≡ 0 = ap (λ (r : Result). r .answer) e in absurd (omega (arith, z, not-done y refused))
 
   pub placed-at : (few : length s / 16384 ≤ 32527) (size : length bs ≡ n) (ex : ℕ → Bool) (y : Answer) (k : ℕ) → y ≡ answer.Done k → outcome y t v ≡ placing s v i n bs ex
-      → Placed s i n bs ex (find foundIn (segView s) v (n + 8) ex) k t
+      → Placed s i bs ex (find foundIn (segView s) v (n + 8) ex) k t
   unfolding result
   placed-at few size ex y k is e = go (find foundIn (segView s) v (n + 8) ex) (found-by s v (n + 8) ex) (ap (λ (x : Answer). outcome x t v) (sym is) ∙ e)
     where
-      go : (f : Found) → FoundBy s (n + 8) ex f → outcome (answer.Done k) t v ≡ result s (newTarget v i bs f) → Placed s i n bs ex f k t
+      go : (f : Found) → FoundBy s (n + 8) ex f → outcome (answer.Done k) t v ≡ result s (newTarget v i bs f) → Placed s i bs ex f k t
       go (nowhere a) o e = let z : 0 ≡ a = ap (λ (r : Result). r .answer) e in absurd (omega arith)
       go (found q j a) o e =
           let ek : k ≡ idOf q j = ap (λ (r : Result). r .id) e in
@@ -234,7 +119,7 @@ whole-id : (k : ℕ) → k ≡ idOf (pageNo k) (slotNo k)
 whole-id k = omega arith
 
 -- what the search left of t, and the root's page as the step there asks for it
-module _ (s v : List ℕ) (i n : ℕ) (bs : List ℕ) (j : ℕ) (f : Found) (k : ℕ) (t : List ℕ) (o : Placed s i n bs (rootOrOld i j) f k t) where
+module _ (s : List ℕ) (i : ℕ) (bs : List ℕ) (j : ℕ) (f : Found) (k : ℕ) (t : List ℕ) (o : Placed s i bs (rootOrOld i j) f k t) where
   abbrev pub newStep : OnPage
   newStep = on (pageNo k) (targetPlan (slotNo k) (o .plan) (toBE 8 i ++ bs))
 
@@ -273,49 +158,32 @@ module _ (s v : List ℕ) (i n : ℕ) (bs : List ℕ) (j : ℕ) (f : Found) (k :
     pub new-left : Left r (pageNo k) (newStep .plan .after)
     new-left = first-left s newStep rootStep t r (o .took) root-took (others .0)
 
-    pub forward-done : (w y : List ℕ) → w ≡ update v (length r / 16384) (pageNo i) (view (pageOf r (pageNo i)) .freeSpace)
+    pub forward-done : (v : List ℕ) (n : ℕ) (w y : List ℕ) → w ≡ update v (length r / 16384) (pageNo i) (view (pageOf r (pageNo i)) .freeSpace)
         → y ≡ update w (length r / 16384) (pageNo k) (view (pageOf r (pageNo k)) .freeSpace)
         → outcome (answer.Done i) r y ≡ result s (forwarded (segView s) v i n (λ b. bs) [] f)
     unfolding result
-    forward-done w y ew ey =
+    forward-done v n w y ew ey =
         let h = two-swapped s newStep rootStep t r (o .took) root-took (others .0) root-exact in
         let g = told-both s v r forward-length (pageNo i) (rootStep .plan .after) root-left (pageNo k) (newStep .plan .after) new-left w y ew ey in
         let d : outcome (answer.Done i) r y ≡ result s (forwarded (segView s) v i n (λ b. bs) [] (found (pageNo k) (slotNo k) (o .plan))) = λ z. record { answer = 0; id = i; seg = h z; inv = g z } in
         d ∙ ap (λ (x : Found). result s (forwarded (segView s) v i n (λ b. bs) [] x)) (sym (o .is))
 
--- ---- the old target at j, which the root's redirect names
-
-module _ (s : List ℕ) (i j : ℕ) (back : pointsBack (segView s) i j ≡ true) where
-  abbrev pub oldStep : OnPage
-  oldStep = on (pageNo j) (erase (segView s .page (pageNo j)) (slotNo j))
-
-  old-away : pageNo j ≢ pageNo i
-  old-away = back-ok s i j back .2
-
-  pub old-asks : Asks s (pageNo j) (slotNo j)
-  old-asks =
-      let b = back-ok s i j back in
-      (b .0 .fits, sound-test (segView s .page (pageNo j)) (b .0 .sound), target-taken (segView s .page (pageNo j) .at (slotNo j)) (b .1))
-
-  old-exact : ExactOn s oldStep
-  old-exact = erase-on-page s (pageNo j) (slotNo j) (old-asks .0) (old-asks .1) (old-asks .2)
-
 -- ---- the second forwarding: the root's entry names the new target, which left r
 
-module _ (s v : List ℕ) (i n : ℕ) (bs : List ℕ) (j : ℕ) (f : Found) (k : ℕ) (t : List ℕ) (o : Placed s i n bs (rootOrOld i j) f k t)
+module _ (s : List ℕ) (i : ℕ) (bs : List ℕ) (j : ℕ) (f : Found) (k : ℕ) (t : List ℕ) (o : Placed s i bs (rootOrOld i j) f k t)
     (fits : pageNo i * 16384 + 16384 ≤ length s) (ok : sound (segView s .page (pageNo i)) ≡ true) (here : segView s .page (pageNo i) .at (slotNo i) ≡ Redirect j)
     (back : pointsBack (segView s) i j ≡ true) (r : List ℕ) (er : r ≡ carriedOn (on (pageNo i) (redirectPlan (segView t .page (pageNo i)) (slotNo i) k)) t) where
   abbrev freshStep : OnPage
-  freshStep = newStep s v i n bs j f k t o
+  freshStep = newStep s i bs j f k t o
 
   abbrev entryStep : OnPage
   entryStep = on (pageNo i) (redirectPlan (segView s .page (pageNo i)) (slotNo i) (idOf (pageNo k) (slotNo k)))
 
   apart : (pageNo i ≢ pageNo k) × (pageNo j ≢ pageNo k)
-  apart = others s v i n bs j f k t o
+  apart = others s i bs j f k t o
 
   entry-exact : ExactOn s entryStep
-  entry-exact = redirect-on-page s (pageNo i) (slotNo i) fits ok j here (idOf (pageNo k) (slotNo k)) (placed-id s v i n bs j f k t o)
+  entry-exact = redirect-on-page s (pageNo i) (slotNo i) fits ok j here (idOf (pageNo k) (slotNo k)) (placed-id s i bs j f k t o)
 
   entry-took : Took t entryStep r
   entry-took =
@@ -351,58 +219,12 @@ module _ (s v : List ℕ) (i n : ℕ) (bs : List ℕ) (j : ℕ) (f : Found) (k :
         left-other r (oldStep s i j back) q freed (pageNo k) (λ e. apart .1 (sym e)) (freshStep .plan .after)
         (first-left s freshStep entryStep t r (o .took) entry-took (apart .0))
 
-    pub again-done : (w y : List ℕ) → w ≡ update v (length q / 16384) (pageNo j) (view (pageOf q (pageNo j)) .freeSpace)
+    pub again-done : (v : List ℕ) (n : ℕ) (w y : List ℕ) → w ≡ update v (length q / 16384) (pageNo j) (view (pageOf q (pageNo j)) .freeSpace)
         → y ≡ update w (length q / 16384) (pageNo k) (view (pageOf q (pageNo k)) .freeSpace)
         → outcome (answer.Done i) q y ≡ result s (forwardedAgain (segView s) v i n (λ b. bs) j [] f)
     unfolding result
-    again-done w y ew ey =
+    again-done v n w y ew ey =
         let h = three-swapped s freshStep entryStep t r (o .took) entry-took (apart .0) entry-exact (oldStep s i j back) q freed (old-exact s i j back) (apart .1) (old-away s i j back) in
         let g = told-both s v q again-length (pageNo j) (oldStep s i j back .plan .after) again-old-left (pageNo k) (freshStep .plan .after) again-new-left w y ew ey in
         let d : outcome (answer.Done i) q y ≡ result s (forwardedAgain (segView s) v i n (λ b. bs) j [] (found (pageNo k) (slotNo k) (o .plan))) = λ z. record { answer = 0; id = i; seg = h z; inv = g z } in
         d ∙ ap (λ (x : Found). result s (forwardedAgain (segView s) v i n (λ b. bs) j [] x)) (sym (o .is))
-
--- ---- "moving home frees the target": t is what the step on the root's page left
-
-module _ (s v : List ℕ) (i n : ℕ) (bs : List ℕ) (j : ℕ) (fits : pageNo i * 16384 + 16384 ≤ length s) (t : List ℕ)
-    (et : t ≡ put s (pageNo i * 16384) (pageMoved (refilled (relocate (segView s .page (pageNo i)) (slotNo i) n) (slotNo i) bs) (pageOf s (pageNo i)))) where
-  pub home-stays : wasMoved (relocate (segView s .page (pageNo i)) (slotNo i) n) ≡ false → t ≡ s
-  home-stays e = refused-same s (pageNo i) fits t (slotNo i) n (not-moved (relocate (segView s .page (pageNo i)) (slotNo i) n) e) bs et
-
-  module _ (ok : sound (segView s .page (pageNo i)) ≡ true) (here : segView s .page (pageNo i) .at (slotNo i) ≡ Redirect j) (back : pointsBack (segView s) i j ≡ true)
-      (size : length bs ≡ n) (went : wasMoved (relocate (segView s .page (pageNo i)) (slotNo i) n) ≡ true) where
-    pub home : MovedTo (relocate (segView s .page (pageNo i)) (slotNo i) n)
-    home = moved-to (relocate (segView s .page (pageNo i)) (slotNo i) n) went
-
-    abbrev homeStep : OnPage
-    homeStep = on (pageNo i) (filled (home .to) (slotNo i) bs)
-
-    home-took : Took s homeStep t
-    home-took =
-        took-filled s (pageNo i) (slotNo i) fits ok (ap isFree here) n (no-target (segView s .page (pageNo i) .at (slotNo i)) n (ap isTarget here)) (home .to) (home .is) bs size t et
-
-    pub home-asks : Asks t (pageNo j) (slotNo j)
-    home-asks = asks-still s homeStep t home-took (pageNo j) (old-away s i j back) (slotNo j) (old-asks s i j back)
-
-    -- the target is freed, which leaves r
-    module _ (r : List ℕ) (er : r ≡ carriedOn (on (pageNo j) (erase (segView t .page (pageNo j)) (slotNo j))) t) where
-      left-behind : Took t (oldStep s i j back) r
-      left-behind = next-took s homeStep t home-took (pageNo j) (old-away s i j back) (λ u. erase u (slotNo j)) (old-exact s i j back) r er
-
-      pub home-length : length r ≡ length s
-      home-length = two-length s homeStep (oldStep s i j back) t r home-took left-behind (old-away s i j back)
-
-      pub home-left : Left r (pageNo i) (homeStep .plan .after)
-      home-left = first-left s homeStep (oldStep s i j back) t r home-took left-behind (old-away s i j back)
-
-      pub home-old-left : Left r (pageNo j) (oldStep s i j back .plan .after)
-      home-old-left = left-own t (oldStep s i j back) r left-behind
-
-      pub home-done : (w y : List ℕ) → w ≡ update v (length r / 16384) (pageNo i) (view (pageOf r (pageNo i)) .freeSpace)
-          → y ≡ update w (length r / 16384) (pageNo j) (view (pageOf r (pageNo j)) .freeSpace)
-          → outcome (answer.Done i) r y ≡ result s (atHome (segView s) v i n (λ b. bs) j [] (relocate (segView s .page (pageNo i)) (slotNo i) n))
-      unfolding result
-      home-done w y ew ey =
-          let h : r ≡ carried (homeStep ∷ oldStep s i j back ∷ []) s = left-behind .is ∙ ap (carriedOn (oldStep s i j back)) (home-took .is) in
-          let g = told-both s v r home-length (pageNo i) (homeStep .plan .after) home-left (pageNo j) (oldStep s i j back .plan .after) home-old-left w y ew ey in
-          let d : outcome (answer.Done i) r y ≡ result s (atHome (segView s) v i n (λ b. bs) j [] (moved (home .to))) = λ z. record { answer = 0; id = i; seg = h z; inv = g z } in
-          d ∙ ap (λ (x : Relocated). result s (atHome (segView s) v i n (λ b. bs) j [] x)) (sym (home .is))

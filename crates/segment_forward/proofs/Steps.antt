@@ -1,18 +1,28 @@
 -- Steps on several pages, taken in the code's order, and what the inventory is told of them. Assumes nothing.
 use Prim.Native.Nat.{ℕ, _+_, _*_, _/_, _≤_}
 use mathlib.Core.Path.{_≡_, sym, ap, subst, _∙_}
-use mathlib.Core.Bool.{true, false}
+use mathlib.Core.Bool.{Bool, true, false}
 use mathlib.Core.List.{List, [], _∷_}
 use mathlib.Core.Logic.{_≢_}
 use native.Mathlib.Omega.{arith}
 use lib.ListN.{length}
+use Rattle.store.specs.Numbers.{pageNo, slotNo}
 use Rattle.store.specs.Slots.{isFree}
 use Rattle.store.specs.Page.{View, view, sound}
-use Rattle.store.specs.PageSteps.{Plan}
-use Rattle.store.specs.Inventory.{Room, update}
-use Rattle.store.specs.Segment.{segView, pageOf, OnPage, on, carriedOn, carried}
+use Rattle.store.specs.PageSteps.{Plan, erase}
+use Rattle.store.specs.Inventory.{update, Room}
+use Rattle.store.specs.Segment.{segView, pageOf, OnPage, on, carriedOn, carried, pointsBack}
+use Rattle.store.specs.Laws.SoundPage.{sound-test}
 use Rattle.store.specs.Laws.Segments.{ExactOn, exact-skip}
-use Rattle.lent_steps.specs.After.{Sizes, sizes-room, Took, took-length, Left, left-own, left-other, left-room, left-update, other-seen, still, carried-swap}
+use Rattle.store.specs.Laws.Calls.{back-ok, target-taken}
+use Rattle.lent_steps.specs.After.{Sizes, sizes-room, Took, took-length, Left, left-own, left-other, left-room, left-update, still, carried-swap, erase-on-page}
+
+pub clash : {A : Type 0} (b : Bool) → b ≡ true → b ≡ false → A
+clash b x y = let z : _≡_ {A = ℕ} 0 1 = cc in absurd (omega arith)
+
+-- an answer r, that is x and turned out to be b
+pub told-so : (r x b : Bool) → r ≡ x → r ≡ b → x ≡ b
+told-so r x b e f = sym e ∙ f
 
 -- what a step asks of slot k of page p
 abbrev pub Asks : List ℕ → ℕ → ℕ → Type 0
@@ -67,3 +77,20 @@ module _ (s v r : List ℕ) (long : length r ≡ length s) (p : ℕ) (a : View) 
   told-both q b g w y ew ey =
       left-update s r q b g long w y ey
       ∙ ap (λ (m : List ℕ). update m (segView s .pages) q (b .freeSpace)) (left-update s r p a h long v w ew)
+
+-- ---- the old target at j, which the root's redirect names
+
+module _ (s : List ℕ) (i j : ℕ) (back : pointsBack (segView s) i j ≡ true) where
+  abbrev pub oldStep : OnPage
+  oldStep = on (pageNo j) (erase (segView s .page (pageNo j)) (slotNo j))
+
+  pub old-away : pageNo j ≢ pageNo i
+  old-away = back-ok s i j back .2
+
+  pub old-asks : Asks s (pageNo j) (slotNo j)
+  old-asks =
+      let b = back-ok s i j back in
+      (b .0 .fits, sound-test (segView s .page (pageNo j)) (b .0 .sound), target-taken (segView s .page (pageNo j) .at (slotNo j)) (b .1))
+
+  pub old-exact : ExactOn s oldStep
+  old-exact = erase-on-page s (pageNo j) (slotNo j) (old-asks .0) (old-asks .1) (old-asks .2)

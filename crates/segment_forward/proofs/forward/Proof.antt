@@ -10,7 +10,8 @@ use Rattle.store.specs.Segment.{segView, find, result, forwarded}
 use Rattle.store.specs.Laws.Relocate.{length-fit}
 use Rattle.segment_forward.specs.Words.{rootOrOld}
 use Rattle.segment_forward.proofs.Steps.{Asks, asks-update}
-use Rattle.segment_forward.proofs.Forwarded.{root-alone, Placed, placed-at, forward-refused, root-asks, forward-length, root-left, new-left, forward-done}
+use Rattle.segment_forward.proofs.Search.{root-alone}
+use Rattle.segment_forward.proofs.Forwarded.{Placed, placed-at, forward-refused, root-asks, forward-length, root-left, new-left, forward-done}
 use borrow.Author.Needs.{needs}
 use Rattle.segment_forward.proofs.forward.Statement.{statement}
 use Rattle.segment_forward.proofs.forward.Tie as tie
@@ -21,7 +22,7 @@ use Rattle.lent_steps.proofs.update_on.Reads as update-on-reads
 use Rattle.segment_forward.proofs.place_target.Reads as place-target-reads
 
 -- the new target, as the search left it
-placed : (c : tie.After-known-told) → let x = c .before .before .before .before .before in let a = x .before .before .before .before .before .before .args in Placed (now (a .segment)) (a .id) (a .size) (fit (a .size) (now (a .bytes))) (rootOrOld (a .id) (a .id)) (find foundIn (segView (now (a .segment))) (now (a .inventory)) (a .size + 8) (rootOrOld (a .id) (a .id))) (c .before .placed .given .0 .0) (x .place-target .last .0)
+placed : (c : tie.After-known-told) → let x = c .before .before .before .before .before in let a = x .before .before .before .before .before .before .args in Placed (now (a .segment)) (a .id) (fit (a .size) (now (a .bytes))) (rootOrOld (a .id) (a .id)) (find foundIn (segView (now (a .segment))) (now (a .inventory)) (a .size + 8) (rootOrOld (a .id) (a .id))) (c .before .placed .given .0 .0) (x .place-target .last .0)
 placed c =
     let x = c .before .before .before .before .before in
     let z = x .before .before .before .before .before .before in
@@ -56,7 +57,7 @@ erase-for-redirect-on-requires c κs =
     let m = c .before in
     let z = m .before .before .before .before .before .before .before .before .before .before .before in
     let a = z .args in
-    let h = root-asks (now (a .segment)) (now (a .inventory)) (a .id) (a .size) (fit (a .size) (now (a .bytes))) (a .id) _ _ _ (placed m) (z .pre .1 .0, z .pre .1 .1, z .pre .1 .2) in
+    let h = root-asks (now (a .segment)) (a .id) (fit (a .size) (now (a .bytes))) (a .id) _ _ _ (placed m) (z .pre .1 .0, z .pre .1 .1, z .pre .1 .2) in
     (h .0, h .1, h .2, placed m .small)
 
 update-on-requires : tie.Need-update-on-requires
@@ -70,8 +71,8 @@ update-on-requires c κs =
     let bs = fit (a .size) (now (a .bytes)) in
     let ok : Asks s (pageNo (a .id)) (slotNo (a .id)) = (z .pre .1 .0, z .pre .1 .1, z .pre .1 .2) in
     let r = y .erase-for-redirect-on in
-    let l = forward-length s v (a .id) (a .size) bs (a .id) _ _ _ (placed m) ok (r .last .0) (r .ensures) in
-    asks-update s v (r .last .0) l (pageNo (a .id)) _ (root-left s v (a .id) (a .size) bs (a .id) _ _ _ (placed m) ok (r .last .0) (r .ensures)) (z .pre .0) v refl (z .pre .1 .0)
+    let l = forward-length s (a .id) bs (a .id) _ _ _ (placed m) ok (r .last .0) (r .ensures) in
+    asks-update s v (r .last .0) l (pageNo (a .id)) _ (root-left s (a .id) bs (a .id) _ _ _ (placed m) ok (r .last .0) (r .ensures)) (z .pre .0) v refl (z .pre .1 .0)
 
 update-on-requires-2 : tie.Need-update-on-requires-2
 update-on-requires-2 c κs =
@@ -85,8 +86,8 @@ update-on-requires-2 c κs =
     let bs = fit (a .size) (now (a .bytes)) in
     let ok : Asks s (pageNo (a .id)) (slotNo (a .id)) = (z .pre .1 .0, z .pre .1 .1, z .pre .1 .2) in
     let r = y .erase-for-redirect-on in
-    let l = forward-length s v (a .id) (a .size) bs (a .id) _ _ _ (placed m) ok (r .last .0) (r .ensures) in
-    asks-update s v (r .last .0) l _ _ (new-left s v (a .id) (a .size) bs (a .id) _ _ _ (placed m) ok (r .last .0) (r .ensures)) (z .pre .0) _ (u .update-on .kept .1 .0) (placed m .fits)
+    let l = forward-length s (a .id) bs (a .id) _ _ _ (placed m) ok (r .last .0) (r .ensures) in
+    asks-update s v (r .last .0) l _ _ (new-left s (a .id) bs (a .id) _ _ _ (placed m) ok (r .last .0) (r .ensures)) (z .pre .0) _ (u .update-on .kept .1 .0) (placed m .fits)
 
 same-length-3 : tie.Need-same-length-3
 same-length-3 c = search needs
@@ -106,7 +107,7 @@ returns-2 c =
     let bs = fit (a .size) (now (a .bytes)) in
     let ok : Asks s (pageNo (a .id)) (slotNo (a .id)) = (z .pre .1 .0, z .pre .1 .1, z .pre .1 .2) in
     let r = y .erase-for-redirect-on in
-    forward-done s v (a .id) (a .size) bs (a .id) _ _ _ (placed m) ok (r .last .0) (r .ensures) _ _ (u .before .before .before .before .before .update-on .ensures) (u .update-on2 .ensures)
+    forward-done s (a .id) bs (a .id) _ _ _ (placed m) ok (r .last .0) (r .ensures) v (a .size) _ _ (u .before .before .before .before .before .update-on .ensures) (u .update-on2 .ensures)
     ∙ ap (λ (ex : ℕ → Bool). result s (forwarded (segView s) v (a .id) (a .size) (λ o. bs) [] (find foundIn (segView s) v (a .size + 8) ex))) (root-alone (a .id))
 
 pub forward-spec : {M : Type 1} → statement M

@@ -8,8 +8,8 @@ use Rattle.store.specs.Inventory.{foundIn}
 use Rattle.store.specs.Segment.{segView, find}
 use Rattle.store.specs.Laws.Relocate.{length-fit}
 use Rattle.segment_forward.specs.Words.{rootOrOld}
-use Rattle.segment_forward.proofs.Steps.{asks-update}
-use Rattle.segment_forward.proofs.Forwarded.{Placed, placed-at, again-refused, root-asks, again-asks, again-length, again-old-left, again-new-left, again-done, old-asks}
+use Rattle.segment_forward.proofs.Steps.{asks-update, old-asks}
+use Rattle.segment_forward.proofs.Forwarded.{Placed, placed-at, again-refused, root-asks, again-asks, again-length, again-old-left, again-new-left, again-done}
 use borrow.Author.Needs.{needs}
 use Rattle.segment_forward.proofs.forward_again.Statement.{statement}
 use Rattle.segment_forward.proofs.forward_again.Tie as tie
@@ -21,7 +21,7 @@ use Rattle.lent_steps.proofs.update_on.Reads as update-on-reads
 use Rattle.segment_forward.proofs.place_target.Reads as place-target-reads
 
 -- the new target, as the search left it
-placed : (c : tie.After-known-told) → let x = c .before .before .before .before .before in let a = x .before .before .before .before .before .before .args in Placed (now (a .segment)) (a .id) (a .size) (fit (a .size) (now (a .bytes))) (rootOrOld (a .id) (a .t)) (find foundIn (segView (now (a .segment))) (now (a .inventory)) (a .size + 8) (rootOrOld (a .id) (a .t))) (c .before .placed .given .0 .0) (x .place-target .last .0)
+placed : (c : tie.After-known-told) → let x = c .before .before .before .before .before in let a = x .before .before .before .before .before .before .args in Placed (now (a .segment)) (a .id) (fit (a .size) (now (a .bytes))) (rootOrOld (a .id) (a .t)) (find foundIn (segView (now (a .segment))) (now (a .inventory)) (a .size + 8) (rootOrOld (a .id) (a .t))) (c .before .placed .given .0 .0) (x .place-target .last .0)
 placed c =
     let x = c .before .before .before .before .before in
     let z = x .before .before .before .before .before .before in
@@ -55,7 +55,7 @@ set-redirect-on-requires c κs =
     let m = c .before in
     let z = m .before .before .before .before .before .before .before .before .before .before .before in
     let a = z .args in
-    let h = root-asks (now (a .segment)) (now (a .inventory)) (a .id) (a .size) (fit (a .size) (now (a .bytes))) (a .t) _ _ _ (placed m) (z .pre .1 .0, z .pre .1 .1, ap isFree (z .pre .1 .2)) in
+    let h = root-asks (now (a .segment)) (a .id) (fit (a .size) (now (a .bytes))) (a .t) _ _ _ (placed m) (z .pre .1 .0, z .pre .1 .1, ap isFree (z .pre .1 .2)) in
     (h .0, h .1, h .2, placed m .small)
 
 erase-on-requires : tie.Need-erase-on-requires
@@ -68,7 +68,7 @@ erase-on-requires c κs =
     let v = now (a .inventory) in
     let bs = fit (a .size) (now (a .bytes)) in
     let r = x .set-redirect-on in
-    again-asks s v (a .id) (a .size) bs (a .t) _ _ _ (placed m) (z .pre .1 .0) (z .pre .1 .1) (z .pre .1 .2) (z .pre .1 .3) (r .last .0) (r .ensures)
+    again-asks s (a .id) bs (a .t) _ _ _ (placed m) (z .pre .1 .0) (z .pre .1 .1) (z .pre .1 .2) (z .pre .1 .3) (r .last .0) (r .ensures)
 
 update-on-requires : tie.Need-update-on-requires
 update-on-requires c κs =
@@ -82,8 +82,8 @@ update-on-requires c κs =
     let v = now (a .inventory) in
     let bs = fit (a .size) (now (a .bytes)) in
     let r = x .set-redirect-on in
-    let l = again-length s v (a .id) (a .size) bs (a .t) _ _ _ (placed m) (z .pre .1 .0) (z .pre .1 .1) (z .pre .1 .2) (z .pre .1 .3) (r .last .0) (r .ensures) (q .last .0) (q .ensures) in
-    asks-update s v (q .last .0) l (pageNo (a .t)) _ (again-old-left s v (a .id) (a .size) bs (a .t) _ _ _ (placed m) (z .pre .1 .0) (z .pre .1 .1) (z .pre .1 .2) (z .pre .1 .3) (r .last .0) (r .ensures) (q .last .0) (q .ensures)) (z .pre .0) v refl (old-asks s (a .id) (a .t) (z .pre .1 .3) .0)
+    let l = again-length s (a .id) bs (a .t) _ _ _ (placed m) (z .pre .1 .0) (z .pre .1 .1) (z .pre .1 .2) (z .pre .1 .3) (r .last .0) (r .ensures) (q .last .0) (q .ensures) in
+    asks-update s v (q .last .0) l (pageNo (a .t)) _ (again-old-left s (a .id) bs (a .t) _ _ _ (placed m) (z .pre .1 .0) (z .pre .1 .1) (z .pre .1 .2) (z .pre .1 .3) (r .last .0) (r .ensures) (q .last .0) (q .ensures)) (z .pre .0) v refl (old-asks s (a .id) (a .t) (z .pre .1 .3) .0)
 
 update-on-requires-2 : tie.Need-update-on-requires-2
 update-on-requires-2 c κs =
@@ -98,8 +98,8 @@ update-on-requires-2 c κs =
     let v = now (a .inventory) in
     let bs = fit (a .size) (now (a .bytes)) in
     let r = x .set-redirect-on in
-    let l = again-length s v (a .id) (a .size) bs (a .t) _ _ _ (placed m) (z .pre .1 .0) (z .pre .1 .1) (z .pre .1 .2) (z .pre .1 .3) (r .last .0) (r .ensures) (q .last .0) (q .ensures) in
-    asks-update s v (q .last .0) l _ _ (again-new-left s v (a .id) (a .size) bs (a .t) _ _ _ (placed m) (z .pre .1 .0) (z .pre .1 .1) (z .pre .1 .2) (z .pre .1 .3) (r .last .0) (r .ensures) (q .last .0) (q .ensures)) (z .pre .0) _ (u .update-on .kept .1 .0) (placed m .fits)
+    let l = again-length s (a .id) bs (a .t) _ _ _ (placed m) (z .pre .1 .0) (z .pre .1 .1) (z .pre .1 .2) (z .pre .1 .3) (r .last .0) (r .ensures) (q .last .0) (q .ensures) in
+    asks-update s v (q .last .0) l _ _ (again-new-left s (a .id) bs (a .t) _ _ _ (placed m) (z .pre .1 .0) (z .pre .1 .1) (z .pre .1 .2) (z .pre .1 .3) (r .last .0) (r .ensures) (q .last .0) (q .ensures)) (z .pre .0) _ (u .update-on .kept .1 .0) (placed m .fits)
 
 same-length-3 : tie.Need-same-length-3
 same-length-3 c = search needs
@@ -121,7 +121,7 @@ returns-2 c =
     let v = now (a .inventory) in
     let bs = fit (a .size) (now (a .bytes)) in
     let r = x .set-redirect-on in
-    again-done s v (a .id) (a .size) bs (a .t) _ _ _ (placed m) (z .pre .1 .0) (z .pre .1 .1) (z .pre .1 .2) (z .pre .1 .3) (r .last .0) (r .ensures) (q .last .0) (q .ensures) _ _ (u .update-on .ensures) (w .update-on2 .ensures)
+    again-done s (a .id) bs (a .t) _ _ _ (placed m) (z .pre .1 .0) (z .pre .1 .1) (z .pre .1 .2) (z .pre .1 .3) (r .last .0) (r .ensures) (q .last .0) (q .ensures) v (a .size) _ _ (u .update-on .ensures) (w .update-on2 .ensures)
 
 pub forward-again-spec : {M : Type 1} → statement M
 forward-again-spec =

@@ -10,10 +10,9 @@ use Rattle.store.specs.Numbers.{fit}
 use Rattle.store.specs.Page.{sound}
 use Rattle.store.specs.Inventory.{foundIn}
 use Rattle.store.specs.Segment.{segView}
-use Rattle.store.specs.Laws.Relocate.{length-fit}
 use Rattle.store.specs.declared.Named.the-variants.{At}
 use Rattle.segment_forward.specs.Words.{rootOrOld}
-use Rattle.segment_forward.proofs.Forwarded.{place-full, place-fits, place-short, place-damaged, place-excluded, place-no-room, place-slot, place-taken, is-root, is-old, is-other}
+use Rattle.segment_forward.proofs.Search.{named-fits, named-short, slot-small, place-full, place-damaged, place-excluded, place-no-room, place-taken, is-root, is-old, is-other}
 use borrow.Author.Needs.{needs}
 use Rattle.segment_forward.proofs.place_target.Statement.{statement}
 use Rattle.segment_forward.proofs.place_target.Tie as tie
@@ -39,8 +38,7 @@ slot-here c =
     let x = c .before .before .before .before .before in
     let m = x .before .before .before .before .before .before .before in
     let a = m .before .before .before .before .before .before .before .args in
-    place-slot (now (a .segment)) (now (a .inventory)) (a .id) (a .size) (fit (a .size) (now (a .bytes))) (rootOrOld (a .id) (a .old)) _ (named-here m) (sound-here (x .before .before .before .before)) (away-here (x .before .before))
-    (x .insert-target-on .last .0) (x .insert-target-on .ensures .0) _ _ (sym (x .insert-target-on .ensures .1) ∙ c .before .place .given .1)
+    slot-small (now (a .segment)) _ (named-fits (now (a .segment)) (now (a .inventory)) (a .size) _ (named-here m)) (sound-here (x .before .before .before .before)) (a .size + 8) _ _ (sym (x .insert-target-on .ensures .1) ∙ c .before .place .given .1)
 
 add-find-page : tie.Need-add-find-page
 add-find-page c = search needs
@@ -64,7 +62,7 @@ page-sound-requires : tie.Need-page-sound-requires
 page-sound-requires c κs =
     let m = c .before in
     let a = m .before .before .before .before .before .before .before .args in
-    place-fits (now (a .segment)) (now (a .inventory)) (a .id) (a .size) (fit (a .size) (now (a .bytes))) (rootOrOld (a .id) (a .old)) _ (named-here m)
+    named-fits (now (a .segment)) (now (a .inventory)) (a .size) _ (named-here m)
 
 same-length : tie.Need-same-length
 same-length c = search needs
@@ -97,11 +95,10 @@ returns-4 c =
 insert-target-on-requires : tie.Need-insert-target-on-requires
 insert-target-on-requires c κs =
     let m = c .before .before .before .before .before .before in
-    let a = m .before .before .before .before .before .before .before .args in
-    let bs = fit (a .size) (now (a .bytes)) in (
-      place-fits (now (a .segment)) (now (a .inventory)) (a .id) (a .size) bs (rootOrOld (a .id) (a .old)) _ (named-here m),
+    let a = m .before .before .before .before .before .before .before .args in (
+      named-fits (now (a .segment)) (now (a .inventory)) (a .size) _ (named-here m),
       sound-here (c .before .before .before),
-      place-short (now (a .segment)) (now (a .inventory)) (a .id) (a .size) bs (rootOrOld (a .id) (a .old)) _ (named-here m),
+      named-short (now (a .segment)) (now (a .inventory)) (a .size) _ (named-here m),
     )
 
 enum-known-place : tie.Need-enum-known-place
@@ -126,7 +123,7 @@ mul-t11 c =
     let m = c .before .before .before .before .before .before .before .before .before .before .before .before in
     let z = m .before .before .before .before .before .before .before in
     let a = z .args in
-    let f = place-fits (now (a .segment)) (now (a .inventory)) (a .id) (a .size) (fit (a .size) (now (a .bytes))) (rootOrOld (a .id) (a .old)) _ (named-here m) in
+    let f = named-fits (now (a .segment)) (now (a .inventory)) (a .size) _ (named-here m) in
     omega (arith, f, z .pre .0 .few)
 
 add-t13 : tie.Need-add-t13
@@ -135,7 +132,7 @@ add-t13 c =
     let m = x .before .before .before .before .before .before .before in
     let z = m .before .before .before .before .before .before .before in
     let a = z .args in
-    let f = place-fits (now (a .segment)) (now (a .inventory)) (a .id) (a .size) (fit (a .size) (now (a .bytes))) (rootOrOld (a .id) (a .old)) _ (named-here m) in
+    let f = named-fits (now (a .segment)) (now (a .inventory)) (a .size) _ (named-here m) in
     omega (arith, f, slot-here c, z .pre .0 .few)
 
 same-length-5 : tie.Need-same-length-5
@@ -147,7 +144,7 @@ returns-6 c =
     let m = x .before .before .before .before .before .before .before in
     let a = m .before .before .before .before .before .before .before .args in
     place-taken (now (a .segment)) (now (a .inventory)) (a .id) (a .size) (fit (a .size) (now (a .bytes))) (rootOrOld (a .id) (a .old)) _ (named-here m) (sound-here (x .before .before .before .before)) (away-here (x .before .before))
-    (x .insert-target-on .last .0) (x .insert-target-on .ensures .0) _ _ (sym (x .insert-target-on .ensures .1) ∙ c .before .place .given .1) (length-fit (a .size) (now (a .bytes)))
+    (x .insert-target-on .last .0) (x .insert-target-on .ensures .0) _ _ (sym (x .insert-target-on .ensures .1) ∙ c .before .place .given .1)
 
 pub place-target-spec : {M : Type 1} → statement M
 place-target-spec =
