@@ -1,0 +1,4 @@
+pub mod Steps
+pub mod Search
+pub mod Forwarded
+pub mod Home
