@@ -32,8 +32,7 @@ returns : tie.Need-returns
 returns c =
     let l = c .before in
     let h = c .before .before in
-    let b = c .before .before .before .before in
-    (
+    let b = c .before .before .before .before in (
       c .slot-of .ensures .0
           ∙ counted-slot (b .args .page .now) (b .args .k) (h .get-u32 .result) (l .get-u322 .result) (omega arith) (omega arith) (h .get-u32 .ensures .is) (l .get-u322 .ensures .is),
       c .slot-of .ensures .1,
