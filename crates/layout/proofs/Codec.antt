@@ -3,6 +3,7 @@ use mathlib.Core.Path.{_≡_, refl, sym, _∙_}
 use mathlib.Core.List.{List, _++_}
 use Prim.Native.Nat.{ℕ, zero, suc, _+_, _*_, _/_, _%_, _^_, _≤_, _<_}
 use native.Mathlib.Omega.{arith}
+use lib.ListN.{length}
 use borrow.Author.Tests.{lt-ltb}
 use Rattle.store.specs.Numbers.{cut, put, be, toBE}
 use Rattle.store.specs.Slots.{ofKind, slotOf}
@@ -10,6 +11,7 @@ use Rattle.store.specs.Page.{view, count}
 use Rattle.store.specs.declared.Slot.the-variants.{Target}
 use Rattle.layout.specs.Run.{headOf}
 use Rattle.layout.proofs.Writes.{write-append}
+use Rattle.layout.proofs.Numbers.{num8}
 
 pub kind-three : (k w : ℕ) → 3 ≤ k → ofKind k w ≡ Target (w / 2 ^ 32) (w % 2 ^ 32)
 kind-three zero w h = absurd (omega arith)
@@ -17,10 +19,25 @@ kind-three (suc zero) w h = absurd (omega arith)
 kind-three (suc (suc zero)) w h = absurd (omega arith)
 kind-three (suc (suc (suc k))) w h = refl
 
+-- an entry of two halves: its kind is in the higher one
+module _ (h l : ℕ) (small : l < 2 ^ 32) where
+  pub kind-high : slotOf (h * 2 ^ 32 + l) ≡ ofKind (h / 2 ^ 30) (h % 2 ^ 30 * 2 ^ 32 + l)
+  kind-high =
+      let a : (h * 2 ^ 32 + l) / 2 ^ 62 ≡ h / 2 ^ 30 = omega arith in
+      let b : (h * 2 ^ 32 + l) % 2 ^ 62 ≡ h % 2 ^ 30 * 2 ^ 32 + l = omega arith in
+      rw (a, b)
+
+  pub half-high : (h * 2 ^ 32 + l) / 2 ^ 32 ≡ h
+  half-high = omega arith
+
+  pub half-low : (h * 2 ^ 32 + l) % 2 ^ 32 ≡ l
+  half-low = omega arith
+
 -- a slot that is counted
-pub counted-slot : (p : List ℕ) (k : ℕ) → k < view p .slotCount → slotOf (be (cut p (12 + 8 * k) 8)) ≡ view p .at k
+pub counted-slot : (p : List ℕ) (k h l : ℕ) → 12 + 8 * k + 8 ≤ length p → k < view p .slotCount → h ≡ be (cut p (12 + 8 * k) 4) → l ≡ be (cut p (12 + 8 * k + 4) 4)
+    → slotOf (h * 2 ^ 32 + l) ≡ view p .at k
 unfolding view
-counted-slot p k h = sym (rw (lt-ltb k (count p) h))
+counted-slot p k h l f i eh el = sym (rw (lt-ltb k (count p) i, num8 (12 + 8 * k) p f, eh, el))
 
 -- the four numbers of the header
 pub header-put : (c f d n : ℕ) (p q₁ q₂ q₃ q₄ : List ℕ)

@@ -131,7 +131,14 @@ pub fn get_u64(page: &[u8], at: usize) -> usize
     requires { ⌜ at + 8 ≤ length (now page) ⌝ }
     ensures { λ r. ⌜ Read 8 at (now (page .entry)) r ⌝ }
 {
-    get_u32(page, at) * 4294967296 + get_u32(page, at + 4)
+    wide(page[at]) << 56
+        | wide(page[at + 1]) << 48
+        | wide(page[at + 2]) << 40
+        | wide(page[at + 3]) << 32
+        | wide(page[at + 4]) << 24
+        | wide(page[at + 5]) << 16
+        | wide(page[at + 6]) << 8
+        | wide(page[at + 7])
 }
 
 // The eight bytes of v to `at`.

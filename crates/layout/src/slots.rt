@@ -1,7 +1,7 @@
 // The slot codec, and a slot of the page as the view has it.
 use store::Slot;
 ghost use mathlib.Core.Path.{_≡_};
-ghost use Prim.Native.Nat.{_+_, _*_, _≤_, _<_};
+ghost use Prim.Native.Nat.{_+_, _*_, _^_, _≤_, _<_};
 ghost use lib.ListN.{length};
 ghost use Rattle.store.specs.Numbers.{put};
 ghost use Rattle.store.specs.Slots.{slotWord, slotBytes, slotOf, off, len, isFree, isRecord};
@@ -20,26 +20,30 @@ fn slot_word(s: Slot) -> usize
     }
 }
 
-fn slot_of(e: usize) -> Slot
-    ensures { λ r. ⌜ (r ≡ slotOf e) × Codable r ⌝ }
+// An entry's two halves of 32 bits: "the top two bits of a slot tell its kind".
+fn slot_of(high: usize, low: usize) -> Slot
+    requires { ⌜ (high < 2 ^ 32) × (low < 2 ^ 32) ⌝ }
+    ensures { λ r. ⌜ (r ≡ slotOf (high * 2 ^ 32 + low)) × Codable r ⌝ }
 {
-    let kind = e / 4611686018427387904;
-    let w = e % 4611686018427387904;
+    let kind = high / 1073741824;
+    let offset = high % 1073741824;
     if kind == 0 {
         return Slot::Ordinary {
-            offset: w / 4294967296,
-            length: w % 4294967296,
+            offset,
+            length: low,
         };
     }
     if kind == 1 {
         return Slot::Free;
     }
     if kind == 2 {
-        return Slot::Redirect { id: w };
+        return Slot::Redirect {
+            id: offset * 4294967296 + low,
+        };
     }
     Slot::Target {
-        offset: w / 4294967296,
-        length: w % 4294967296,
+        offset,
+        length: low,
     }
 }
 
@@ -48,7 +52,8 @@ pub fn get_slot(page: &[u8], k: usize) -> Slot
     requires { ⌜ (length (now page) ≡ 16384) × (k < view (now page) .slotCount) × (k < 2046) ⌝ }
     ensures { λ r. ⌜ (r ≡ view (now (page .entry)) .at k) × Codable r ⌝ }
 {
-    slot_of(crate::get_u64(page, 12 + 8 * k))
+    let at = 12 + 8 * k;
+    slot_of(crate::get_u32(page, at), crate::get_u32(page, at + 4))
 }
 
 pub fn write_slot(page: &mut [u8], k: usize, s: Slot)
