@@ -13,7 +13,6 @@ use Rattle.store.specs.Slots.{slotOf}
 use Rattle.store.specs.Page.{view}
 use Rattle.store.specs.declared.Slot.{Slot}
 use Rattle.store.specs.declared.Slot.the-variants.{Ordinary, Free, Redirect, Target}
-use Rattle.layout.proofs.Numbers.{num8}
 use Rattle.layout.proofs.Codec.{counted-slot}
 use Rattle.page_check.specs.Fit.{Tells, Found}
 
@@ -40,9 +39,9 @@ told r t e x = refuted (sym e ∙ t .back x)
 pub found-at : (p : List ℕ) (k o l f low : ℕ) (fits : Bool) (q m : ℕ) → length p ≡ 16384 → k < view p .slotCount → k < 2046 → o ≡ be (cut p (12 + 8 * k) 4) → l ≡ be (cut p (16 + 8 * k) 4)
     → Found (slotOf (o * 2 ^ 32 + l)) k f low fits q m → Found (view p .at k) k f low fits q m
 found-at p k o l f low fits q m whole h few eo el x =
-    let at : 12 + 8 * k + 4 ≡ 16 + 8 * k = omega arith in
-    let e : be (cut p (12 + 8 * k) 8) ≡ o * 2 ^ 32 + l = num8 (12 + 8 * k) p (omega arith) ∙ (λ i. sym eo i * 2 ^ 32 + be (cut p (at i) 4)) ∙ ap (λ (x : ℕ). o * 2 ^ 32 + x) (sym el) in
-    subst (λ (s : Slot). Found s k f low fits q m) (ap slotOf (sym e) ∙ counted-slot p k h) x
+    let at : 16 + 8 * k ≡ 12 + 8 * k + 4 = omega arith in
+    let eh : l ≡ be (cut p (12 + 8 * k + 4) 4) = el ∙ ap (λ (a : ℕ). be (cut p a 4)) at in
+    subst (λ (s : Slot). Found s k f low fits q m) (counted-slot p k o l (omega arith) h eo eh) x
 
 module _ (o l : ℕ) (small : l < 2 ^ 32) where
   of-ordinary : o < 2 ^ 30 → slotOf (o * 2 ^ 32 + l) ≡ Ordinary o l
