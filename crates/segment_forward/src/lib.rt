@@ -72,8 +72,9 @@ pub fn forward(
     let Answer::Done { id: target } = placed else {
         return placed;
     };
-    lent_steps::erase_for_redirect_on(segment, id / 65536, id % 65536, target);
-    lent_steps::update_on(segment, inventory, id / 65536);
+    let p = id / 65536;
+    lent_steps::erase_for_redirect_on(segment, p, id % 65536, target);
+    lent_steps::update_on(segment, inventory, p);
     lent_steps::update_on(segment, inventory, target / 65536);
     Answer::Done { id }
 }
@@ -92,13 +93,13 @@ pub fn forward_again(
     ensures { λ r. ⌜ outcome r (now (segment .exit)) (now (inventory .exit)) ≡ result (now (segment .entry)) (forwardedAgain (segView (now (segment .entry))) (now (inventory .entry)) id size (λ o. fit size (now (bytes .entry))) t [] (find foundIn (segView (now (segment .entry))) (now (inventory .entry)) (size + 8) (λ p. eqb p (pageNo id) || eqb p (pageNo t)))) ⌝ }
 {
     let placed = place_target(segment, inventory, id, t, bytes, size);
-    let Answer::Done { id: target } = placed else {
+    let Answer::Done { id: new_target } = placed else {
         return placed;
     };
-    lent_steps::set_redirect_on(segment, id / 65536, id % 65536, target);
+    lent_steps::set_redirect_on(segment, id / 65536, id % 65536, new_target);
     lent_steps::erase_on(segment, t / 65536, t % 65536);
     lent_steps::update_on(segment, inventory, t / 65536);
-    lent_steps::update_on(segment, inventory, target / 65536);
+    lent_steps::update_on(segment, inventory, new_target / 65536);
     Answer::Done { id }
 }
 
