@@ -1,0 +1,17 @@
+-- Words for the contract of the search that both forwardings make. Assumes nothing.
+use Prim.Native.Nat.{ℕ}
+use mathlib.Core.Bool.{Bool, _||_}
+use mathlib.Core.List.{List, [], _∷_, _++_}
+use lib.Dec.{eqb}
+use Rattle.store.specs.Numbers.{toBE, idOf, pageNo}
+use Rattle.store.specs.Segment.{on, Out, refuse, done, Found, nowhere, found}
+use Rattle.slotted_page.specs.Words.{targetPlan}
+
+-- "the page named is the root's or old target's": of the root i and the target t
+abbrev pub rootOrOld : ℕ → ℕ → ℕ → Bool
+rootOrOld i t p = eqb p (pageNo i) || eqb p (pageNo t)
+
+-- a place for a new target of root i with these bytes, taken or refused: its id, and the step on its page. The inventory is not told
+abbrev pub newTarget : List ℕ → ℕ → List ℕ → Found → Out
+newTarget v i bs (nowhere a) = refuse v a
+newTarget v i bs (found q j a) = done (idOf q j) (on q (targetPlan j a (toBE 8 i ++ bs)) ∷ []) v

@@ -1,0 +1,127 @@
+// "Last comes a new target of size + 8 on another page, with the root as redirect"; and "moving home frees the target".
+use store::Answer;
+use store::Named;
+use store::Place;
+use store::Slot;
+ghost use mathlib.Core.Path.{_≡_};
+ghost use mathlib.Core.Bool.{true, false, _||_};
+ghost use mathlib.Core.List.{[]};
+ghost use Prim.Native.Nat.{_+_, _*_, _≤_};
+ghost use lib.ListN.{length};
+ghost use lib.Dec.{eqb};
+ghost use Rattle.store.specs.Numbers.{fit, pageNo, slotNo};
+ghost use Rattle.store.specs.Slots.{isFree};
+ghost use Rattle.store.specs.Page.{sound};
+ghost use Rattle.store.specs.PageSteps.{relocate};
+ghost use Rattle.store.specs.Inventory.{foundIn};
+ghost use Rattle.store.specs.Segment.{segView, find, result, pointsBack, forwarded, forwardedAgain, atHome};
+ghost use Rattle.store.specs.Answers.{outcome};
+ghost use Rattle.slotted_page.specs.Words.{wasMoved};
+ghost use Rattle.lent_steps.specs.After.{Sizes};
+ghost use Rattle.segment_forward.specs.Words.{rootOrOld, newTarget};
+
+// The search that both forwardings make: the new target's id, with its page written and the inventory not told yet; or 7, 4, 8. "The page
+// named is the root's or old target's" excludes the pages of `id` and of `old`; the first forwarding has no old target and passes the root.
+fn place_target(
+    segment: &mut [u8],
+    inventory: &[u8],
+    id: usize,
+    old: usize,
+    bytes: &[u8],
+    size: usize,
+) -> Answer
+    requires { ⌜ Sizes (now segment) (now inventory) ⌝ }
+    requires { ⌜ size ≤ 16364 ⌝ }
+    ensures { λ r. ⌜ outcome r (now (segment .exit)) (now (inventory .entry)) ≡ result (now (segment .entry)) (newTarget (now (inventory .entry)) id (fit size (now (bytes .entry))) (find foundIn (segView (now (segment .entry))) (now (inventory .entry)) (size + 8) (rootOrOld id old))) ⌝ }
+{
+    let named = free_space_inventory::find_page(inventory, segment.len() / 16384, size + 16);
+    let Named::At { page } = named else {
+        return Answer::Full;
+    };
+    if !lent_pages::page_sound(segment, page) {
+        return Answer::Damaged;
+    }
+    if page == id / 65536 {
+        return Answer::Stale;
+    }
+    if page == old / 65536 {
+        return Answer::Stale;
+    }
+    let place = lent_steps::insert_target_on(segment, page, id, bytes, size);
+    let Place::At { slot, offset: _ } = place else {
+        return Answer::Stale;
+    };
+    Answer::Done {
+        id: page * 65536 + slot,
+    }
+}
+
+// The first forwarding: the root's record becomes a redirect. The new target has the bytes, cut off or filled up with zeros to `size`.
+pub fn forward(
+    segment: &mut [u8],
+    inventory: &mut [u8],
+    id: usize,
+    bytes: &[u8],
+    size: usize,
+) -> Answer
+    requires { ⌜ Sizes (now segment) (now inventory) ⌝ }
+    requires { ⌜ (pageNo id * 16384 + 16384 ≤ length (now segment)) × (sound (segView (now segment) .page (pageNo id)) ≡ true) × (isFree (segView (now segment) .page (pageNo id) .at (slotNo id)) ≡ false) × (size ≤ 16364) ⌝ }
+    ensures { λ r. ⌜ outcome r (now (segment .exit)) (now (inventory .exit)) ≡ result (now (segment .entry)) (forwarded (segView (now (segment .entry))) (now (inventory .entry)) id size (λ o. fit size (now (bytes .entry))) [] (find foundIn (segView (now (segment .entry))) (now (inventory .entry)) (size + 8) (λ p. eqb p (pageNo id)))) ⌝ }
+{
+    let placed = place_target(segment, inventory, id, id, bytes, size);
+    let Answer::Done { id: target } = placed else {
+        return placed;
+    };
+    lent_steps::erase_for_redirect_on(segment, id / 65536, id % 65536, target);
+    lent_steps::update_on(segment, inventory, id / 65536);
+    lent_steps::update_on(segment, inventory, target / 65536);
+    Answer::Done { id }
+}
+
+// The second: the root's redirect names the new target, and the old one at t is freed.
+pub fn forward_again(
+    segment: &mut [u8],
+    inventory: &mut [u8],
+    id: usize,
+    t: usize,
+    bytes: &[u8],
+    size: usize,
+) -> Answer
+    requires { ⌜ Sizes (now segment) (now inventory) ⌝ }
+    requires { ⌜ (pageNo id * 16384 + 16384 ≤ length (now segment)) × (sound (segView (now segment) .page (pageNo id)) ≡ true) × (segView (now segment) .page (pageNo id) .at (slotNo id) ≡ Slot.Redirect t) × (pointsBack (segView (now segment)) id t ≡ true) × (size ≤ 16364) ⌝ }
+    ensures { λ r. ⌜ outcome r (now (segment .exit)) (now (inventory .exit)) ≡ result (now (segment .entry)) (forwardedAgain (segView (now (segment .entry))) (now (inventory .entry)) id size (λ o. fit size (now (bytes .entry))) t [] (find foundIn (segView (now (segment .entry))) (now (inventory .entry)) (size + 8) (λ p. eqb p (pageNo id) || eqb p (pageNo t)))) ⌝ }
+{
+    let placed = place_target(segment, inventory, id, t, bytes, size);
+    let Answer::Done { id: target } = placed else {
+        return placed;
+    };
+    lent_steps::set_redirect_on(segment, id / 65536, id % 65536, target);
+    lent_steps::erase_on(segment, t / 65536, t % 65536);
+    lent_steps::update_on(segment, inventory, t / 65536);
+    lent_steps::update_on(segment, inventory, target / 65536);
+    Answer::Done { id }
+}
+
+// Whether the record of a redirect to t fits on the root's page. If so it is there, and its target is freed.
+pub fn at_home(
+    segment: &mut [u8],
+    inventory: &mut [u8],
+    id: usize,
+    t: usize,
+    bytes: &[u8],
+    size: usize,
+) -> bool
+    requires { ⌜ Sizes (now segment) (now inventory) ⌝ }
+    requires { ⌜ (pageNo id * 16384 + 16384 ≤ length (now segment)) × (sound (segView (now segment) .page (pageNo id)) ≡ true) × (segView (now segment) .page (pageNo id) .at (slotNo id) ≡ Slot.Redirect t) × (pointsBack (segView (now segment)) id t ≡ true) × (size ≤ 16364) ⌝ }
+    ensures { λ r. ⌜ (r ≡ wasMoved (relocate (segView (now (segment .entry)) .page (pageNo id)) (slotNo id) size))
+        × (wasMoved (relocate (segView (now (segment .entry)) .page (pageNo id)) (slotNo id) size) ≡ false → (now (segment .exit) ≡ now (segment .entry)) × (now (inventory .exit) ≡ now (inventory .entry)))
+        × (wasMoved (relocate (segView (now (segment .entry)) .page (pageNo id)) (slotNo id) size) ≡ true → outcome (Answer.Done id) (now (segment .exit)) (now (inventory .exit)) ≡ result (now (segment .entry)) (atHome (segView (now (segment .entry))) (now (inventory .entry)) id size (λ o. fit size (now (bytes .entry))) t [] (relocate (segView (now (segment .entry)) .page (pageNo id)) (slotNo id) size))) ⌝ }
+{
+    if !lent_steps::rewrite_on(segment, id / 65536, id % 65536, bytes, size) {
+        return false;
+    }
+    lent_steps::erase_on(segment, t / 65536, t % 65536);
+    lent_steps::update_on(segment, inventory, id / 65536);
+    lent_steps::update_on(segment, inventory, t / 65536);
+    true
+}
