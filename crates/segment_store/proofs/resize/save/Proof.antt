@@ -1,0 +1,46 @@
+-- `segment_store::resize::save` meets its contract. Assumes nothing.
+use mathlib.Core.Path.{_≡_}
+use Prim.Native.Nat.{_+_, _-_}
+use native.Mathlib.Omega.{arith}
+use borrow.Author.Needs.{needs}
+use Rattle.segment_store.proofs.resize.save.Statement.{statement}
+use Rattle.segment_store.proofs.resize.save.Tie as tie
+use Rattle.segment_store.proofs.resize.save.Reads as reads
+use Rattle.segment_store.proofs.resize.save.Lts as lts
+use Rattle.layout.proofs.copy_in.Reads as copy-in-reads
+
+add-e : tie.Need-add-e
+add-e c = search needs
+
+sub-copy-in : tie.Need-sub-copy-in
+sub-copy-in c = search needs
+
+part-copy-in-start : tie.Need-part-copy-in-start
+part-copy-in-start c = search needs
+
+part-copy-in-end : tie.Need-part-copy-in-end
+part-copy-in-end c = search needs
+
+copy-in-requires : tie.Need-copy-in-requires
+copy-in-requires c κs = search needs
+
+same-length : tie.Need-same-length
+same-length c = search needs
+
+returns : tie.Need-returns
+returns c =
+    let s = c .before .before .before .before .before .before .before .args in
+    let h : s .at + s .n - s .at ≡ s .n = omega arith in
+    rw h at (c .before .before .copy-in .ensures)
+
+pub save-spec : {M : Type 1} → statement M
+save-spec =
+    tie.close
+    (tie.spec
+    add-e
+    sub-copy-in
+    part-copy-in-start
+    part-copy-in-end
+    copy-in-requires
+    same-length
+    returns)
