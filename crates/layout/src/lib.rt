@@ -1,5 +1,6 @@
 // The leaves: numbers at an offset, runs of bytes, the slot codec and the header.
 pub mod header;
+pub mod little;
 pub mod slots;
 
 ghost use mathlib.Core.Path.{_≡_};
