@@ -1,0 +1,3 @@
+pub mod Seen
+pub mod Short
+pub mod Back

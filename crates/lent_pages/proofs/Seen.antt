@@ -1,0 +1,53 @@
+-- What is seen of a page of the segment, against what stands on it. Assumes nothing.
+use Prim.Native.Nat.{ℕ, _+_, _-_, _*_, _≤_}
+use mathlib.Core.Path.{_≡_, sym, ap, subst, _∙_}
+use mathlib.Core.Bool.{true}
+use mathlib.Core.List.{List}
+use native.Mathlib.Omega.{arith}
+use lib.ListN.{length, take, drop}
+use lib.Seq.{take-take}
+use Rattle.store.specs.Numbers.{cut}
+use Rattle.store.specs.Slots.{off, len, isTarget}
+use Rattle.store.specs.Page.{view, sound}
+use Rattle.store.specs.Segment.{segView, pageOf}
+use Rattle.store.specs.Laws.Segments.{length-page}
+use Rattle.store.specs.Laws.Calls.{shows-opened, sound-seen}
+use Rattle.store.specs.Laws.SoundSegment.{open-sound, seen-page}
+use Rattle.store.specs.Laws.Parts.{seen-bytes}
+use Rattle.store.specs.declared.Slot.{Slot}
+use Rattle.store.specs.declared.Slot.the-variants.{Target}
+
+-- a page as the code lends it
+pub lent-part : (s : List ℕ) (p : ℕ) → cut s (p * 16384) (p * 16384 + 16384 - p * 16384) ≡ pageOf s p
+lent-part s p = let e : p * 16384 + 16384 - p * 16384 ≡ 16384 = omega arith in ap (cut s (p * 16384)) e
+
+module _ (s : List ℕ) (p : ℕ) where
+  pub seen-sound : sound (segView s .page p) ≡ sound (view (pageOf s p))
+  seen-sound = ap sound (seen-page s p) ∙ open-sound (view (pageOf s p))
+
+  -- the bytes of a slot that lies in its page, and the first 8 of a target's
+  pub slot-bytes : (k : ℕ) (x : Slot) → segView s .page p .at k ≡ x → off x + len x ≤ 16384 → cut s (p * 16384 + off x) (len x) ≡ segView s .page p .bytes k
+  slot-bytes k x e = subst (λ (y : Slot). off y + len y ≤ 16384 → cut s (p * 16384 + off y) (len y) ≡ segView s .page p .bytes k) e (seen-bytes s p k)
+
+  pub target-head : (k o l : ℕ) → segView s .page p .at k ≡ Target o l → 8 ≤ l → o + l ≤ 16384
+      → take 8 (segView s .page p .bytes k) ≡ cut s (p * 16384 + o) 8
+  target-head k o l e low high = ap (take 8) (sym (slot-bytes k (Target o l) e high)) ∙ take-take 8 l (drop (p * 16384 + o) s) low
+
+  module _ (fits : p * 16384 + 16384 ≤ length s) where
+    pub seen-count : segView s .page p .slotCount ≡ view (pageOf s p) .slotCount
+    unfolding segView view
+    seen-count = shows-opened (pageOf s p) (length-page s p fits) .slotCount
+
+    pub seen-at : (k : ℕ) → segView s .page p .at k ≡ view (pageOf s p) .at k
+    unfolding segView view
+    seen-at = shows-opened (pageOf s p) (length-page s p fits) .at
+
+    -- what the test of the page says of a slot
+    module _ (ok : sound (segView s .page p) ≡ true) (k : ℕ) (x : Slot) (e : segView s .page p .at k ≡ x) where
+      pub slot-high : off x + len x ≤ 16384
+      unfolding segView
+      slot-high = subst (λ (y : Slot). off y + len y ≤ 16384) e (sound-seen (pageOf s p) (length-page s p fits) ok .high k)
+
+      pub target-long : isTarget x ≡ true → 8 ≤ len x
+      unfolding segView
+      target-long = subst (λ (y : Slot). isTarget y ≡ true → 8 ≤ len y) e (sound-seen (pageOf s p) (length-page s p fits) ok .targets k)
