@@ -1,16 +1,13 @@
 -- The leaves against the store's codec and header. Assumes nothing.
-use mathlib.Core.Path.{_≡_, refl, sym, ap, _∙_}
-use mathlib.Core.Bool.{Bool, true, false, cond}
-use mathlib.Core.List.{List, [], _∷_, _++_}
-use Prim.Native.Nat.{ℕ, zero, suc, _+_, _-_, _*_, _/_, _%_, _^_, _≤_, _<_}
+use mathlib.Core.Path.{_≡_, refl, sym, _∙_}
+use mathlib.Core.List.{List, _++_}
+use Prim.Native.Nat.{ℕ, zero, suc, _+_, _*_, _/_, _%_, _^_, _≤_, _<_}
 use native.Mathlib.Omega.{arith}
-use lib.ListN.{length}
 use borrow.Author.Tests.{lt-ltb}
 use Rattle.store.specs.Numbers.{cut, put, be, toBE}
 use Rattle.store.specs.Slots.{ofKind, slotOf}
-use Rattle.store.specs.Page.{view, count, slotAt}
-use Rattle.store.specs.declared.Slot.{Slot}
-use Rattle.store.specs.declared.Slot.the-variants.{Ordinary, Free, Redirect, Target}
+use Rattle.store.specs.Page.{view, count}
+use Rattle.store.specs.declared.Slot.the-variants.{Target}
 use Rattle.layout.specs.Run.{headOf}
 use Rattle.layout.proofs.Writes.{write-append}
 

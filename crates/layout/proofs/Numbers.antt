@@ -1,7 +1,7 @@
 -- The leaves' numbers against `be` and `toBE`. Assumes nothing.
-use mathlib.Core.Path.{_≡_, refl, sym, ap, _∙_}
+use mathlib.Core.Path.{_≡_, sym, ap, _∙_}
 use mathlib.Core.List.{List, [], _∷_, _++_}
-use Prim.Native.Nat.{ℕ, zero, suc, _+_, _-_, _*_, _/_, _%_, _^_, _≤_, _<_}
+use Prim.Native.Nat.{ℕ, suc, _+_, _*_, _/_, _%_, _^_, _≤_}
 use native.Mathlib.Nat.{div-one, mul-assoc, add-mul, div-div-eq-div-mul}
 use lib.Pow.{pow-add}
 use lib.Seq.{take-add, drop-drop, length-take-le}

@@ -1,14 +1,14 @@
 -- The laws of `write`, which every proof on pages cites. Assumes nothing.
-use mathlib.Core.Path.{_≡_, refl, sym, ap, _∙_, subst}
-use mathlib.Core.List.{List, [], _∷_, _++_, append-assoc}
+use mathlib.Core.Path.{_≡_, sym, ap, _∙_}
+use mathlib.Core.List.{List, [], _∷_, _++_, append-assoc, append-nil}
 use Prim.Native.Nat.{ℕ, zero, suc, _+_, _-_, _≤_, _<_}
-use native.Mathlib.Nat.{add-zero, add-suc, suc-add}
+use native.Mathlib.Nat.{add-zero, add-suc}
 use native.Mathlib.Numerals.{add-one}
 use native.Mathlib.Omega.{arith}
-use lib.ListN.{length, getD, take, drop, set, replicate, length-set, length-take, length-drop, length-replicate, length-append, replicate-append-replicate}
-use lib.Seq.{getD-set-same, getD-set-other, set-comm, take-suc, drop-cons, getD-take, getD-drop, length-take-le, take-at, drop-at, take-add}
-use Rattle.store.specs.Numbers.{cut, put}
-use Rattle.store.specs.Laws.Numbers.{length-put, put-set, put-nil, cut-same, cut-before, cut-after, put-parts}
+use lib.ListN.{length, getD, take, drop, set, replicate, length-set, length-drop, length-replicate, length-append, replicate-append-replicate}
+use lib.Seq.{getD-set-same, getD-set-other, set-comm, take-suc, drop-cons, getD-take, getD-drop, length-take-le, take-at, drop-at, take-add, take-all}
+use Rattle.store.specs.Numbers.{cut, put, zeros, fit}
+use Rattle.store.specs.Laws.Numbers.{length-put, put-set, put-nil, put-parts}
 
 -- the names of these laws; each is another word for the store's `put` and `cut`
 abbrev pub part : ℕ → ℕ → List ℕ → List ℕ
@@ -130,3 +130,10 @@ pub part-front : (at n : ℕ) (p : List ℕ) → at ≤ n → n ≤ length p →
 part-front at n p h k =
     let e : n ≡ at + (n - at) = omega arith in
     ap (λ (m : ℕ). drop at (take m p)) e ∙ rw (take-add at (n - at) p) (drop-at (take at p) (part at (n - at) p) at (length-take-le at p (omega arith)))
+
+-- bytes at another size
+pub fit-cut : (n : ℕ) (bs : List ℕ) → n ≤ length bs → fit n bs ≡ take n bs
+fit-cut n bs h = let e : n - length bs ≡ 0 = omega arith in rw e (append-nil (take n bs))
+
+pub fit-filled : (n : ℕ) (bs : List ℕ) → length bs ≤ n → fit n bs ≡ bs ++ zeros (n - length bs)
+fit-filled n bs h = ap (λ (l : List ℕ). l ++ zeros (n - length bs)) (take-all n bs h)

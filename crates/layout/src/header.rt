@@ -1,6 +1,6 @@
 // The header: its four numbers as the view has them, and all of it written.
 ghost use mathlib.Core.Path.{_≡_};
-ghost use Prim.Native.Nat.{_+_, _≤_, _<_};
+ghost use Prim.Native.Nat.{_≤_, _<_};
 ghost use lib.ListN.{length};
 ghost use Rattle.store.specs.Numbers.{put};
 ghost use Rattle.store.specs.Page.{view};

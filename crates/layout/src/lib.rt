@@ -6,7 +6,7 @@ pub mod slots;
 ghost use mathlib.Core.Path.{_≡_};
 ghost use Prim.Native.Nat.{_+_, _≤_, _<_};
 ghost use lib.ListN.{length};
-ghost use Rattle.store.specs.Numbers.{cut, put, toBE, zeros};
+ghost use Rattle.store.specs.Numbers.{cut, put, toBE, zeros, fit};
 ghost use Rattle.layout.specs.Run.{Read};
 
 // n zeros from `at` on.
@@ -30,6 +30,20 @@ pub fn copy_in(page: &mut [u8], at: usize, src: &[u8])
     while j < src.len() {
         page[at + j] = src[j];
         j += 1;
+    }
+}
+
+// src from `at` on, cut off or filled up with zeros to `size` bytes.
+pub fn fit_in(page: &mut [u8], at: usize, src: &[u8], size: usize)
+    requires { ⌜ at + size ≤ length (now page) ⌝ }
+    ensures { λ _. ⌜ now (page .exit) ≡ put (now (page .entry)) at (fit size (now (src .entry))) ⌝ }
+{
+    let n = src.len();
+    if size < n {
+        copy_in(page, at, &src[..size]);
+    } else {
+        copy_in(page, at, src);
+        zero_fill(page, at + n, size - n);
     }
 }
 

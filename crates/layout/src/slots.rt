@@ -3,7 +3,7 @@ use store::Slot;
 ghost use mathlib.Core.Path.{_≡_};
 ghost use Prim.Native.Nat.{_+_, _*_, _≤_, _<_};
 ghost use lib.ListN.{length};
-ghost use Rattle.store.specs.Numbers.{put, cut, be};
+ghost use Rattle.store.specs.Numbers.{put};
 ghost use Rattle.store.specs.Slots.{slotWord, slotBytes, slotOf, off, len, isFree};
 ghost use Rattle.store.specs.Page.{view};
 ghost use Rattle.store.specs.Laws.Slots.{Codable};

@@ -1,53 +1,24 @@
 -- Making room and allocate against the store's plans. Assumes nothing.
 use mathlib.Core.Path.{_≡_, refl, sym, ap, _∙_}
 use mathlib.Core.Bool.{Bool, true, false, cond}
-use mathlib.Core.List.{List, [], _∷_, _++_}
+use mathlib.Core.List.{List, [], _∷_}
 use Prim.Native.Nat.{ℕ, zero, suc, _+_, _-_, _*_, _/_, _≤_, _<_}
 use native.Mathlib.Omega.{arith}
-use lib.ListN.{length}
 use lib.Dec.{ltb, eqb}
-use borrow.Author.Tests.{lt-ltb, le-ltb, eq-eqb, ne-eqb}
+use borrow.Author.Tests.{lt-ltb, le-ltb}
 use Rattle.store.specs.Numbers.{put, zeros, upd}
-use Rattle.store.specs.Slots.{slotBytes, off, len, isFree}
-use Rattle.store.specs.Page.{View, view}
-use Rattle.store.specs.PageSteps.{apply, commit, run, withHead, withSlot, Plan, stay, andThen, gap, makeRoom, compactify, nextFree, isNew, cost, allocated, noRoom, got, allocate}
+use Rattle.store.specs.Slots.{slotBytes, off, isFree}
+use Rattle.store.specs.Page.{View}
+use Rattle.store.specs.PageSteps.{apply, commit, run, withHead, makeRoom, nextFree, isNew, cost, allocated, allocate}
 use Rattle.store.specs.Laws.Views.{Sound, upd-same}
 use Rattle.store.specs.Laws.Exact.{run-append}
-use Rattle.store.specs.Laws.Compactify.{Kept, compact-exact, compact-keeps, compact-gap}
+use Rattle.store.specs.Laws.Compactify.{Kept}
 use Rattle.store.specs.declared.Slot.{Slot}
-use Rattle.store.specs.declared.Slot.the-variants.{Ordinary, Free, Redirect, Target}
-use Rattle.store.specs.declared.Place.{Place}
+use Rattle.store.specs.declared.Slot.the-variants.{Ordinary}
 use Rattle.store.specs.declared.Place.the-variants.{At, NoRoom}
 use Rattle.layout.specs.Run.{headOf}
-use Rattle.slotted_page.specs.Words.{Roomed, pageAfter, placeOf}
+use Rattle.slotted_page.specs.Words.{pageAfter, placeOf}
 use Rattle.slotted_page.proofs.StepLaws.{commit-writes}
-
--- ---- room
-
-module _ (p : List ℕ) (n r : ℕ) (whole : length p ≡ 16384) (s : Sound (view p)) where
-  pub room-made : (q : List ℕ) → n ≤ view p .freeSpace → gap (view p) < n → q ≡ run (compactify (view p) .edits) p → r ≡ compactify (view p) .after .dataStart → Roomed n p q r
-  room-made q h g e b =
-      let x = compact-exact p (view p) whole refl s .sound in
-      let k = compact-keeps (view p) s in
-      let t : ltb (gap (view p)) n ≡ true = lt-ltb (gap (view p)) n g in
-      record {
-        is = rw t e;
-        begins = rw t b;
-        low = omega (arith, x .dir, k .slotCount, compact-gap (view p) s);
-        high = omega (arith, x .start≤);
-      }
-
-  pub room-there : n ≤ gap (view p) → r ≡ view p .dataStart → Roomed n p p r
-  room-there g b =
-      let t : ltb (gap (view p)) n ≡ false = le-ltb (gap (view p)) n g in
-      record { is = rw t; begins = rw t b; low = omega (arith, s .dir); high = omega (arith, s .start≤) }
-
-pub roomy-keeps : (v : View) (n : ℕ) → Sound v → Kept v (makeRoom v n .after)
-roomy-keeps v n s = go (ltb (gap v) n)
-  where
-    go : (b : Bool) → Kept v (cond b (compactify v) (stay v) .after)
-    go true = compact-keeps v s
-    go false = record { slotCount = refl; firstFree = refl; freeSpace = refl; bytes = λ j. refl; lens = λ j. refl; kinds = λ j. refl; tags = λ j. refl }
 
 -- ---- the next free slot
 

@@ -1,13 +1,13 @@
 -- A record's bytes written where it stands. Assumes nothing.
 use mathlib.Core.Path.{_≡_, refl, sym, ap, _∙_}
-use mathlib.Core.List.{List, [], _∷_, _++_}
-use Prim.Native.Nat.{ℕ, zero, suc, _+_, _≤_}
+use mathlib.Core.List.{List, [], _∷_}
+use Prim.Native.Nat.{ℕ}
 use native.Mathlib.Omega.{arith}
 use borrow.Author.Tests.{eq-eqb}
 use Rattle.store.specs.Numbers.{put}
 use Rattle.store.specs.Slots.{off}
 use Rattle.store.specs.Page.{View}
-use Rattle.store.specs.PageSteps.{apply, fill, run, withSlot, Plan, Alloc, noRoom, got}
+use Rattle.store.specs.PageSteps.{apply, fill, run, withSlot, Alloc, noRoom, got}
 use Rattle.store.specs.Laws.Exact.{run-append}
 use Rattle.store.specs.declared.Place.{Place}
 use Rattle.store.specs.declared.Place.the-variants.{At, NoRoom}

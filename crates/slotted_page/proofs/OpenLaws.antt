@@ -1,22 +1,21 @@
 -- A fresh page: initialised, then as any other. Assumes nothing.
 use mathlib.Core.Path.{_≡_, refl, sym, ap, _∙_}
-use mathlib.Core.Bool.{Bool, true, false, cond}
+use mathlib.Core.Bool.{true, false}
 use mathlib.Core.List.{List, [], _∷_, _++_}
 use mathlib.Core.Logic.{_≢_}
-use Prim.Native.Nat.{ℕ, zero, suc, _+_, _-_, _*_, _≤_, _<_}
+use Prim.Native.Nat.{ℕ, zero, suc, _+_, _-_, _≤_}
 use native.Mathlib.Omega.{arith}
 use lib.ListN.{length}
 use lib.Dec.{ltb, eqb}
 use borrow.Author.Tests.{le-ltb, eq-eqb, ne-eqb}
 use Rattle.store.specs.Numbers.{put, zeros, toBE}
 use Rattle.store.specs.Slots.{slotBytes}
-use Rattle.store.specs.Page.{View, view, sound, fresh}
-use Rattle.store.specs.PageSteps.{opened, initialised, apply, commit, putHead, headBytes, withHead, allocated, cost, gap, makeRoom, allocate}
+use Rattle.store.specs.Page.{View, view, sound}
+use Rattle.store.specs.PageSteps.{opened, initialised, apply, commit, putHead, headBytes, withHead, allocated, allocate}
 use Rattle.store.specs.Laws.Numbers.{length-put}
 use Rattle.store.specs.Laws.Edits.{head-view}
 use Rattle.store.specs.Laws.Views.{Sound, sound-fits}
 use Rattle.store.specs.Laws.SoundPage.{sound-init, sound-page}
-use Rattle.store.specs.declared.Slot.{Slot}
 use Rattle.store.specs.declared.Slot.the-variants.{Ordinary}
 use Rattle.store.specs.declared.Place.{Place}
 use Rattle.layout.specs.Run.{headOf}

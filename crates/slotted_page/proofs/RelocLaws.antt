@@ -1,31 +1,31 @@
 -- Relocate against the store's plans. Assumes nothing.
 use mathlib.Core.Path.{_≡_, refl, sym, ap, _∙_}
-use mathlib.Core.Bool.{Bool, true, false, cond}
+use mathlib.Core.Bool.{true, false}
 use mathlib.Core.List.{List, [], _∷_, _++_}
-use mathlib.Core.Logic.{_⊎_, inl, inr, _≢_}
-use Prim.Native.Nat.{ℕ, zero, suc, _+_, _-_, _*_, _≤_, _<_}
+use mathlib.Core.Logic.{inr, _≢_}
+use Prim.Native.Nat.{ℕ, _+_, _-_, _*_, _≤_, _<_}
 use native.Mathlib.Omega.{arith}
-use native.Mathlib.Decide.{ℕ-discrete, decLt}
 use lib.ListN.{length, take, drop, length-drop, take-append-drop}
 use lib.Seq.{drop-drop, take-take, take-all, length-take-le}
-use lib.Dec.{ltb, eqb}
+use lib.Dec.{ltb}
 use borrow.Author.Tests.{lt-ltb, le-ltb, eq-eqb, ne-eqb}
 use Rattle.store.specs.Numbers.{put, cut, zeros, fit}
 use Rattle.store.specs.Slots.{slotBytes, off, len, isFree, isRecord, placed}
 use Rattle.store.specs.Page.{View, view}
-use Rattle.store.specs.PageSteps.{apply, commit, run, withHead, withSlot, Plan, andThen, makeRoom, moveUnder, movedUnder, parked, shrunk, resized, relocateBy, relocate, Relocated, refused, moved}
+use Rattle.store.specs.PageSteps.{apply, commit, run, withHead, makeRoom, moveUnder, movedUnder, parked, resized, relocateBy, relocate, refused}
 use Rattle.store.specs.Laws.Numbers.{put-nil, put-parts, length-put, cut-apart, cut-same}
 use Rattle.store.specs.Laws.Views.{Sound}
-use Rattle.store.specs.Laws.Exact.{Exact, run-append, length-apply}
-use Rattle.store.specs.Laws.Compactify.{Kept, placed-is}
+use Rattle.store.specs.Laws.Exact.{run-append, length-apply}
+use Rattle.store.specs.Laws.Compactify.{placed-is}
 use Rattle.store.specs.Laws.Relocate.{park-exact}
 use Rattle.store.specs.declared.Slot.{Slot}
 use Rattle.store.specs.declared.Slot.the-variants.{Ordinary, Free, Redirect, Target}
 use Rattle.layout.specs.Run.{headOf}
-use Rattle.slotted_page.specs.Words.{Roomed, underPage, shrinkPlan, growPlan, homeOf, pageMoved, wasMoved}
+use Rattle.compactify.specs.Room.{Roomed}
+use Rattle.slotted_page.specs.Words.{underPage, shrinkPlan, growPlan, homeOf, pageMoved, wasMoved}
 use Rattle.slotted_page.proofs.StepLaws.{commit-writes}
-use Rattle.slotted_page.proofs.AllocLaws.{roomy-keeps}
-use Rattle.slotted_page.proofs.PackLaws.{shown-bytes}
+use Rattle.compactify.proofs.RoomLaws.{roomy-keeps}
+use Rattle.compactify.proofs.PackLaws.{shown-bytes}
 
 -- ---- bytes that stand there already
 

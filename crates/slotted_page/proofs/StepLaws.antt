@@ -1,20 +1,18 @@
 -- The page steps against the store's plans: each law takes what the calls of a function ensure, and ends in `run (plan .edits) p`. Assumes nothing.
 use mathlib.Core.Path.{_≡_, refl, sym, ap, _∙_}
-use mathlib.Core.Bool.{Bool, true, false, cond}
-use mathlib.Core.List.{List, [], _∷_, _++_}
-use Prim.Native.Nat.{ℕ, zero, suc, _+_, _-_, _*_, _≤_, _<_, min}
+use mathlib.Core.Bool.{true, false, cond}
+use mathlib.Core.List.{List, []}
+use Prim.Native.Nat.{ℕ, suc, _+_, _-_, _*_, _<_, min}
 use native.Mathlib.Omega.{arith}
-use native.Mathlib.Numerals.{add-one}
-use lib.ListN.{length}
-use lib.Dec.{ltb, eqb}
-use borrow.Author.Tests.{lt-ltb, le-ltb, eq-eqb, ne-eqb}
-use Rattle.store.specs.Numbers.{put, zeros, upd}
+use lib.Dec.{eqb}
+use borrow.Author.Tests.{eq-eqb}
+use Rattle.store.specs.Numbers.{put}
 use Rattle.store.specs.Slots.{slotBytes, off, len, isFree}
-use Rattle.store.specs.Page.{View, view}
-use Rattle.store.specs.PageSteps.{apply, commit, run, withHead, withSlot, freeBelow, pruned, startWithout, erased, eraseForRedirect, redirected, erase}
+use Rattle.store.specs.Page.{View}
+use Rattle.store.specs.PageSteps.{apply, commit, run, withHead, withSlot, freeBelow, pruned, startWithout, eraseForRedirect, erase}
 use Rattle.store.specs.Laws.Numbers.{put-nil}
 use Rattle.store.specs.declared.Slot.{Slot}
-use Rattle.store.specs.declared.Slot.the-variants.{Ordinary, Free, Redirect, Target}
+use Rattle.store.specs.declared.Slot.the-variants.{Free, Redirect}
 use Rattle.layout.specs.Run.{headOf}
 
 -- one commit as the code does it: the header, the entry, the bytes

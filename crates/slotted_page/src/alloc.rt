@@ -7,22 +7,9 @@ ghost use Prim.Native.Nat.{_+_, _-_, _*_, _≤_, _<_};
 ghost use lib.Dec.{eqb};
 ghost use lib.ListN.{length};
 ghost use Rattle.store.specs.Page.{view};
-ghost use Rattle.store.specs.PageSteps.{run, makeRoom, nextFree, allocate};
+ghost use Rattle.store.specs.PageSteps.{nextFree, allocate};
 ghost use Rattle.store.specs.Laws.Views.{Sound};
-ghost use Rattle.slotted_page.specs.Words.{Roomed, pageAfter, placeOf, Inside};
-
-// A gap of n bytes, by compactify where it has to be made; the data start.
-pub fn make_room(page: &mut [u8], n: usize) -> usize
-    requires { ⌜ (length (now page) ≡ 16384) × Sound (view (now page)) × (n ≤ view (now page) .freeSpace) ⌝ }
-    ensures { λ r. ⌜ Roomed n (now (page .entry)) (now (page .exit)) r ⌝ }
-{
-    let c = layout::header::get_slot_count(page);
-    let d = layout::header::get_data_start(page);
-    if d - (12 + 8 * c) < n {
-        return crate::compact::compactify(page);
-    }
-    d
-}
+ghost use Rattle.slotted_page.specs.Words.{pageBare, pageAfter, placeOf, Inside, PastEntry};
 
 // The lowest free slot from k on, or the count.
 fn next_free(page: &[u8], k: usize, c: usize) -> usize
@@ -51,10 +38,11 @@ fn added_for(f: usize, c: usize) -> usize
     0
 }
 
-pub fn allocate(page: &mut [u8], size: usize) -> Place
+// Allocate but for the record's bytes: room is made, and the header and the slot's entry are written.
+pub fn reserve(page: &mut [u8], size: usize) -> Place
     requires { ⌜ (length (now page) ≡ 16384) × Sound (view (now page)) × (size ≤ 16384) ⌝ }
-    ensures { λ r. ⌜ (now (page .exit) ≡ pageAfter (allocate (view (now (page .entry))) size) (now (page .entry)))
-        × (r ≡ placeOf (allocate (view (now (page .entry))) size)) × Inside r size ⌝ }
+    ensures { λ r. ⌜ (now (page .exit) ≡ pageBare (allocate (view (now (page .entry))) size) (now (page .entry)))
+        × (r ≡ placeOf (allocate (view (now (page .entry))) size)) × Inside r size × PastEntry r ⌝ }
 {
     let c = layout::header::get_slot_count(page);
     let f = layout::header::get_first_free_slot(page);
@@ -64,7 +52,7 @@ pub fn allocate(page: &mut [u8], size: usize) -> Place
         return Place::NoRoom;
     }
     let next = next_free(page, f + 1, c);
-    let d = make_room(page, size + more) - size;
+    let d = compactify::room::make_room(page, size + more) - size;
     layout::header::set_header(page, c + more / 8, next, d, n - (size + more));
     layout::slots::write_slot(
         page,
@@ -74,6 +62,20 @@ pub fn allocate(page: &mut [u8], size: usize) -> Place
             length: size,
         },
     );
-    layout::zero_fill(page, d, size);
     Place::At { slot: f, offset: d }
+}
+
+pub fn allocate(page: &mut [u8], size: usize) -> Place
+    requires { ⌜ (length (now page) ≡ 16384) × Sound (view (now page)) × (size ≤ 16384) ⌝ }
+    ensures { λ r. ⌜ (now (page .exit) ≡ pageAfter (allocate (view (now (page .entry))) size) (now (page .entry)))
+        × (r ≡ placeOf (allocate (view (now (page .entry))) size)) × Inside r size ⌝ }
+{
+    let place = reserve(page, size);
+    match place {
+        Place::At { slot, offset } => {
+            layout::zero_fill(page, offset, size);
+            Place::At { slot, offset }
+        }
+        Place::NoRoom => Place::NoRoom,
+    }
 }

@@ -1,14 +1,15 @@
 // Erase, and erase for a redirect.
 use store::Slot;
 ghost use mathlib.Core.Path.{_≡_};
-ghost use mathlib.Core.Bool.{cond, false};
+ghost use mathlib.Core.Bool.{cond};
 ghost use Prim.Native.Nat.{_+_, _*_, _≤_, _<_, _^_, min};
 ghost use lib.Dec.{eqb};
 ghost use lib.ListN.{length};
-ghost use Rattle.store.specs.Slots.{len, isFree};
+ghost use Rattle.store.specs.Slots.{len};
 ghost use Rattle.store.specs.Page.{view};
-ghost use Rattle.store.specs.PageSteps.{freeBelow, pruned, startWithout, eraseForRedirect, run, erase};
+ghost use Rattle.store.specs.PageSteps.{freeBelow, pruned, eraseForRedirect, run, erase};
 ghost use Rattle.store.specs.Laws.Views.{Sound};
+ghost use Rattle.slotted_page.specs.Words.{redirectPlan};
 
 // Data start once the record at o of n bytes is gone.
 fn start_without(o: usize, n: usize, d: usize) -> usize
@@ -85,5 +86,13 @@ pub fn erase_for_redirect(page: &mut [u8], k: usize, id: usize)
     let len = layout::slots::len_of(s);
     let up = start_without(layout::slots::off_of(s), len, d);
     layout::header::set_header(page, c, f, up, n + len);
-    layout::slots::write_slot(page, k, Slot::Redirect { id: id });
+    layout::slots::write_slot(page, k, Slot::Redirect { id });
+}
+
+// "With the root as redirect", where the root is a redirect already: its entry alone.
+pub fn set_redirect(page: &mut [u8], k: usize, id: usize)
+    requires { ⌜ (20 + 8 * k ≤ length (now page)) × (id < 2 ^ 62) ⌝ }
+    ensures { λ _. ⌜ now (page .exit) ≡ run (redirectPlan (view (now (page .entry))) k id .edits) (now (page .entry)) ⌝ }
+{
+    layout::slots::write_slot(page, k, Slot::Redirect { id });
 }

@@ -1,8 +1,7 @@
 // One page: its header, its slots, and the steps of document 01 on it.
 pub mod alloc;
-pub mod compact;
 pub mod erase;
 pub mod insert;
 pub mod open;
+pub mod record;
 pub mod relocate;
-pub mod table;

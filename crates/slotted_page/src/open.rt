@@ -6,14 +6,28 @@ ghost use Prim.Native.Nat.{_≤_};
 ghost use lib.ListN.{length};
 ghost use Rattle.store.specs.Page.{view, sound};
 ghost use Rattle.store.specs.PageSteps.{opened, putHead, initialised, allocate};
-ghost use Rattle.slotted_page.specs.Words.{pageAfter, placeOf, Inside};
+ghost use Rattle.slotted_page.specs.Words.{pageBare, pageAfter, placeOf, Inside, PastEntry};
 
 // The header of a page just initialised.
-pub fn initialize(page: &mut [u8])
+fn initialize(page: &mut [u8])
     requires { ⌜ length (now page) ≡ 16384 ⌝ }
     ensures { λ _. ⌜ now (page .exit) ≡ putHead initialised (now (page .entry)) ⌝ }
 {
     layout::header::set_header(page, 0, 0, 16384, 16372);
+}
+
+// Allocate but for the record's bytes. A size of at most 16,364 finds room on a fresh page, so a refusal never leaves one initialised.
+pub fn reserve_opened(page: &mut [u8], size: usize) -> Place
+    requires { ⌜ (length (now page) ≡ 16384) × (sound (view (now page)) ≡ true) × (size ≤ 16364) ⌝ }
+    ensures { λ r. ⌜ (now (page .exit) ≡ pageBare (allocate (opened (view (now (page .entry)))) size) (now (page .entry)))
+        × (r ≡ placeOf (allocate (opened (view (now (page .entry)))) size)) × Inside r size × PastEntry r ⌝ }
+{
+    let c = layout::header::get_slot_count(page);
+    if c == 0 {
+        initialize(page);
+        return crate::alloc::reserve(page, size);
+    }
+    crate::alloc::reserve(page, size)
 }
 
 pub fn allocate_opened(page: &mut [u8], size: usize) -> Place
@@ -21,10 +35,12 @@ pub fn allocate_opened(page: &mut [u8], size: usize) -> Place
     ensures { λ r. ⌜ (now (page .exit) ≡ pageAfter (allocate (opened (view (now (page .entry)))) size) (now (page .entry)))
         × (r ≡ placeOf (allocate (opened (view (now (page .entry)))) size)) × Inside r size ⌝ }
 {
-    let c = layout::header::get_slot_count(page);
-    if c == 0 {
-        initialize(page);
-        return crate::alloc::allocate(page, size);
+    let place = reserve_opened(page, size);
+    match place {
+        Place::At { slot, offset } => {
+            layout::zero_fill(page, offset, size);
+            Place::At { slot, offset }
+        }
+        Place::NoRoom => Place::NoRoom,
     }
-    crate::alloc::allocate(page, size)
 }

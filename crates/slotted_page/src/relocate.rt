@@ -1,18 +1,18 @@
 // Relocate: a record's new size, where it stands or under data start.
+use store::Place;
 use store::Slot;
 ghost use mathlib.Core.Path.{_≡_};
 ghost use mathlib.Core.Bool.{true};
-ghost use mathlib.Core.List.{_++_};
 ghost use Prim.Native.Nat.{_+_, _-_, _*_, _≤_, _<_, _^_};
 ghost use lib.ListN.{length};
-ghost use Rattle.store.specs.Numbers.{put, cut, zeros};
+ghost use Rattle.store.specs.Numbers.{put, cut};
 ghost use Rattle.store.specs.Slots.{slotBytes, placed, isRecord, len};
 ghost use Rattle.store.specs.Page.{view};
-ghost use Rattle.store.specs.PageSteps.{run, makeRoom, resized, relocate};
+ghost use Rattle.store.specs.PageSteps.{run, makeRoom, gap, resized, relocate};
 ghost use Rattle.store.specs.Laws.Slots.{Codable};
 ghost use Rattle.store.specs.Laws.Views.{Sound};
 ghost use Rattle.layout.specs.Run.{headOf};
-ghost use Rattle.slotted_page.specs.Words.{underPage, shrinkPlan, growPlan, homeOf, pageMoved, wasMoved};
+ghost use Rattle.slotted_page.specs.Words.{underPage, shrinkPlan, homeOf, unfilled, pageBare, allocOf, placeOf, Inside, pageMoved, wasMoved};
 
 pub fn is_record(s: Slot) -> bool
     ensures { λ r. ⌜ r ≡ isRecord s ⌝ }
@@ -77,33 +77,15 @@ fn put_under(page: &mut [u8], k: usize, s: Slot, size: usize) -> usize
     let c = layout::header::get_slot_count(page);
     let f = layout::header::get_first_free_slot(page);
     let n = layout::header::get_free_space(page);
-    let d = crate::alloc::make_room(page, size) - size;
+    let d = compactify::room::make_room(page, size) - size;
     commit(page, k, placed_slot(s, d, size), c, f, d, n - size);
     d
 }
 
-// The n bytes at o, to the front of `to`.
-fn save(page: &[u8], o: usize, n: usize, to: &mut [u8])
-    requires { ⌜ (o + n ≤ length (now page)) × (n ≤ length (now to)) ⌝ }
-    ensures { λ _. ⌜ now (to .exit) ≡ put (now (to .entry)) 0 (cut (now (page .entry)) o n) ⌝ }
-{
-    let e = o + n;
-    layout::copy_in(to, 0, &page[o..e]);
-}
-
-// The old bytes at d, then zeros up to `size` bytes.
-fn refill(page: &mut [u8], d: usize, old: &[u8], size: usize)
-    requires { ⌜ (length (now old) ≤ size) × (d + size ≤ length (now page)) ⌝ }
-    ensures { λ _. ⌜ now (page .exit) ≡ put (now (page .entry)) d (now (old .entry) ++ zeros (size - length (now (old .entry)))) ⌝ }
-{
-    layout::copy_in(page, d, old);
-    layout::zero_fill(page, d + old.len(), size - old.len());
-}
-
-// The record in slot k cut to `size` bytes, where it stands.
+// "Smaller: the length only, and the offset stays."
 fn shrink(page: &mut [u8], k: usize, s: Slot, size: usize)
     requires { ⌜ (length (now page) ≡ 16384) × Sound (view (now page)) × (k < view (now page) .slotCount) × (s ≡ view (now page) .at k) × (isRecord s ≡ true) × (size < len s) ⌝ }
-    ensures { λ _. ⌜ now (page .exit) ≡ run (shrinkPlan (view (now (page .entry))) k size .edits) (now (page .entry)) ⌝ }
+    ensures { λ _. ⌜ now (page .exit) ≡ run (unfilled (shrinkPlan (view (now (page .entry))) k size .edits)) (now (page .entry)) ⌝ }
 {
     let c = layout::header::get_slot_count(page);
     let f = layout::header::get_first_free_slot(page);
@@ -126,64 +108,122 @@ fn park(page: &mut [u8], k: usize, len: usize)
     commit(page, k, Slot::Redirect { id: 0 }, c, f, d, n + len);
 }
 
-// The record in slot k grown to `size` bytes.
-fn grow(page: &mut [u8], k: usize, s: Slot, size: usize)
-    requires { ⌜ (length (now page) ≡ 16384) × Sound (view (now page)) × (k < view (now page) .slotCount) × (s ≡ view (now page) .at k) × (isRecord s ≡ true)
-        × (len s < size) × (size ≤ view (now page) .freeSpace + len s) ⌝ }
-    ensures { λ _. ⌜ now (page .exit) ≡ run (growPlan (view (now (page .entry))) k size .edits) (now (page .entry)) ⌝ }
-{
-    let n = layout::slots::len_of(s);
-    let o = layout::slots::off_of(s);
-    let mut saved = [0u8; 16384];
-    save(page, o, n, &mut saved);
-    park(page, k, n);
-    let d = put_under(page, k, s, size);
-    refill(page, d, &saved[..n], size);
-}
-
-// The record in slot k resized; whether there was room.
-fn resize(page: &mut [u8], k: usize, s: Slot, size: usize) -> bool
+// Slot k's record s gets room for `size` bytes; its place.
+fn resize_slot(page: &mut [u8], k: usize, s: Slot, size: usize) -> Place
     requires { ⌜ (length (now page) ≡ 16384) × Sound (view (now page)) × (k < view (now page) .slotCount) × (s ≡ view (now page) .at k) × (isRecord s ≡ true) ⌝ }
-    ensures { λ r. ⌜ (now (page .exit) ≡ pageMoved (resized (view (now (page .entry))) k size) (now (page .entry)))
-        × (r ≡ wasMoved (resized (view (now (page .entry))) k size)) ⌝ }
+    ensures { λ r. ⌜ (now (page .exit) ≡ pageBare (allocOf k (resized (view (now (page .entry))) k size)) (now (page .entry)))
+        × (r ≡ placeOf (allocOf k (resized (view (now (page .entry))) k size))) × Inside r size ⌝ }
 {
     let n = layout::slots::len_of(s);
+    let offset = layout::slots::off_of(s);
     if size == n {
-        return true;
+        return Place::At { slot: k, offset };
     }
     if size < n {
         shrink(page, k, s, size);
-        return true;
+        return Place::At { slot: k, offset };
     }
     let room = layout::header::get_free_space(page);
     if room < size - n {
-        return false;
+        return Place::NoRoom;
     }
-    grow(page, k, s, size);
-    true
+    park(page, k, n);
+    let d = put_under(page, k, s, size);
+    Place::At { slot: k, offset: d }
 }
 
-// A redirect's record come home: zeros under data start.
-fn come_home(page: &mut [u8], k: usize, size: usize) -> bool
+// Slot k, a redirect, gets a record of `size` bytes; its place.
+fn home_slot(page: &mut [u8], k: usize, size: usize) -> Place
     requires { ⌜ (length (now page) ≡ 16384) × Sound (view (now page)) × (k < view (now page) .slotCount) ⌝ }
-    ensures { λ r. ⌜ (now (page .exit) ≡ pageMoved (homeOf (view (now (page .entry))) k size) (now (page .entry)))
-        × (r ≡ wasMoved (homeOf (view (now (page .entry))) k size)) ⌝ }
+    ensures { λ r. ⌜ (now (page .exit) ≡ pageBare (allocOf k (homeOf (view (now (page .entry))) k size)) (now (page .entry)))
+        × (r ≡ placeOf (allocOf k (homeOf (view (now (page .entry))) k size))) × Inside r size ⌝ }
 {
     let room = layout::header::get_free_space(page);
     if room < size {
-        return false;
+        return Place::NoRoom;
     }
-    let d = put_under(
-        page,
-        k,
-        Slot::Ordinary {
-            offset: 0,
-            length: 0,
-        },
-        size,
-    );
-    layout::zero_fill(page, d, size);
-    true
+    let home = Slot::Ordinary {
+        offset: 0,
+        length: 0,
+    };
+    let d = put_under(page, k, home, size);
+    Place::At { slot: k, offset: d }
+}
+
+// Relocate but for the record's bytes; the record's place.
+pub fn move_slot(page: &mut [u8], k: usize, size: usize) -> Place
+    requires { ⌜ (length (now page) ≡ 16384) × Sound (view (now page)) × (k < view (now page) .slotCount) ⌝ }
+    ensures { λ r. ⌜ (now (page .exit) ≡ pageBare (allocOf k (relocate (view (now (page .entry))) k size)) (now (page .entry)))
+        × (r ≡ placeOf (allocOf k (relocate (view (now (page .entry))) k size))) × Inside r size ⌝ }
+{
+    let s = layout::slots::get_slot(page, k);
+    if layout::slots::is_free(s) {
+        return Place::NoRoom;
+    }
+    if is_record(s) {
+        return resize_slot(page, k, s, size);
+    }
+    home_slot(page, k, size)
+}
+
+// The n bytes at o, to the front of `to`.
+fn save(page: &[u8], o: usize, n: usize, to: &mut [u8])
+    requires { ⌜ (o + n ≤ length (now page)) × (n ≤ length (now to)) ⌝ }
+    ensures { λ _. ⌜ now (to .exit) ≡ put (now (to .entry)) 0 (cut (now (page .entry)) o n) ⌝ }
+{
+    let e = o + n;
+    layout::copy_in(to, 0, &page[o..e]);
+}
+
+// Relocate to a larger size, where the page is compactified: "the growing record's old bytes are saved by value".
+fn grow_packed(page: &mut [u8], k: usize, s: Slot, size: usize) -> bool
+    requires { ⌜ (length (now page) ≡ 16384) × Sound (view (now page)) × (k < view (now page) .slotCount) × (s ≡ view (now page) .at k) ⌝ }
+    ensures { λ r. ⌜ (now (page .exit) ≡ pageMoved (relocate (view (now (page .entry))) k size) (now (page .entry)))
+        × (r ≡ wasMoved (relocate (view (now (page .entry))) k size)) ⌝ }
+{
+    let n = layout::slots::len_of(s);
+    let mut saved = [0u8; 16384];
+    save(page, layout::slots::off_of(s), n, &mut saved);
+    let place = move_slot(page, k, size);
+    match place {
+        Place::At { slot: _, offset } => {
+            layout::fit_in(page, offset, &saved[..n], size);
+            true
+        }
+        Place::NoRoom => false,
+    }
+}
+
+// Relocate to a larger size, where the gap holds it: the old bytes stand where they stood.
+fn grow(page: &mut [u8], k: usize, s: Slot, size: usize) -> bool
+    requires { ⌜ (length (now page) ≡ 16384) × Sound (view (now page)) × (k < view (now page) .slotCount) × (s ≡ view (now page) .at k)
+        × (len s ≤ size) × (size ≤ gap (view (now page))) ⌝ }
+    ensures { λ r. ⌜ (now (page .exit) ≡ pageMoved (relocate (view (now (page .entry))) k size) (now (page .entry)))
+        × (r ≡ wasMoved (relocate (view (now (page .entry))) k size)) ⌝ }
+{
+    let n = layout::slots::len_of(s);
+    let place = move_slot(page, k, size);
+    match place {
+        Place::At { slot: _, offset } => {
+            layout::move_within(page, layout::slots::off_of(s), n, offset);
+            layout::zero_fill(page, offset + n, size - n);
+            true
+        }
+        Place::NoRoom => false,
+    }
+}
+
+// Relocate to a size that is not larger: the old bytes stay where they stand.
+fn settle(page: &mut [u8], k: usize, size: usize) -> bool
+    requires { ⌜ (length (now page) ≡ 16384) × Sound (view (now page)) × (k < view (now page) .slotCount) × (size ≤ len (view (now page) .at k)) ⌝ }
+    ensures { λ r. ⌜ (now (page .exit) ≡ pageMoved (relocate (view (now (page .entry))) k size) (now (page .entry)))
+        × (r ≡ wasMoved (relocate (view (now (page .entry))) k size)) ⌝ }
+{
+    let place = move_slot(page, k, size);
+    match place {
+        Place::At { slot: _, offset: _ } => true,
+        Place::NoRoom => false,
+    }
 }
 
 pub fn relocate(page: &mut [u8], k: usize, size: usize) -> bool
@@ -192,11 +232,13 @@ pub fn relocate(page: &mut [u8], k: usize, size: usize) -> bool
         × (r ≡ wasMoved (relocate (view (now (page .entry))) k size)) ⌝ }
 {
     let s = layout::slots::get_slot(page, k);
-    if layout::slots::is_free(s) {
-        return false;
+    if size <= layout::slots::len_of(s) {
+        return settle(page, k, size);
     }
-    if is_record(s) {
-        return resize(page, k, s, size);
+    let c = layout::header::get_slot_count(page);
+    let d = layout::header::get_data_start(page);
+    if d - (12 + 8 * c) < size {
+        return grow_packed(page, k, s, size);
     }
-    come_home(page, k, size)
+    grow(page, k, s, size)
 }

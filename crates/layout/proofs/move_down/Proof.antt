@@ -2,7 +2,6 @@
 use mathlib.Core.Path.{_≡_, refl, sym}
 use Prim.Native.Nat.{_≤_, _-_}
 use native.Mathlib.Omega.{arith}
-use native.Mathlib.Nat.{le-of-eq}
 use lib.ListN.{length, take, length-set}
 use lib.Seq.{take-all}
 use Rattle.layout.proofs.Writes.{write, part, write-none, move-down-more, length-part}

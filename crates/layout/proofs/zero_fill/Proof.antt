@@ -1,9 +1,9 @@
 -- `layout::zero_fill` meets its contract: after j turns j bytes are zero. Assumes nothing.
-use mathlib.Core.Path.{_≡_, refl, sym, ap, _∙_}
+use mathlib.Core.Path.{_≡_, refl, sym}
 use Prim.Native.Nat.{_≤_, _-_}
 use native.Mathlib.Omega.{arith}
-use lib.ListN.{length, set, length-set}
-use Rattle.layout.proofs.Writes.{cleared, write-none, length-write, cleared-more}
+use lib.ListN.{length, length-set}
+use Rattle.layout.proofs.Writes.{cleared, write-none, cleared-more}
 use Rattle.layout.proofs.zero_fill.Statement.{statement}
 use Rattle.layout.proofs.zero_fill.Tie as tie
 use Rattle.layout.proofs.zero_fill.Reads as reads

@@ -1,6 +1,6 @@
 -- `layout::slots::slot_word` meets its contract. Assumes nothing.
 use native.Mathlib.Omega.{arith}
-use mathlib.Core.Path.{subst, ap, _∙_}
+use mathlib.Core.Path.{subst, ap}
 use Rattle.store.specs.Slots.{slotWord}
 use Rattle.store.specs.Laws.Slots.{Codable}
 use borrow.Author.Needs.{needs}

@@ -8,7 +8,7 @@ use Rattle.slotted_page.proofs.relocate.put_under.Statement.{statement}
 use Rattle.slotted_page.proofs.relocate.put_under.Tie as tie
 use Rattle.slotted_page.proofs.relocate.put_under.Reads as reads
 use Rattle.slotted_page.proofs.relocate.put_under.Lts as lts
-use Rattle.slotted_page.proofs.alloc.make_room.Reads as make-room-reads
+use Rattle.compactify.proofs.room.make_room.Reads as make-room-reads
 use Rattle.layout.proofs.header.get_slot_count.Reads as get-slot-count-reads
 use Rattle.layout.proofs.header.get_first_free_slot.Reads as get-first-free-slot-reads
 use Rattle.layout.proofs.header.get_free_space.Reads as get-free-space-reads
