@@ -1,0 +1,195 @@
+// Replays a trace (oracle/README.md) from standard input on the store: makes its calls and compares answer, numbers and digests after
+// each. Prints how much was replayed, or the first line that differs and what came instead.
+mod calls;
+mod line;
+mod made;
+mod report;
+
+use crate::calls::Reply;
+use crate::line::Line;
+
+// Where the replay stands: the line, what was replayed up to it, the bytes lent to the calls, and whether all was as it should be.
+pub struct State {
+    pub line: u64,
+    pub sequences: u64,
+    pub calls: u64,
+    pub segment: usize,
+    pub inventory: usize,
+    pub going: bool,
+}
+
+fn least(a: usize, b: usize) -> usize {
+    if a < b { a } else { b }
+}
+
+fn stopped(s: State) -> State {
+    let mut next = s;
+    next.going = false;
+    next
+}
+
+// "begins a sequence: so many bytes of segment and inventory, all zero"
+fn begin(s: State, segment: &mut [u8], inventory: &mut [u8], line: Line) -> State {
+    let a = line.numbers[0] as usize;
+    let b = line.numbers[1] as usize;
+    if segment.len() < a || inventory.len() < b {
+        report::too_large(s);
+        return stopped(s);
+    }
+    made::zeros(&mut segment[..a]);
+    made::zeros(&mut inventory[..b]);
+    let mut next = s;
+    next.sequences = std::num::wrapping_add_u64(s.sequences, 1);
+    next.segment = a;
+    next.inventory = b;
+    next
+}
+
+// Whether the bytes from `offset` on, so many, lie within the n that are lent.
+fn lies_within(offset: u64, length: u64, n: usize) -> bool {
+    offset <= n as u64 && length <= n as u64 - offset
+}
+
+// Bytes set between calls. Those that are not lent stay as they are, so that the next digest differs.
+fn poke(segment: &mut [u8], inventory: &mut [u8], line: Line) {
+    let letter = line.letter;
+    let offset = line.numbers[0];
+    let length = line.numbers[1];
+    let value = line.numbers[2];
+    if letter == b'V' {
+        if lies_within(offset, length, inventory.len()) {
+            let a = offset as usize;
+            let e = a + length as usize;
+            made::little_endian(&mut inventory[a..e], value);
+        }
+        return;
+    }
+    if !lies_within(offset, length, segment.len()) {
+        return;
+    }
+    let a = offset as usize;
+    let e = a + length as usize;
+    if letter == b'B' {
+        made::big_endian(&mut segment[a..e], value);
+    } else {
+        made::record(&mut segment[a..e], value);
+    }
+}
+
+// The five numbers of a result, which stand after the arguments.
+fn is_wanted(line: Line, at: usize, r: Reply, segment: u64, inventory: u64) -> bool {
+    let w = line.numbers;
+    if 3 < at {
+        return false;
+    }
+    w[at] == r.answer
+        && w[at + 1] == r.first
+        && w[at + 2] == r.second
+        && w[at + 3] == segment
+        && w[at + 4] == inventory
+}
+
+fn call(s: State, text: &[u8], segment: &mut [u8], inventory: &mut [u8], line: Line) -> State {
+    let at = line::arguments_of(line.letter);
+    if line.count != at + 5 {
+        report::not_understood(s, text);
+        return stopped(s);
+    }
+    let r = calls::perform(segment, inventory, line);
+    let a = made::digest(segment);
+    let b = made::digest(inventory);
+    if !is_wanted(line, at, r, a, b) {
+        report::difference(s, text, r, a, b);
+        return stopped(s);
+    }
+    let mut next = s;
+    next.calls = std::num::wrapping_add_u64(s.calls, 1);
+    next
+}
+
+fn replay_line(before: State, text: &[u8], segment: &mut [u8], inventory: &mut [u8]) -> State {
+    if !before.going {
+        return before;
+    }
+    let mut s = before;
+    s.line = std::num::wrapping_add_u64(before.line, 1);
+    let line = line::parse(text);
+    let letter = line.letter;
+    let count = line.count;
+    if letter == b'S' && count == 2 {
+        return begin(s, segment, inventory, line);
+    }
+    let a = least(s.segment, segment.len());
+    let b = least(s.inventory, inventory.len());
+    if (letter == b'B' || letter == b'V' || letter == b'G') && count == 3 {
+        poke(&mut segment[..a], &mut inventory[..b], line);
+        return s;
+    }
+    call(s, text, &mut segment[..a], &mut inventory[..b], line)
+}
+
+fn replay_lines(before: State, text: &[u8], segment: &mut [u8], inventory: &mut [u8]) -> State {
+    let mut s = before;
+    let mut at: usize = 0;
+    while at < text.len() {
+        let e = line::line_end(text, at);
+        s = replay_line(s, &text[at..e], segment, inventory);
+        if e == text.len() {
+            return s;
+        }
+        at = e + 1;
+    }
+    s
+}
+
+// Reads on after what is kept; answers how many bytes of the text there are now.
+fn read_on(text: &mut [u8], kept: usize) -> usize {
+    if text.len() < kept {
+        return 0;
+    }
+    let got = io::read_full(0, &mut text[kept..]);
+    kept + got
+}
+
+// Brings the bytes from `from` to `to` to the start; answers how many they are.
+fn keep(text: &mut [u8], from: usize, to: usize) -> usize {
+    let mut n: usize = 0;
+    while from + n < to {
+        text[n] = text[from + n];
+        n = n + 1;
+    }
+    n
+}
+
+// A buffer at a time. What stands after its last whole line is kept for the next.
+fn replay(text: &mut [u8], segment: &mut [u8], inventory: &mut [u8]) -> State {
+    let mut s = State {
+        line: 0,
+        sequences: 0,
+        calls: 0,
+        segment: 0,
+        inventory: 0,
+        going: true,
+    };
+    let mut kept: usize = 0;
+    let mut turns: u64 = 18446744073709551615;
+    while 0 < turns {
+        turns = turns - 1;
+        let n = read_on(text, kept);
+        if n == kept {
+            return replay_lines(s, &text[..n], segment, inventory);
+        }
+        let e = line::whole_lines(&text[..n]);
+        s = replay_lines(s, &text[..e], segment, inventory);
+        kept = keep(text, e, n);
+    }
+    s
+}
+
+fn main() {
+    let mut text = io::large_buffer();
+    let mut segment = [0u8; 229376];
+    let mut inventory = [0u8; 16640];
+    let s = replay(&mut text, &mut segment, &mut inventory);
+    report::end(s);
+}
