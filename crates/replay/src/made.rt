@@ -10,14 +10,6 @@ pub fn record(bytes: &mut [u8], seed: u64) {
     }
 }
 
-pub fn zeros(bytes: &mut [u8]) {
-    let mut k: usize = 0;
-    while k < bytes.len() {
-        bytes[k] = 0;
-        k = k + 1;
-    }
-}
-
 // A big-endian number over all of the bytes.
 pub fn big_endian(bytes: &mut [u8], value: u64) {
     let mut left = value;

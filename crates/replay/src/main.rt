@@ -36,8 +36,8 @@ fn begin(s: State, segment: &mut [u8], inventory: &mut [u8], line: Line) -> Stat
         report::too_large(s);
         return stopped(s);
     }
-    made::zeros(&mut segment[..a]);
-    made::zeros(&mut inventory[..b]);
+    layout::zero_fill(segment, 0, a);
+    layout::zero_fill(inventory, 0, b);
     let mut next = s;
     next.sequences = std::num::wrapping_add_u64(s.sequences, 1);
     next.segment = a;
@@ -151,16 +151,6 @@ fn read_on(text: &mut [u8], kept: usize) -> usize {
     kept + got
 }
 
-// Brings the bytes from `from` to `to` to the start; answers how many they are.
-fn keep(text: &mut [u8], from: usize, to: usize) -> usize {
-    let mut n: usize = 0;
-    while from + n < to {
-        text[n] = text[from + n];
-        n = n + 1;
-    }
-    n
-}
-
 // A buffer at a time. What stands after its last whole line is kept for the next.
 fn replay(text: &mut [u8], segment: &mut [u8], inventory: &mut [u8]) -> State {
     let mut s = State {
@@ -181,7 +171,8 @@ fn replay(text: &mut [u8], segment: &mut [u8], inventory: &mut [u8]) -> State {
         }
         let e = line::whole_lines(&text[..n]);
         s = replay_lines(s, &text[..e], segment, inventory);
-        kept = keep(text, e, n);
+        kept = n - e;
+        layout::move_down(text, e, kept, 0);
     }
     s
 }
