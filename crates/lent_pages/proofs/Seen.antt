@@ -10,6 +10,7 @@ use Rattle.store.specs.Numbers.{cut}
 use Rattle.store.specs.Slots.{off, len, isTarget}
 use Rattle.store.specs.Page.{view, sound}
 use Rattle.store.specs.Segment.{segView, pageOf}
+use Rattle.store.specs.Laws.Views.{Sound}
 use Rattle.store.specs.Laws.Segments.{length-page}
 use Rattle.store.specs.Laws.Calls.{shows-opened, sound-seen}
 use Rattle.store.specs.Laws.SoundSegment.{open-sound, seen-page}
@@ -42,12 +43,14 @@ module _ (s : List ℕ) (p : ℕ) where
     unfolding segView view
     seen-at = shows-opened (pageOf s p) (length-page s p fits) .at
 
-    -- what the test of the page says of a slot
-    module _ (ok : sound (segView s .page p) ≡ true) (k : ℕ) (x : Slot) (e : segView s .page p .at k ≡ x) where
-      pub slot-high : off x + len x ≤ 16384
+    -- what the test of the page says, of the page and of a slot
+    module _ (ok : sound (segView s .page p) ≡ true) where
+      pub page-right : Sound (segView s .page p)
       unfolding segView
-      slot-high = subst (λ (y : Slot). off y + len y ≤ 16384) e (sound-seen (pageOf s p) (length-page s p fits) ok .high k)
+      page-right = sound-seen (pageOf s p) (length-page s p fits) ok
 
-      pub target-long : isTarget x ≡ true → 8 ≤ len x
-      unfolding segView
-      target-long = subst (λ (y : Slot). isTarget y ≡ true → 8 ≤ len y) e (sound-seen (pageOf s p) (length-page s p fits) ok .targets k)
+      pub slot-high : (k : ℕ) (x : Slot) → segView s .page p .at k ≡ x → off x + len x ≤ 16384
+      slot-high k x e = subst (λ (y : Slot). off y + len y ≤ 16384) e (page-right .high k)
+
+      pub target-long : (k : ℕ) (x : Slot) → segView s .page p .at k ≡ x → isTarget x ≡ true → 8 ≤ len x
+      target-long k x e = subst (λ (y : Slot). isTarget y ≡ true → 8 ≤ len y) e (page-right .targets k)

@@ -1,0 +1,72 @@
+-- `segment_read::get_record` meets its contract. Assumes nothing.
+use Prim.Native.Nat.{_+_, _≤_}
+use native.Mathlib.Omega.{arith}
+use lib.ListN.{length}
+use denote.Ref.{now}
+use Rattle.segment_read.proofs.Locate.{read-part, read-nothing, read-inside}
+use borrow.Author.Needs.{needs}
+use Rattle.segment_read.proofs.get_record.Statement.{statement}
+use Rattle.segment_read.proofs.get_record.Tie as tie
+use Rattle.segment_read.proofs.get_record.Reads as reads
+use Rattle.segment_read.proofs.get_record.Lts as lts
+use Rattle.segment_read.proofs.find_record.Reads as find-record-reads
+use Rattle.segment_read.proofs.reading_no.Reads as reading-no-reads
+
+inside : (c : tie.After-known-told)
+    → let x = c .before .found .given .0 in
+    x .0 + x .1 .0 ≤ length (now (c .before .before .before .before .before .before .args .segment))
+inside c =
+    let m = c .before .before .before in
+    let a = m .before .before .before .args in
+    read-inside (now (a .segment)) (a .id) (m .before .find-record .result) (m .before .find-record .ensures) _ (m .reading-no .ensures) _ _ (c .before .found .given .1)
+
+find-record-requires : tie.Need-find-record-requires
+find-record-requires c κs = search needs
+
+reading-no-requires : tie.Need-reading-no-requires
+reading-no-requires c κs = search needs
+
+enum-known-found : tie.Need-enum-known-found
+enum-known-found c = search needs
+
+slice-aggregate-result : tie.Need-slice-aggregate-result
+slice-aggregate-result c = search needs
+
+returns : tie.Need-returns
+returns c =
+    let m = c .before .before in
+    let a = m .before .before .before .args in
+    read-nothing (now (a .segment)) (a .id) (m .before .find-record .result) (m .before .find-record .ensures) _ (m .reading-no .ensures) (c .before .match .keys2)
+
+add-result : tie.Need-add-result
+add-result c = omega (arith, inside c)
+
+sub-result : tie.Need-sub-result
+sub-result c = search needs
+
+part-result-start : tie.Need-part-result-start
+part-result-start c = search needs
+
+part-result-end : tie.Need-part-result-end
+part-result-end c = inside c
+
+returns-2 : tie.Need-returns-2
+returns-2 c =
+    let m = c .before .before .before .before in
+    let a = m .before .before .before .args in
+    read-part (now (a .segment)) (a .id) (m .before .find-record .result) (m .before .find-record .ensures) _ (m .reading-no .ensures) _ _ (c .before .before .found .given .1)
+
+pub get-record-spec : {M : Type 1} → statement M
+get-record-spec =
+    tie.close
+    (tie.spec
+    find-record-requires
+    reading-no-requires
+    enum-known-found
+    slice-aggregate-result
+    returns
+    add-result
+    sub-result
+    part-result-start
+    part-result-end
+    returns-2)

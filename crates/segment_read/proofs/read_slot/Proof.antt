@@ -1,0 +1,81 @@
+-- `segment_read::read_slot` meets its contract. Assumes nothing.
+use Prim.Native.Nat.{_<_, _^_}
+use mathlib.Core.Path.{refl, sym, _∙_}
+use native.Mathlib.Omega.{arith}
+use denote.Ref.{now}
+use Rattle.store.specs.Numbers.{pageNo, slotNo}
+use Rattle.lent_pages.proofs.Seen.{slot-high, target-long}
+use Rattle.segment_read.specs.Parts.{locateBy}
+use borrow.Author.Needs.{needs}
+use Rattle.segment_read.proofs.read_slot.Statement.{statement}
+use Rattle.segment_read.proofs.read_slot.Tie as tie
+use Rattle.segment_read.proofs.read_slot.Reads as reads
+use Rattle.segment_read.proofs.read_slot.Lts as lts
+use Rattle.segment_read.proofs.follow.Reads as follow-reads
+use Rattle.segment_read.proofs.target_part.Reads as target-part-reads
+
+enum-known-s : tie.Need-enum-known-s
+enum-known-s c = search needs
+
+mul-t11 : tie.Need-mul-t11
+mul-t11 c = search needs
+
+add-t12 : tie.Need-add-t12
+add-t12 c =
+    let a = c .before .before .before .before in
+    let h = slot-high (now (a .args .segment)) (pageNo (a .args .i)) (a .pre .0) (a .pre .1) (slotNo (a .args .i)) _ (sym (a .pre .2) ∙ c .before .s .given .1) in
+    omega arith
+
+enum-told : tie.Need-enum-told
+enum-told c = search needs
+
+enum-known-s-2 : tie.Need-enum-known-s-2
+enum-known-s-2 c = search needs
+
+follow-requires : tie.Need-follow-requires
+follow-requires c κs = search needs
+
+enum-known-s-3 : tie.Need-enum-known-s-3
+enum-known-s-3 c = search needs
+
+target-part-requires : tie.Need-target-part-requires
+target-part-requires c κs =
+    let a = c .before .before .before .before in
+    let e = sym (a .pre .2) ∙ c .before .s3 .given .1 in
+    let h = slot-high (now (a .args .segment)) (pageNo (a .args .i)) (a .pre .0) (a .pre .1) (slotNo (a .args .i)) _ e in
+    let g = target-long (now (a .args .segment)) (pageNo (a .args .i)) (a .pre .0) (a .pre .1) (slotNo (a .args .i)) _ e refl in
+    let b : pageNo (a .args .i) < 2 ^ 48 = omega (arith, a .fits .i .fits) in
+    (b, g, h)
+
+returns : tie.Need-returns
+unfolding locateBy
+returns c = rw (c .before .s .given .1)
+
+returns-2 : tie.Need-returns-2
+unfolding locateBy
+returns-2 c = rw (c .enum-told .given .1)
+
+returns-3 : tie.Need-returns-3
+unfolding locateBy
+returns-3 c = rw (c .before .before .s2 .given .1) (c .follow .ensures)
+
+returns-4 : tie.Need-returns-4
+unfolding locateBy
+returns-4 c = rw (c .before .before .s3 .given .1) (c .target-part .ensures)
+
+pub read-slot-spec : {M : Type 1} → statement M
+read-slot-spec =
+    tie.close
+    (tie.spec
+    enum-known-s
+    mul-t11
+    add-t12
+    enum-told
+    enum-known-s-2
+    follow-requires
+    enum-known-s-3
+    target-part-requires
+    returns
+    returns-2
+    returns-3
+    returns-4)

@@ -1,0 +1,37 @@
+-- `segment_scan::held::step_from` meets its contract. Assumes nothing.
+use mathlib.Core.Path.{ap, _∙_}
+use denote.Ref.{now}
+use Rattle.store.specs.Scan.{Scanned}
+use Rattle.segment_scan.proofs.Places.{page-of, slot-of}
+use borrow.Author.Needs.{needs}
+use Rattle.segment_scan.proofs.held.step_from.Statement.{statement}
+use Rattle.segment_scan.proofs.held.step_from.Tie as tie
+use Rattle.segment_scan.proofs.held.step_from.Reads as reads
+use Rattle.segment_scan.proofs.held.step_from.Lts as lts
+use Rattle.segment_scan.proofs.held.page_after.Reads as page-after-reads
+use Rattle.segment_scan.proofs.held.slot_after.Reads as slot-after-reads
+use Rattle.segment_scan.proofs.scan_step.Reads as scan-step-reads
+
+scan-step-requires : tie.Need-scan-step-requires
+scan-step-requires c κs = search needs
+
+page-after-requires : tie.Need-page-after-requires
+page-after-requires c κs = search needs
+
+slot-after-requires : tie.Need-slot-after-requires
+slot-after-requires c κs = search needs
+
+returns : tie.Need-returns
+returns c =
+    let m = c .before .before in
+    let s = now (m .before .before .args .segment) in
+    let e = m .scan-step .ensures in
+    record {
+      step = e;
+      page = c .before .page-after .ensures ∙ page-of s (m .scan-step .result) ∙ ap (λ (d : Scanned). d .page) e;
+      slot = c .slot-after .ensures ∙ slot-of s (m .scan-step .result) ∙ ap (λ (d : Scanned). d .slot) e;
+    }
+
+pub step-from-spec : {M : Type 1} → statement M
+step-from-spec =
+    tie.close (tie.spec scan-step-requires page-after-requires slot-after-requires returns)

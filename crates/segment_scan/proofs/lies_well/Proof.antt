@@ -1,0 +1,61 @@
+-- `segment_scan::lies_well` meets its contract. Assumes nothing.
+use mathlib.Core.Path.{_≡_, sym, _∙_}
+use mathlib.Core.Bool.{true, false}
+use native.Mathlib.Omega.{arith}
+use borrow.Author.Tests.{not-true, not-false}
+use Rattle.segment_scan.proofs.Records.{codable-place, well-no, well-plain, well-target}
+use borrow.Author.Needs.{needs}
+use Rattle.segment_scan.proofs.lies_well.Statement.{statement}
+use Rattle.segment_scan.proofs.lies_well.Tie as tie
+use Rattle.segment_scan.proofs.lies_well.Reads as reads
+use Rattle.segment_scan.proofs.lies_well.Lts as lts
+use Rattle.layout.proofs.slots.len_of.Reads as len-of-reads
+use Rattle.layout.proofs.slots.off_of.Reads as off-of-reads
+use Rattle.segment_scan.proofs.is_target.Reads as is-target-reads
+use Rattle.segment_scan.proofs.lies_at.Reads as lies-at-reads
+
+off-of-requires : tie.Need-off-of-requires
+off-of-requires c κs = search needs
+
+len-of-requires : tie.Need-len-of-requires
+len-of-requires c κs = search needs
+
+lies-at-requires : tie.Need-lies-at-requires
+lies-at-requires c κs =
+    let a = c .before .before in
+    omega (arith, codable-place (a .args .s) (a .pre))
+
+returns : tie.Need-returns
+returns c =
+    let m = c .before in
+    let e : m .lies-at .result ≡ false = not-true _ (c .if1 .taken) in
+    well-no _ _ _ _ (m .before .before .off-of .ensures) (m .before .len-of .ensures) _ (m .lies-at .ensures) e
+
+is-target-requires : tie.Need-is-target-requires
+is-target-requires c κs = search needs
+
+returns-2 : tie.Need-returns-2
+returns-2 c =
+    let m = c .before .before .before in
+    let e : m .lies-at .result ≡ true = not-false _ (c .before .before .if1 .left) in
+    let t : c .before .is-target .result ≡ false = not-true _ (c .if2 .taken) in
+    well-plain _ _ _ _ (m .before .before .off-of .ensures) (m .before .len-of .ensures) _ (m .lies-at .ensures) e (sym (c .before .is-target .ensures) ∙ t)
+
+returns-3 : tie.Need-returns-3
+returns-3 c =
+    let m = c .before .before .before in
+    let e : m .lies-at .result ≡ true = not-false _ (c .before .before .if1 .left) in
+    let t : c .before .is-target .result ≡ true = not-false _ (c .if2 .left) in
+    well-target _ _ _ _ (m .before .before .off-of .ensures) (m .before .len-of .ensures) _ (m .lies-at .ensures) e (sym (c .before .is-target .ensures) ∙ t)
+
+pub lies-well-spec : {M : Type 1} → statement M
+lies-well-spec =
+    tie.close
+    (tie.spec
+    off-of-requires
+    len-of-requires
+    lies-at-requires
+    returns
+    is-target-requires
+    returns-2
+    returns-3)

@@ -1,0 +1,72 @@
+-- `segment_scan::next_record` meets its contract. Assumes nothing.
+use Prim.Native.Nat.{_-_}
+use mathlib.Core.Path.{_≡_, refl, sym, ap, _∙_}
+use denote.Ref.{now}
+use borrow.Author.Needs.{needs}
+use Rattle.store.specs.Slots.{isRecord}
+use Rattle.store.specs.Segment.{segView}
+use Rattle.store.specs.Scan.{nextRecord}
+use Rattle.segment_scan.proofs.Places.{next-here, next-turn, next-done}
+use Rattle.segment_scan.proofs.next_record.Statement.{statement}
+use Rattle.segment_scan.proofs.next_record.Tie as tie
+use Rattle.segment_scan.proofs.next_record.Reads as reads
+use Rattle.segment_scan.proofs.next_record.Lts as lts
+use Rattle.lent_pages.proofs.slot_on.Reads as slot-on-reads
+use Rattle.segment_scan.proofs.is_record.Reads as is-record-reads
+
+abbrev Inv-loop : tie.InvT-loop
+Inv-loop segment p k n j₀ j = nextRecord (n - j) (segView segment .page p) j ≡ nextRecord (n - k) (segView segment .page p) k
+
+abbrev μ-loop : tie.MeasureT-loop
+μ-loop segment p k n j₀ j = n - j
+
+loop-holds : tie.Need-loop-holds Inv-loop μ-loop
+loop-holds c = refl
+
+slot-on-requires : tie.Need-slot-on-requires Inv-loop μ-loop
+slot-on-requires c κs = search needs
+
+is-record-requires : tie.Need-is-record-requires Inv-loop μ-loop
+is-record-requires c κs = search needs
+
+returns : tie.Need-returns Inv-loop μ-loop
+returns c =
+    let l = c .before .before .before .before in
+    let a = l .before .before .args in
+    let v = segView (now (a .segment)) .page (a .p) in
+    let r = sym (c .before .is-record .ensures ∙ ap isRecord (c .before .before .slot-on .ensures .0)) ∙ c .if1 .taken in
+    next-here v (a .n) (l .loop .j) (c .before .before .before .loop-test .taken) r ∙ l .loop .inv
+
+add-j : tie.Need-add-j Inv-loop μ-loop
+add-j c = search needs
+
+loop-less : tie.Need-loop-less Inv-loop μ-loop
+loop-less c = search needs
+
+loop-again : tie.Need-loop-again Inv-loop μ-loop
+loop-again c =
+    let l = c .before .before .before .before in
+    let a = l .before .before .args in
+    let v = segView (now (a .segment)) .page (a .p) in
+    let r = sym (c .before .is-record .ensures ∙ ap isRecord (c .before .before .slot-on .ensures .0)) ∙ c .if1 .left in
+    next-turn v (a .n) (l .loop .j) (c .before .before .before .loop-test .taken) r ∙ l .loop .inv
+
+returns-2 : tie.Need-returns-2 Inv-loop μ-loop
+returns-2 c =
+    let a = c .before .before .before .args in
+    next-done (segView (now (a .segment)) .page (a .p)) (a .n) (c .before .loop .j) (c .loop-test .left) ∙ c .before .loop .inv
+
+pub next-record-spec : {M : Type 1} → statement M
+next-record-spec =
+    tie.close
+    (tie.spec
+    Inv-loop
+    μ-loop
+    loop-holds
+    slot-on-requires
+    is-record-requires
+    returns
+    add-j
+    loop-less
+    loop-again
+    returns-2)

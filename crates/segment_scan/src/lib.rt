@@ -1,0 +1,217 @@
+// One step of a scan: "The scan goes by page and slot, checks each page on reaching it, skips free slots and redirects, and gives a
+// target its root's id; past the end each step answers 0 without a record."
+pub mod held;
+
+use store::Slot;
+use store::Step;
+ghost use mathlib.Core.Path.{_≡_};
+ghost use mathlib.Core.Bool.{true, not, _&&_};
+ghost use Prim.Native.Nat.{_+_, _-_, _*_, _/_, _^_, _≤_, _<_};
+ghost use lib.ListN.{length};
+ghost use lib.Dec.{eqb};
+ghost use Rattle.store.specs.Slots.{isRecord, isTarget};
+ghost use Rattle.store.specs.Page.{sound, liesWell};
+ghost use Rattle.store.specs.Laws.Slots.{Codable};
+ghost use Rattle.store.specs.Segment.{segView};
+ghost use Rattle.store.specs.Scan.{Scanned, recordAt, nextRecord, scanPlan, scanStep};
+ghost use Rattle.store.specs.Answers.{scannedOf};
+ghost use Rattle.segment_scan.specs.Pages.{liesAt, wellAt, isEnd, recordOr, onPage, orLater};
+
+fn is_target(s: Slot) -> bool
+    ensures { λ r. ⌜ r ≡ isTarget s ⌝ }
+{
+    match s {
+        Slot::Ordinary {
+            offset: _,
+            length: _,
+        } => false,
+        Slot::Free => false,
+        Slot::Redirect { id: _ } => false,
+        Slot::Target {
+            offset: _,
+            length: _,
+        } => true,
+    }
+}
+
+fn is_record(s: Slot) -> bool
+    ensures { λ r. ⌜ r ≡ isRecord s ⌝ }
+{
+    match s {
+        Slot::Ordinary {
+            offset: _,
+            length: _,
+        } => true,
+        Slot::Free => false,
+        Slot::Redirect { id: _ } => false,
+        Slot::Target {
+            offset: _,
+            length: _,
+        } => true,
+    }
+}
+
+// l bytes from o on lie between data start d and the page's end; of no bytes, o is at most the page's end.
+fn lies_at(d: usize, o: usize, l: usize) -> bool
+    requires { ⌜ o + l < 2 ^ 33 ⌝ }
+    ensures { λ r. ⌜ r ≡ liesAt d o l ⌝ }
+{
+    if l == 0 {
+        return o <= 16384;
+    }
+    if o < d {
+        return false;
+    }
+    o + l <= 16384
+}
+
+// Whether a slot's record lies as on a sound page with data start d.
+fn lies_well(d: usize, s: Slot) -> bool
+    requires { ⌜ Codable s ⌝ }
+    ensures { λ r. ⌜ r ≡ wellAt d s ⌝ }
+{
+    let o = layout::slots::off_of(s);
+    let l = layout::slots::len_of(s);
+    if !lies_at(d, o, l) {
+        return false;
+    }
+    if !is_target(s) {
+        return true;
+    }
+    8 <= l
+}
+
+// The record of slot k, which lies in its page: with its root's id if it is a target.
+fn record_at(segment: &[u8], p: usize, k: usize, s: Slot) -> Step
+    requires { ⌜ (p * 16384 + 16384 ≤ length (now segment)) × (p ≤ 32527) × (k < 65536) ⌝ }
+    requires { ⌜ (s ≡ segView (now segment) .page p .at k) × (isRecord s ≡ true) × (liesWell (segView (now segment) .page p) k ≡ true) ⌝ }
+    ensures { λ r. ⌜ scannedOf r (now (segment .entry)) ≡ recordAt (segView (now (segment .entry)) .page p) p k ⌝ }
+{
+    let o = layout::slots::off_of(s);
+    let l = layout::slots::len_of(s);
+    let own = p * 65536 + k;
+    if is_target(s) {
+        let root = lent_pages::back_id_on(segment, p, o);
+        return Step::Record {
+            id: root,
+            offset: p * 16384 + (o + 8),
+            length: l - 8,
+            page: p,
+            slot: k + 1,
+        };
+    }
+    Step::Record {
+        id: own,
+        offset: p * 16384 + o,
+        length: l,
+        page: p,
+        slot: k + 1,
+    }
+}
+
+// The same where it may leave its page: only on a page that no scan has checked, at a place that no scan has made.
+fn record_or_damage(segment: &[u8], p: usize, k: usize) -> Step
+    requires { ⌜ (p * 16384 + 16384 ≤ length (now segment)) × (p ≤ 32527) × (k < 65536) ⌝ }
+    requires { ⌜ isRecord (segView (now segment) .page p .at k) ≡ true ⌝ }
+    ensures { λ r. ⌜ scannedOf r (now (segment .entry)) ≡ recordOr (segView (now (segment .entry)) .page p) p k ⌝ }
+{
+    let s = lent_pages::slot_on(segment, p, k);
+    if !lies_well(lent_pages::data_start_on(segment, p), s) {
+        return Step::Damaged;
+    }
+    record_at(segment, p, k, s)
+}
+
+// The first slot from k on that holds a record, of the page's n; where there is none, n or k, whichever is greater.
+fn next_record(segment: &[u8], p: usize, k: usize, n: usize) -> usize
+    requires { ⌜ (p * 16384 + 16384 ≤ length (now segment)) × (n ≤ 65536) ⌝ }
+    ensures { λ r. ⌜ r ≡ nextRecord (n - k) (segView (now (segment .entry)) .page p) k ⌝ }
+{
+    let mut j = k;
+    while j < n {
+        if is_record(lent_pages::slot_on(segment, p, j)) {
+            return j;
+        }
+        j += 1;
+    }
+    j
+}
+
+// "checks each page on reaching it", at slot 0.
+fn damaged_on_reaching(segment: &[u8], p: usize, k: usize) -> bool
+    requires { ⌜ p * 16384 + 16384 ≤ length (now segment) ⌝ }
+    ensures { λ r. ⌜ r ≡ (eqb k 0 && not (sound (segView (now (segment .entry)) .page p))) ⌝ }
+{
+    if k != 0 {
+        return false;
+    }
+    !lent_pages::page_sound(segment, p)
+}
+
+// What page p answers from slot k on; the next page's place if it has no record left.
+fn scan_page(segment: &[u8], p: usize, k: usize) -> Step
+    requires { ⌜ (p * 16384 + 16384 ≤ length (now segment)) × (p ≤ 32527) ⌝ }
+    ensures { λ r. ⌜ ((d : Scanned) → orLater r (now (segment .entry)) d ≡ onPage (segView (now (segment .entry)) .page p) p k d) ⌝ }
+{
+    if damaged_on_reaching(segment, p, k) {
+        return Step::Damaged;
+    }
+    let n = lent_pages::slot_count_on(segment, p);
+    let j = next_record(segment, p, k, n);
+    if n <= j {
+        return Step::End {
+            page: p + 1,
+            slot: 0,
+        };
+    }
+    record_or_damage(segment, p, j)
+}
+
+fn is_end(s: Step) -> bool
+    ensures { λ r. ⌜ r ≡ isEnd s ⌝ }
+{
+    match s {
+        Step::Record {
+            id: _,
+            offset: _,
+            length: _,
+            page: _,
+            slot: _,
+        } => false,
+        Step::End { page: _, slot: _ } => true,
+        Step::Size => false,
+        Step::Damaged => false,
+    }
+}
+
+// Page by page, up to the first that answers.
+fn scan_pages(segment: &[u8], page: usize, slot: usize) -> Step
+    requires { ⌜ length (now segment) / 16384 ≤ 32527 ⌝ }
+    ensures { λ r. ⌜ scannedOf r (now (segment .entry)) ≡ scanPlan (segView (now (segment .entry))) page slot ⌝ }
+{
+    let n = segment.len() / 16384;
+    let mut p = page;
+    let mut k = slot;
+    while p < n {
+        let step = scan_page(segment, p, k);
+        if !is_end(step) {
+            return step;
+        }
+        p += 1;
+        k = 0;
+    }
+    Step::End { page: p, slot: k }
+}
+
+// The first record from this place on, and the place after it. From any place: past page 32,527 a scan is over, whatever the segment.
+pub fn scan_step(segment: &[u8], page: usize, slot: usize) -> Step
+    ensures { λ r. ⌜ scannedOf r (now (segment .entry)) ≡ scanStep (now (segment .entry)) page slot ⌝ }
+{
+    if 32527 < page {
+        return Step::End { page, slot };
+    }
+    if !lent_pages::is_segment(segment) {
+        return Step::Size;
+    }
+    scan_pages(segment, page, slot)
+}
