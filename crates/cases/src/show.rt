@@ -1,5 +1,6 @@
 // Each call with what it answers, and what a page's header says afterwards.
 use libc::STDOUT_FILENO;
+ghost use Prim.Native.Nat.{_≤_};
 
 pub fn say(text: &[u8]) {
     io::write_all(STDOUT_FILENO, text);
@@ -23,16 +24,17 @@ fn answer(a: u64) {
     number(a);
 }
 
-// A record of so many bytes, none of them 0; of 16,365 where it should be longer.
-fn most(n: usize) -> usize {
-    if n < 16365 { n } else { 16365 }
+fn least(a: usize, b: usize) -> usize
+    ensures { λ r. ⌜ (r ≤ a) × (r ≤ b) ⌝ }
+{
+    if a < b { a } else { b }
 }
 
-pub fn insert(segment: &mut [u8], inventory: &mut [u8], length: usize) {
-    let record = [7u8; 16365];
-    let n = most(length);
+// The first `length` of these bytes as a new record.
+fn insert_first(segment: &mut [u8], inventory: &mut [u8], bytes: &[u8], length: usize) {
+    let n = least(length, bytes.len());
     let mut made: u64 = 0;
-    let a = hekatosuy::hk_insert_record(segment, inventory, &record[..n], &mut made);
+    let a = hekatosuy::hk_insert_record(segment, inventory, &bytes[0..n], &mut made);
     say(b"  insert ");
     number(n as u64);
     answer(a);
@@ -43,16 +45,26 @@ pub fn insert(segment: &mut [u8], inventory: &mut [u8], length: usize) {
     say(b"\n");
 }
 
-pub fn write(segment: &mut [u8], inventory: &mut [u8], i: u64, length: usize) {
-    let record = [8u8; 16365];
-    let n = most(length);
-    let a = hekatosuy::hk_write_record(segment, inventory, i, &record[..n]);
+fn write_first(segment: &mut [u8], inventory: &mut [u8], i: u64, bytes: &[u8], length: usize) {
+    let n = least(length, bytes.len());
+    let a = hekatosuy::hk_write_record(segment, inventory, i, &bytes[0..n]);
     say(b"  write ");
     number(n as u64);
     say(b" to ");
     id(i);
     answer(a);
     say(b"\n");
+}
+
+// At most 16,365 bytes, of which none is 0.
+pub fn insert(segment: &mut [u8], inventory: &mut [u8], length: usize) {
+    let bytes = [7u8; 16365];
+    insert_first(segment, inventory, &bytes, length);
+}
+
+pub fn write(segment: &mut [u8], inventory: &mut [u8], i: u64, length: usize) {
+    let bytes = [8u8; 16365];
+    write_first(segment, inventory, i, &bytes, length);
 }
 
 pub fn erase(segment: &mut [u8], inventory: &mut [u8], i: u64) {

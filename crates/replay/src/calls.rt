@@ -16,20 +16,57 @@ fn no_call() -> Reply {
     }
 }
 
-fn insert(segment: &mut [u8], inventory: &mut [u8], length: u64, seed: u64) -> Reply {
-    if 16400 < length {
+// The record of a trace's line, made in `room`.
+fn insert_made(
+    segment: &mut [u8],
+    inventory: &mut [u8],
+    room: &mut [u8],
+    length: u64,
+    seed: u64,
+) -> Reply {
+    let n = length as usize;
+    if room.len() < n {
         return no_call();
     }
-    let mut record = [0u8; 16400];
-    let n = length as usize;
-    crate::made::record(&mut record[..n], seed);
+    crate::made::record(&mut room[0..n], seed);
     let mut id: u64 = 0;
-    let answer = hekatosuy::hk_insert_record(segment, inventory, &record[..n], &mut id);
+    let answer = hekatosuy::hk_insert_record(segment, inventory, &room[0..n], &mut id);
     Reply {
         answer,
         first: id,
         second: 0,
     }
+}
+
+fn write_made(
+    segment: &mut [u8],
+    inventory: &mut [u8],
+    room: &mut [u8],
+    id: u64,
+    length: u64,
+    seed: u64,
+) -> Reply {
+    let n = length as usize;
+    if room.len() < n {
+        return no_call();
+    }
+    crate::made::record(&mut room[0..n], seed);
+    Reply {
+        answer: hekatosuy::hk_write_record(segment, inventory, id, &room[0..n]),
+        first: 0,
+        second: 0,
+    }
+}
+
+// "Records of `I` and `W` are at most 16,400 bytes long".
+fn insert(segment: &mut [u8], inventory: &mut [u8], length: u64, seed: u64) -> Reply {
+    let mut room = [0u8; 16400];
+    insert_made(segment, inventory, &mut room, length, seed)
+}
+
+fn write(segment: &mut [u8], inventory: &mut [u8], id: u64, length: u64, seed: u64) -> Reply {
+    let mut room = [0u8; 16400];
+    write_made(segment, inventory, &mut room, id, length, seed)
 }
 
 fn allocate(segment: &mut [u8], inventory: &mut [u8], size: u64) -> Reply {
@@ -50,20 +87,6 @@ fn get(segment: &[u8], id: u64) -> Reply {
         answer,
         first: offset,
         second: length,
-    }
-}
-
-fn write(segment: &mut [u8], inventory: &mut [u8], id: u64, length: u64, seed: u64) -> Reply {
-    if 16400 < length {
-        return no_call();
-    }
-    let mut record = [0u8; 16400];
-    let n = length as usize;
-    crate::made::record(&mut record[..n], seed);
-    Reply {
-        answer: hekatosuy::hk_write_record(segment, inventory, id, &record[..n]),
-        first: 0,
-        second: 0,
     }
 }
 
@@ -115,10 +138,7 @@ fn scan_step(segment: &[u8], s: Scan) -> Scan {
     };
     if found == 1 {
         next.records = std::num::wrapping_add_u64(s.records, 1);
-        next.digest = crate::made::fold(
-            crate::made::fold(crate::made::fold(s.digest, id), offset),
-            length,
-        );
+        next.digest = crate::made::fold_record(s.digest, id, offset, length);
     }
     next
 }
@@ -141,7 +161,7 @@ fn scan_to_end(segment: &[u8]) -> Scan {
 }
 
 // "the answer is that of the step the scan ended with, and two further steps must answer 0 without a record"
-fn scan(segment: &[u8]) -> Reply {
+fn scan_all(segment: &[u8]) -> Reply {
     let s = scan_to_end(segment);
     let once = scan_step(segment, s);
     let twice = scan_step(segment, once);
@@ -167,7 +187,7 @@ pub fn perform(segment: &mut [u8], inventory: &mut [u8], line: Line) -> Reply {
         b'W' => write(segment, inventory, a, b, c),
         b'Z' => resize(segment, inventory, a, b),
         b'E' => erase(segment, inventory, a),
-        b'N' => scan(segment),
+        b'N' => scan_all(segment),
         _ => no_call(),
     }
 }

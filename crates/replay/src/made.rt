@@ -1,4 +1,5 @@
 // The bytes that a trace names by a seed or a number, and the digests that it is compared by.
+ghost use Prim.Native.Nat.{_<_};
 
 // "Byte k of a record is (seed + 7k + k / 256) mod 256".
 pub fn record(bytes: &mut [u8], seed: u64) {
@@ -32,11 +33,12 @@ pub fn little_endian(bytes: &mut [u8], value: u64) {
     }
 }
 
-const MODULUS: u64 = 4294967291;
-
 // The digest with one number more: "(31 × digest + b + 1) mod 4,294,967,291".
-pub fn fold(digest: u64, number: u64) -> u64 {
-    (digest * 31 + number % MODULUS + 1) % MODULUS
+fn fold(digest: u64, number: u64) -> u64
+    requires { ⌜ digest < 4294967291 ⌝ }
+    ensures { λ r. ⌜ r < 4294967291 ⌝ }
+{
+    (digest * 31 + number % 4294967291 + 1) % 4294967291
 }
 
 fn wide(b: u8) -> u64 {
@@ -51,4 +53,9 @@ pub fn digest(bytes: &[u8]) -> u64 {
         k = k + 1;
     }
     d
+}
+
+// With a record of a scan more: its id, offset and length.
+pub fn fold_record(digest: u64, id: u64, offset: u64, length: u64) -> u64 {
+    fold(fold(fold(digest % 4294967291, id), offset), length)
 }

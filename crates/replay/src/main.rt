@@ -7,6 +7,8 @@ mod report;
 
 use crate::calls::Reply;
 use crate::line::Line;
+ghost use Prim.Native.Nat.{_≤_};
+ghost use lib.ListN.{length};
 
 // Where the replay stands: the line, what was replayed up to it, the bytes lent to the calls, and whether all was as it should be.
 pub struct State {
@@ -18,7 +20,9 @@ pub struct State {
     pub going: bool,
 }
 
-fn least(a: usize, b: usize) -> usize {
+fn least(a: usize, b: usize) -> usize
+    ensures { λ r. ⌜ (r ≤ a) × (r ≤ b) ⌝ }
+{
     if a < b { a } else { b }
 }
 
@@ -32,7 +36,11 @@ fn stopped(s: State) -> State {
 fn begin(s: State, segment: &mut [u8], inventory: &mut [u8], line: Line) -> State {
     let a = line.numbers[0] as usize;
     let b = line.numbers[1] as usize;
-    if segment.len() < a || inventory.len() < b {
+    if segment.len() < a {
+        report::too_large(s);
+        return stopped(s);
+    }
+    if inventory.len() < b {
         report::too_large(s);
         return stopped(s);
     }
@@ -45,35 +53,24 @@ fn begin(s: State, segment: &mut [u8], inventory: &mut [u8], line: Line) -> Stat
     next
 }
 
-// Whether the bytes from `offset` on, so many, lie within the n that are lent.
-fn lies_within(offset: u64, length: u64, n: usize) -> bool {
-    offset <= n as u64 && length <= n as u64 - offset
-}
-
-// Bytes set between calls. Those that are not lent stay as they are, so that the next digest differs.
-fn poke(segment: &mut [u8], inventory: &mut [u8], line: Line) {
-    let letter = line.letter;
-    let offset = line.numbers[0];
-    let length = line.numbers[1];
+// Bytes set between calls. A trace sets lent bytes alone; any others are passed over.
+fn poke_segment(segment: &mut [u8], line: Line) {
+    let n = segment.len();
+    let a = least(line.numbers[0] as usize, n);
+    let e = a + least(line.numbers[1] as usize, n - a);
     let value = line.numbers[2];
-    if letter == b'V' {
-        if lies_within(offset, length, inventory.len()) {
-            let a = offset as usize;
-            let e = a + length as usize;
-            made::little_endian(&mut inventory[a..e], value);
-        }
-        return;
-    }
-    if !lies_within(offset, length, segment.len()) {
-        return;
-    }
-    let a = offset as usize;
-    let e = a + length as usize;
-    if letter == b'B' {
+    if line.letter == b'B' {
         made::big_endian(&mut segment[a..e], value);
     } else {
         made::record(&mut segment[a..e], value);
     }
+}
+
+fn poke_inventory(inventory: &mut [u8], line: Line) {
+    let n = inventory.len();
+    let a = least(line.numbers[0] as usize, n);
+    let e = a + least(line.numbers[1] as usize, n - a);
+    made::little_endian(&mut inventory[a..e], line.numbers[2]);
 }
 
 // The five numbers of a result, which stand after the arguments.
@@ -90,7 +87,8 @@ fn is_wanted(line: Line, at: usize, r: Reply, segment: u64, inventory: u64) -> b
 }
 
 fn call(s: State, text: &[u8], segment: &mut [u8], inventory: &mut [u8], line: Line) -> State {
-    let at = line::arguments_of(line.letter);
+    let letter = line.letter;
+    let at = line::arguments_of(letter);
     if line.count != at + 5 {
         report::not_understood(s, text);
         return stopped(s);
@@ -107,6 +105,34 @@ fn call(s: State, text: &[u8], segment: &mut [u8], inventory: &mut [u8], line: L
     next
 }
 
+// A line on the lent bytes.
+fn replay_lent(
+    s: State,
+    text: &[u8],
+    segment: &mut [u8],
+    inventory: &mut [u8],
+    line: Line,
+) -> State {
+    let letter = line.letter;
+    if line.count == 3 {
+        if letter == b'V' {
+            poke_inventory(inventory, line);
+            return s;
+        }
+        if letter == b'B' || letter == b'G' {
+            poke_segment(segment, line);
+            return s;
+        }
+    }
+    call(s, text, segment, inventory, line)
+}
+
+fn on_lent(s: State, text: &[u8], segment: &mut [u8], inventory: &mut [u8], line: Line) -> State {
+    let a = least(s.segment, segment.len());
+    let b = least(s.inventory, inventory.len());
+    replay_lent(s, text, &mut segment[0..a], &mut inventory[0..b], line)
+}
+
 fn replay_line(before: State, text: &[u8], segment: &mut [u8], inventory: &mut [u8]) -> State {
     if !before.going {
         return before;
@@ -114,18 +140,10 @@ fn replay_line(before: State, text: &[u8], segment: &mut [u8], inventory: &mut [
     let mut s = before;
     s.line = std::num::wrapping_add_u64(before.line, 1);
     let line = line::parse(text);
-    let letter = line.letter;
-    let count = line.count;
-    if letter == b'S' && count == 2 {
+    if line.letter == b'S' && line.count == 2 {
         return begin(s, segment, inventory, line);
     }
-    let a = least(s.segment, segment.len());
-    let b = least(s.inventory, inventory.len());
-    if (letter == b'B' || letter == b'V' || letter == b'G') && count == 3 {
-        poke(&mut segment[..a], &mut inventory[..b], line);
-        return s;
-    }
-    call(s, text, &mut segment[..a], &mut inventory[..b], line)
+    on_lent(s, text, segment, inventory, line)
 }
 
 fn replay_lines(before: State, text: &[u8], segment: &mut [u8], inventory: &mut [u8]) -> State {
@@ -143,10 +161,10 @@ fn replay_lines(before: State, text: &[u8], segment: &mut [u8], inventory: &mut 
 }
 
 // Reads on after what is kept; answers how many bytes of the text there are now.
-fn read_on(text: &mut [u8], kept: usize) -> usize {
-    if text.len() < kept {
-        return 0;
-    }
+fn read_on(text: &mut [u8], kept: usize) -> usize
+    requires { ⌜ kept ≤ length (now text) ⌝ }
+    ensures { λ r. ⌜ r ≤ length (now (text .exit)) ⌝ }
+{
     let got = io::read_full(0, &mut text[kept..]);
     kept + got
 }
@@ -167,10 +185,10 @@ fn replay(text: &mut [u8], segment: &mut [u8], inventory: &mut [u8]) -> State {
         turns = turns - 1;
         let n = read_on(text, kept);
         if n == kept {
-            return replay_lines(s, &text[..n], segment, inventory);
+            return replay_lines(s, &text[0..n], segment, inventory);
         }
-        let e = line::whole_lines(&text[..n]);
-        s = replay_lines(s, &text[..e], segment, inventory);
+        let e = line::whole_lines(&text[0..n]);
+        s = replay_lines(s, &text[0..e], segment, inventory);
         kept = n - e;
         layout::move_down(text, e, kept, 0);
     }
