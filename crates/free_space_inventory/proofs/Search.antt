@@ -1,12 +1,12 @@
 -- The search for the next pages: what holds at the head of the loop over pages and of the loop over entries, and how a turn keeps it.
 -- Assumes nothing.
-use Prim.Native.Nat.{ℕ, zero, suc, _+_, _-_, _*_, _/_, _≤_, _<_}
+use Prim.Native.Nat.{ℕ, zero, suc, _+_, _-_, _≤_, _<_}
 use mathlib.Core.Path.{_≡_, refl, _∙_, sym, ap}
 use mathlib.Core.List.{List}
 use mathlib.Core.Logic.{_⊎_, ⊎-elim}
 use native.Mathlib.Omega.{arith}
 use lib.ListN.{length}
-use Rattle.store.specs.Inventory.{nibbleAt, setEntry, nibble, firstFrom, nextPage, setFrom}
+use Rattle.store.specs.Inventory.{setEntry, nibble, firstFrom, nextPage, setFrom}
 use Rattle.store.specs.Laws.Inventory.{length-setEntry, nibble-entry}
 use Rattle.free_space_inventory.proofs.Turns.{first-here, first-next, first-none, down-turn, down-done}
 

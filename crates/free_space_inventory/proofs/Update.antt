@@ -1,35 +1,15 @@
 -- The update as a whole: its steps make the definition, and its class stays in range.
 -- Assumes nothing.
-use Prim.Native.Nat.{ℕ, zero, suc, _+_, _-_, _*_, _/_, _%_, _≤_, _<_}
-use mathlib.Core.Path.{_≡_, refl, _∙_, sym, ap}
-use mathlib.Core.Bool.{Bool, true, false, cond}
+use Prim.Native.Nat.{ℕ, _+_, _-_, _≤_}
+use mathlib.Core.Path.{_≡_, _∙_, sym}
 use mathlib.Core.List.{List}
 use native.Mathlib.Omega.{arith}
-use lib.Dec.{eqb}
-use lib.ListN.{length, getD}
 use borrow.Author.Tests.{eq-eqb, ne-eqb}
 use Rattle.store.specs.Laws.Classes.{class-top}
-use Rattle.store.specs.Inventory.{classOf, nibbleAt, setNibble, entryAt, setEntry, nibble, nextPage, runEnd, setFrom, pulledBack, movedOn, updated}
+use Rattle.store.specs.Inventory.{classOf, setNibble, nibble, nextPage, runEnd, setFrom, pulledBack, movedOn, updated}
 
 pub class-le : (r x : ℕ) → r ≡ classOf x → r ≤ 15
 class-le r x e = omega (arith, class-top x)
-
-pub nibble-lt : (s : List ℕ) (j : ℕ) → getD s (j / 2) 0 < 256 → nibbleAt s j < 16
-unfolding nibbleAt
-nibble-lt s j h = go (eqb (j % 2) 0)
-  where
-    go : (t : Bool) → cond t (getD s (j / 2) 0 % 16) (getD s (j / 2) 0 / 16) < 16
-    go true = omega arith
-    go false = omega arith
-
-pub run-le : (s : List ℕ) (p c k : ℕ) → runEnd s p c k ≤ c + k
-unfolding runEnd
-run-le s p c zero = omega arith
-run-le s p c (suc k) = go (eqb (entryAt s c) p) (run-le s p (suc c) k)
-  where
-    go : (t : Bool) → runEnd s p (suc c) k ≤ suc c + k → cond t (runEnd s p (suc c) k) c ≤ c + suc k
-    go true h = omega arith
-    go false h = omega arith
 
 module _ (s : List ℕ) (n p old new : ℕ) (q : old ≡ nibble s p) where
   pub update-none : old ≡ new → s ≡ updated s n p new

@@ -8,7 +8,7 @@ ghost use Prim.Native.Nat.{_+_, _-_, _*_, _/_, _<_, _≤_};
 ghost use lib.ListN.{length};
 ghost use Rattle.store.specs.Inventory.{classOf, nibbleAt, setNibble, entryAt, setEntry, Room, foundIn, runEnd, nextPage, setFrom, pulledBack, update};
 
-// The class of a page with `used` bytes in use: document 01's table.
+// The class of a page with `used` bytes in use: document 01's table, which stands for the Rust's `encode`.
 pub fn class_of(used: usize) -> usize
     ensures { λ r. ⌜ r ≡ classOf used ⌝ }
 {
@@ -33,7 +33,7 @@ pub fn class_of(used: usize) -> usize
 }
 
 fn wide(b: u8) -> usize
-    ensures { λ r. ⌜ r ≡ b ⌝ }
+    ensures { λ r. ⌜ (r ≡ b) × (r < 256) ⌝ }
 {
     b as usize
 }
@@ -41,7 +41,7 @@ fn wide(b: u8) -> usize
 // Nibble j, "low half first". Page p's is number p + 240, behind the entries.
 fn read_nibble(inventory: &[u8], j: usize) -> usize
     requires { ⌜ j / 2 < length (now inventory) ⌝ }
-    ensures { λ r. ⌜ r ≡ nibbleAt (now (inventory .entry)) j ⌝ }
+    ensures { λ r. ⌜ (r ≡ nibbleAt (now (inventory .entry)) j) × (r < 16) ⌝ }
 {
     let at = j / 2;
     let b = wide(inventory[at]);
@@ -62,7 +62,7 @@ fn write_nibble(inventory: &mut [u8], j: usize, v: usize)
     }
 }
 
-// Entry c.
+// Entry c (the Rust's read_cache_for_size_class).
 fn read_entry(inventory: &[u8], c: usize) -> usize
     requires { ⌜ 8 * c + 8 ≤ length (now inventory) ⌝ }
     ensures { λ r. ⌜ r ≡ entryAt (now (inventory .entry)) c ⌝ }
@@ -70,7 +70,7 @@ fn read_entry(inventory: &[u8], c: usize) -> usize
     get_u64_le(inventory, 8 * c)
 }
 
-// Entry c becomes v.
+// Entry c becomes v (the Rust's write_cache_for_size_class).
 fn write_entry(inventory: &mut [u8], c: usize, v: usize)
     requires { ⌜ 8 * c + 8 ≤ length (now inventory) ⌝ }
     ensures { λ _. ⌜ now (inventory .exit) ≡ setEntry (now (inventory .entry)) c v ⌝ }
@@ -97,8 +97,8 @@ pub fn find_page(inventory: &[u8], n: usize, need: usize) -> Named
 
 // Of the entries from `old` up and below `new`, where those that name `page` end.
 fn run_end(inventory: &[u8], page: usize, old: usize, new: usize) -> usize
-    requires { ⌜ (120 ≤ length (now inventory)) × (new ≤ 15) ⌝ }
-    ensures { λ r. ⌜ r ≡ runEnd (now (inventory .entry)) page old (new - old) ⌝ }
+    requires { ⌜ (120 ≤ length (now inventory)) × (old ≤ 15) × (new ≤ 15) ⌝ }
+    ensures { λ r. ⌜ (r ≡ runEnd (now (inventory .entry)) page old (new - old)) × (r ≤ 15) ⌝ }
 {
     let mut c = old;
     while c < new {

@@ -1,68 +1,131 @@
 // One page of the segment lent on from its middle, to be written: the page steps on page p, and the update of its class.
 use store::Place;
+ghost use mathlib.Core.Path.{_≡_};
+ghost use mathlib.Core.Bool.{true, false};
+ghost use mathlib.Core.List.{_++_};
+ghost use Prim.Native.Nat.{_+_, _*_, _/_, _≤_, _<_, _^_};
+ghost use lib.ListN.{length, drop};
+ghost use Rattle.store.specs.Numbers.{put, toBE, fit};
+ghost use Rattle.store.specs.Slots.{isFree};
+ghost use Rattle.store.specs.Page.{view, sound};
+ghost use Rattle.store.specs.PageSteps.{allocate, erase, eraseForRedirect, relocate};
+ghost use Rattle.store.specs.Inventory.{Room, update};
+ghost use Rattle.store.specs.Segment.{pageOf, segView, on, carriedOn};
+ghost use Rattle.slotted_page.specs.Words.{pageAfter, placeOf, filledAt, targetAt, redirectPlan, pageMoved, wasMoved, refilled};
 
-pub fn insert_on(segment: &mut [u8], p: usize, bytes: &[u8]) -> Place {
+// A record of these bytes on page p, fresh or in use.
+pub fn insert_on(segment: &mut [u8], p: usize, bytes: &[u8]) -> Place
+    requires { ⌜ (p * 16384 + 16384 ≤ length (now segment)) × (sound (segView (now segment) .page p) ≡ true) × (length (now bytes) ≤ 16364) ⌝ }
+    ensures { λ r. ⌜ (now (segment .exit) ≡ put (now (segment .entry)) (p * 16384) (pageAfter (filledAt (allocate (segView (now (segment .entry)) .page p) (length (now (bytes .entry)))) (now (bytes .entry))) (pageOf (now (segment .entry)) p)))
+        × (r ≡ placeOf (allocate (segView (now (segment .entry)) .page p) (length (now (bytes .entry))))) ⌝ }
+{
     let a = p * 16384;
     let e = a + 16384;
     slotted_page::insert::insert_bytes(&mut segment[a..e], bytes)
 }
 
-pub fn allocate_on(segment: &mut [u8], p: usize, size: usize) -> Place {
+// A place of `size` bytes, all zero.
+pub fn allocate_on(segment: &mut [u8], p: usize, size: usize) -> Place
+    requires { ⌜ (p * 16384 + 16384 ≤ length (now segment)) × (sound (segView (now segment) .page p) ≡ true) × (size ≤ 16364) ⌝ }
+    ensures { λ r. ⌜ (now (segment .exit) ≡ put (now (segment .entry)) (p * 16384) (pageAfter (allocate (segView (now (segment .entry)) .page p) size) (pageOf (now (segment .entry)) p)))
+        × (r ≡ placeOf (allocate (segView (now (segment .entry)) .page p) size)) ⌝ }
+{
     let a = p * 16384;
     let e = a + 16384;
     slotted_page::open::allocate_opened(&mut segment[a..e], size)
 }
 
-pub fn insert_target_on(segment: &mut [u8], p: usize, id: usize, bytes: &[u8], size: usize) -> Place {
+// "A new target of size + 8" on page p, fresh or in use: the id of its root, then the bytes, cut off or filled up with zeros to `size`.
+pub fn insert_target_on(segment: &mut [u8], p: usize, id: usize, bytes: &[u8], size: usize) -> Place
+    requires { ⌜ (p * 16384 + 16384 ≤ length (now segment)) × (sound (segView (now segment) .page p) ≡ true) × (size ≤ 16356) ⌝ }
+    ensures { λ r. ⌜ (now (segment .exit) ≡ put (now (segment .entry)) (p * 16384) (pageAfter (targetAt (allocate (segView (now (segment .entry)) .page p) (size + 8)) (toBE 8 id ++ fit size (now (bytes .entry)))) (pageOf (now (segment .entry)) p)))
+        × (r ≡ placeOf (allocate (segView (now (segment .entry)) .page p) (size + 8))) ⌝ }
+{
     let a = p * 16384;
     let e = a + 16384;
     slotted_page::insert::insert_target(&mut segment[a..e], id, bytes, size)
 }
 
-pub fn rewrite_on(segment: &mut [u8], p: usize, k: usize, bytes: &[u8], size: usize) -> bool {
+// Slot k's record, of page p, becomes these bytes, cut off or filled up with zeros to `size`; from a redirect too. A refusal changes nothing.
+pub fn rewrite_on(segment: &mut [u8], p: usize, k: usize, bytes: &[u8], size: usize) -> bool
+    requires { ⌜ (p * 16384 + 16384 ≤ length (now segment)) × (sound (segView (now segment) .page p) ≡ true) × (isFree (segView (now segment) .page p .at k) ≡ false) ⌝ }
+    ensures { λ r. ⌜ (now (segment .exit) ≡ put (now (segment .entry)) (p * 16384) (pageMoved (refilled (relocate (segView (now (segment .entry)) .page p) k size) k (fit size (now (bytes .entry)))) (pageOf (now (segment .entry)) p)))
+        × (r ≡ wasMoved (relocate (segView (now (segment .entry)) .page p) k size)) ⌝ }
+{
     let a = p * 16384;
     let e = a + 16384;
     slotted_page::record::rewrite(&mut segment[a..e], k, bytes, size)
 }
 
-pub fn resize_on(segment: &mut [u8], p: usize, k: usize, size: usize) -> bool {
+// Slot k's record keeps its bytes, cut off or filled up with zeros to `size`.
+pub fn resize_on(segment: &mut [u8], p: usize, k: usize, size: usize) -> bool
+    requires { ⌜ (p * 16384 + 16384 ≤ length (now segment)) × (sound (segView (now segment) .page p) ≡ true) × (isFree (segView (now segment) .page p .at k) ≡ false) ⌝ }
+    ensures { λ r. ⌜ (now (segment .exit) ≡ put (now (segment .entry)) (p * 16384) (pageMoved (refilled (relocate (segView (now (segment .entry)) .page p) k size) k (fit size (segView (now (segment .entry)) .page p .bytes k))) (pageOf (now (segment .entry)) p)))
+        × (r ≡ wasMoved (relocate (segView (now (segment .entry)) .page p) k size)) ⌝ }
+{
     let a = p * 16384;
     let e = a + 16384;
     slotted_page::record::resize(&mut segment[a..e], k, size)
 }
 
-pub fn rewrite_target_on(segment: &mut [u8], p: usize, k: usize, id: usize, bytes: &[u8]) -> bool {
+// A target's record becomes the id of its root and these bytes.
+pub fn rewrite_target_on(segment: &mut [u8], p: usize, k: usize, id: usize, bytes: &[u8]) -> bool
+    requires { ⌜ (p * 16384 + 16384 ≤ length (now segment)) × (sound (segView (now segment) .page p) ≡ true) × (isFree (segView (now segment) .page p .at k) ≡ false) × (length (now bytes) ≤ 16364) ⌝ }
+    ensures { λ r. ⌜ (now (segment .exit) ≡ put (now (segment .entry)) (p * 16384) (pageMoved (refilled (relocate (segView (now (segment .entry)) .page p) k (length (now (bytes .entry)) + 8)) k (toBE 8 id ++ now (bytes .entry))) (pageOf (now (segment .entry)) p)))
+        × (r ≡ wasMoved (relocate (segView (now (segment .entry)) .page p) k (length (now (bytes .entry)) + 8))) ⌝ }
+{
     let a = p * 16384;
     let e = a + 16384;
     slotted_page::record::rewrite_target(&mut segment[a..e], k, id, bytes)
 }
 
-pub fn resize_target_on(segment: &mut [u8], p: usize, k: usize, id: usize, size: usize) -> bool {
+// A target's record keeps its bytes behind the id of its root.
+pub fn resize_target_on(segment: &mut [u8], p: usize, k: usize, id: usize, size: usize) -> bool
+    requires { ⌜ (p * 16384 + 16384 ≤ length (now segment)) × (sound (segView (now segment) .page p) ≡ true) × (isFree (segView (now segment) .page p .at k) ≡ false) × (size ≤ 16364) ⌝ }
+    ensures { λ r. ⌜ (now (segment .exit) ≡ put (now (segment .entry)) (p * 16384) (pageMoved (refilled (relocate (segView (now (segment .entry)) .page p) k (size + 8)) k (toBE 8 id ++ fit size (drop 8 (segView (now (segment .entry)) .page p .bytes k)))) (pageOf (now (segment .entry)) p)))
+        × (r ≡ wasMoved (relocate (segView (now (segment .entry)) .page p) k (size + 8))) ⌝ }
+{
     let a = p * 16384;
     let e = a + 16384;
     slotted_page::record::resize_target(&mut segment[a..e], k, id, size)
 }
 
-pub fn erase_on(segment: &mut [u8], p: usize, k: usize) {
+// Slot k of page p, which is not free, is freed.
+pub fn erase_on(segment: &mut [u8], p: usize, k: usize)
+    requires { ⌜ (p * 16384 + 16384 ≤ length (now segment)) × (sound (segView (now segment) .page p) ≡ true) × (isFree (segView (now segment) .page p .at k) ≡ false) ⌝ }
+    ensures { λ _. ⌜ now (segment .exit) ≡ carriedOn (on p (erase (segView (now (segment .entry)) .page p) k)) (now (segment .entry)) ⌝ }
+{
     let a = p * 16384;
     let e = a + 16384;
     slotted_page::erase::erase(&mut segment[a..e], k);
 }
 
-pub fn erase_for_redirect_on(segment: &mut [u8], p: usize, k: usize, id: usize) {
+// Slot k of page p, which is not free, becomes a redirect to the id.
+pub fn erase_for_redirect_on(segment: &mut [u8], p: usize, k: usize, id: usize)
+    requires { ⌜ (p * 16384 + 16384 ≤ length (now segment)) × (sound (segView (now segment) .page p) ≡ true) × (isFree (segView (now segment) .page p .at k) ≡ false) × (id < 2 ^ 62) ⌝ }
+    ensures { λ _. ⌜ now (segment .exit) ≡ carriedOn (on p (eraseForRedirect (segView (now (segment .entry)) .page p) k id)) (now (segment .entry)) ⌝ }
+{
     let a = p * 16384;
     let e = a + 16384;
     slotted_page::erase::erase_for_redirect(&mut segment[a..e], k, id);
 }
 
-pub fn set_redirect_on(segment: &mut [u8], p: usize, k: usize, id: usize) {
+// Slot k of page p, a redirect already, names this id: its entry alone.
+pub fn set_redirect_on(segment: &mut [u8], p: usize, k: usize, id: usize)
+    requires { ⌜ (p * 16384 + 16384 ≤ length (now segment)) × (sound (segView (now segment) .page p) ≡ true) × (isFree (segView (now segment) .page p .at k) ≡ false) × (id < 2 ^ 62) ⌝ }
+    ensures { λ _. ⌜ now (segment .exit) ≡ carriedOn (on p (redirectPlan (segView (now (segment .entry)) .page p) k id)) (now (segment .entry)) ⌝ }
+{
     let a = p * 16384;
     let e = a + 16384;
     slotted_page::erase::set_redirect(&mut segment[a..e], k, id);
 }
 
 // The inventory's class of page p, from the free space that its header says.
-pub fn update_on(segment: &[u8], inventory: &mut [u8], p: usize) {
+pub fn update_on(segment: &[u8], inventory: &mut [u8], p: usize)
+    requires { ⌜ Room (now inventory) (length (now segment) / 16384) ⌝ }
+    requires { ⌜ (p * 16384 + 16384 ≤ length (now segment)) × (view (pageOf (now segment) p) .freeSpace ≤ 16372) ⌝ }
+    ensures { λ _. ⌜ now (inventory .exit) ≡ update (now (inventory .entry)) (length (now (segment .entry)) / 16384) p (view (pageOf (now (segment .entry)) p) .freeSpace) ⌝ }
+{
     let n = segment.len() / 16384;
     let free = lent_pages::free_space_on(segment, p);
     free_space_inventory::update_page_size(inventory, n, p, free);

@@ -1,1 +1,4 @@
-pub mod All
+pub mod SlotLaws
+pub mod FitLaws
+pub mod MapLaws
+pub mod MarkLaws

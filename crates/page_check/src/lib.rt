@@ -1,186 +1,57 @@
-// The test of a sound page.
-use store::Slot;
+// Whether a page is sound, by document 01's "Sound page": the header, then every slot in one pass, then the free space. Each call
+// checks every page it touches, so this decides the store's speed: it takes time linear in the slots, and in the page's bytes by 64.
+mod map;
+mod slot;
+mod sweep;
+
+use sweep::Pass;
 ghost use mathlib.Core.Path.{_≡_};
 ghost use mathlib.Core.Bool.{true};
-ghost use Prim.Native.Nat.{_+_, _*_, _≤_, _<_};
+ghost use Prim.Native.Nat.{_≤_, _<_};
 ghost use lib.ListN.{length};
-ghost use Rattle.store.specs.Slots.{isTarget, isFree};
 ghost use Rattle.store.specs.Page.{view, sound};
-ghost use Rattle.store.specs.Laws.Slots.{Codable};
-ghost use Rattle.page_check.specs.Tests.{liesAt, goodAt, goodTo, apartAt, apartOf, clearTo, apartTo, noneFree, lowFree, lensTo};
+ghost use Rattle.page_check.specs.Fit.{Tells, HeaderFits, RecordsFit, Total};
 
-fn is_target(s: Slot) -> bool
-    ensures { λ r. ⌜ r ≡ isTarget s ⌝ }
+// "count at most 2,046", "12 + 8 × count ≤ data start ≤ 16,384", and that the first free slot is free: it is the count if none is.
+// That no slot below it is free is found with the records.
+fn header_fits(page: &[u8], n: usize, f: usize, d: usize) -> bool
+    requires { ⌜ (length (now page) ≡ 16384) × (n ≡ view (now page) .slotCount) × (n < 65536) ⌝ }
+    ensures { λ r. ⌜ Tells r (HeaderFits (view (now (page .entry))) n f d) ⌝ }
 {
-    match s {
-        Slot::Ordinary {
-            offset: _,
-            length: _,
-        } => false,
-        Slot::Free => false,
-        Slot::Redirect { id: _ } => false,
-        Slot::Target {
-            offset: _,
-            length: _,
-        } => true,
-    }
-}
-
-fn lies_at(d: usize, o: usize, l: usize) -> bool
-    requires { ⌜ o + l < 8589934592 ⌝ }
-    ensures { λ r. ⌜ r ≡ liesAt d o l ⌝ }
-{
-    if l == 0 {
-        return o <= 16384;
-    }
-    if o < d {
+    if 2046 < n {
         return false;
     }
-    o + l <= 16384
-}
-
-fn good_slot(d: usize, s: Slot) -> bool
-    requires { ⌜ Codable s ⌝ }
-    ensures { λ r. ⌜ r ≡ goodAt d s ⌝ }
-{
-    let o = layout::slots::off_of(s);
-    let l = layout::slots::len_of(s);
-    if !lies_at(d, o, l) {
-        return false;
-    }
-    if !is_target(s) {
-        return true;
-    }
-    8 <= l
-}
-
-fn all_good(page: &[u8], n: usize, d: usize) -> bool
-    requires { ⌜ (length (now page) ≡ 16384) × (n ≤ view (now page) .slotCount) × (n ≤ 2046) ⌝ }
-    ensures { λ r. ⌜ r ≡ goodTo (view (now (page .entry))) d n ⌝ }
-{
-    let mut k = 0;
-    while k < n {
-        if !good_slot(d, layout::slots::get_slot(page, k)) {
-            return false;
-        }
-        k += 1;
-    }
-    true
-}
-
-fn apart_at(i: usize, j: usize, o: usize, l: usize, q: usize, m: usize) -> bool
-    requires { ⌜ (o + l < 8589934592) × (q + m < 8589934592) ⌝ }
-    ensures { λ r. ⌜ r ≡ apartAt i j o l q m ⌝ }
-{
-    if i == j {
-        return true;
-    }
-    if l == 0 {
-        return true;
-    }
-    if m == 0 {
-        return true;
-    }
-    if o + l <= q {
-        return true;
-    }
-    q + m <= o
-}
-
-fn are_apart(i: usize, j: usize, s: Slot, t: Slot) -> bool
-    requires { ⌜ Codable s ⌝ }
-    requires { ⌜ Codable t ⌝ }
-    ensures { λ r. ⌜ r ≡ apartOf i j s t ⌝ }
-{
-    apart_at(
-        i,
-        j,
-        layout::slots::off_of(s),
-        layout::slots::len_of(s),
-        layout::slots::off_of(t),
-        layout::slots::len_of(t),
-    )
-}
-
-fn clear_of(page: &[u8], i: usize, n: usize) -> bool
-    requires { ⌜ (length (now page) ≡ 16384) × (n ≤ view (now page) .slotCount) × (n ≤ 2046) × (i < n) ⌝ }
-    ensures { λ r. ⌜ r ≡ clearTo (view (now (page .entry))) i n ⌝ }
-{
-    let s = layout::slots::get_slot(page, i);
-    let mut j = 0;
-    while j < n {
-        if !are_apart(i, j, s, layout::slots::get_slot(page, j)) {
-            return false;
-        }
-        j += 1;
-    }
-    true
-}
-
-fn all_apart(page: &[u8], n: usize) -> bool
-    requires { ⌜ (length (now page) ≡ 16384) × (n ≤ view (now page) .slotCount) × (n ≤ 2046) ⌝ }
-    ensures { λ r. ⌜ r ≡ apartTo (view (now (page .entry))) n n ⌝ }
-{
-    let mut k = 0;
-    while k < n {
-        if !clear_of(page, k, n) {
-            return false;
-        }
-        k += 1;
-    }
-    true
-}
-
-fn none_free(page: &[u8], n: usize) -> bool
-    requires { ⌜ (length (now page) ≡ 16384) × (n ≤ view (now page) .slotCount) × (n ≤ 2046) ⌝ }
-    ensures { λ r. ⌜ r ≡ noneFree (view (now (page .entry))) n ⌝ }
-{
-    let mut k = 0;
-    while k < n {
-        if layout::slots::is_free(layout::slots::get_slot(page, k)) {
-            return false;
-        }
-        k += 1;
-    }
-    true
-}
-
-fn free_at(page: &[u8], n: usize, k: usize) -> bool
-    requires { ⌜ (length (now page) ≡ 16384) × (n ≡ view (now page) .slotCount) × (n ≤ 2046) ⌝ }
-    ensures { λ r. ⌜ r ≡ isFree (view (now (page .entry)) .at k) ⌝ }
-{
-    if n <= k {
-        return true;
-    }
-    layout::slots::is_free(layout::slots::get_slot(page, k))
-}
-
-fn lowest_free(page: &[u8], n: usize, f: usize) -> bool
-    requires { ⌜ (length (now page) ≡ 16384) × (n ≡ view (now page) .slotCount) × (n ≤ 2046) ⌝ }
-    ensures { λ r. ⌜ r ≡ lowFree (view (now (page .entry))) n f ⌝ }
-{
     if n < f {
         return false;
     }
-    if !free_at(page, n, f) {
+    if d < 12 + 8 * n {
         return false;
     }
-    none_free(page, f)
-}
-
-fn sum_lens(page: &[u8], n: usize) -> usize
-    requires { ⌜ (length (now page) ≡ 16384) × (n ≤ view (now page) .slotCount) × (n ≤ 2046) ⌝ }
-    ensures { λ r. ⌜ (r ≡ lensTo (view (now (page .entry))) n) × (r ≤ 4294967296 * n) ⌝ }
-{
-    let mut sum = 0;
-    let mut k = 0;
-    while k < n {
-        sum += layout::slots::len_of(layout::slots::get_slot(page, k));
-        k += 1;
+    if 16384 < d {
+        return false;
     }
-    sum
+    if f == n {
+        return true;
+    }
+    layout::slots::is_free(layout::slots::get_slot(page, f))
 }
 
+// Whether the n records lie well and apart, and the sum of their lengths. Where they lie in the order of their slots, as inserts leave
+// them, no map is needed; where they do not, the map decides.
+fn records_fit(page: &[u8], n: usize, f: usize, d: usize) -> Pass
+    requires { ⌜ (length (now page) ≡ 16384) × (n ≡ view (now page) .slotCount) × (n ≤ 2046) ⌝ }
+    ensures { λ r. ⌜ Tells (r .fits) (RecordsFit (view (now (page .entry))) n f d) × (r .fits ≡ true → Total (view (now (page .entry))) n (r .total)) ⌝ }
+{
+    let swept = sweep::sweep(page, n, f, d);
+    if swept.fits {
+        return swept;
+    }
+    let mut used = [0usize; 256];
+    map::place_all(page, n, f, d, &mut used)
+}
+
+// "A slot count of 0 means a fresh page and its other bytes don't matter." Last comes "free space = 16,372 − 8 × count − the sum of all
+// ordinary and target lengths".
 pub fn is_sound(page: &[u8]) -> bool
     requires { ⌜ length (now page) ≡ 16384 ⌝ }
     ensures { λ r. ⌜ r ≡ sound (view (now (page .entry))) ⌝ }
@@ -189,26 +60,14 @@ pub fn is_sound(page: &[u8]) -> bool
     if n == 0 {
         return true;
     }
-    if 2046 < n {
-        return false;
-    }
     let f = layout::header::get_first_free_slot(page);
-    if !lowest_free(page, n, f) {
-        return false;
-    }
     let d = layout::header::get_data_start(page);
-    if d < 12 + 8 * n {
+    if !header_fits(page, n, f, d) {
         return false;
     }
-    if 16384 < d {
+    let records = records_fit(page, n, f, d);
+    if !records.fits {
         return false;
     }
-    if !all_good(page, n, d) {
-        return false;
-    }
-    if !all_apart(page, n) {
-        return false;
-    }
-    let room = layout::header::get_free_space(page);
-    room + 8 * n + sum_lens(page, n) == 16372
+    layout::header::get_free_space(page) + 8 * n + records.total == 16372
 }

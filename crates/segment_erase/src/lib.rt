@@ -1,15 +1,35 @@
-// Erase: the record, and through a redirect its target first in the inventory.
+// Erase: the record where it stands, or through a redirect the root's slot and its target.
 use store::Answer;
 use store::Slot;
+ghost use mathlib.Core.Path.{_≡_};
+ghost use mathlib.Core.Bool.{true, false};
+ghost use Prim.Native.Nat.{_+_, _*_, _≤_};
+ghost use lib.ListN.{length};
+ghost use Rattle.store.specs.Numbers.{pageNo, slotNo};
+ghost use Rattle.store.specs.Slots.{isFree};
+ghost use Rattle.store.specs.Page.{sound};
+ghost use Rattle.store.specs.Segment.{segView, result, eraseBy, eraseStep};
+ghost use Rattle.store.specs.Answers.{outcome};
+ghost use Rattle.lent_steps.specs.After.{Sizes};
 
-fn erase_ordinary(segment: &mut [u8], inventory: &mut [u8], id: usize) -> Answer {
+// The record of an ordinary slot, wherever it lies.
+fn erase_ordinary(segment: &mut [u8], inventory: &mut [u8], id: usize) -> Answer
+    requires { ⌜ Sizes (now segment) (now inventory) ⌝ }
+    requires { ⌜ (pageNo id * 16384 + 16384 ≤ length (now segment)) × (sound (segView (now segment) .page (pageNo id)) ≡ true) × (isFree (segView (now segment) .page (pageNo id) .at (slotNo id)) ≡ false) ⌝ }
+    ensures { λ r. ⌜ outcome r (now (segment .exit)) (now (inventory .exit)) ≡ result (now (segment .entry)) (eraseBy (segView (now (segment .entry))) (now (inventory .entry)) id (Slot.Ordinary 0 0)) ⌝ }
+{
     let p = id / 65536;
     lent_steps::erase_on(segment, p, id % 65536);
     lent_steps::update_on(segment, inventory, p);
     Answer::Done { id }
 }
 
-fn erase_forwarded(segment: &mut [u8], inventory: &mut [u8], id: usize, t: usize) -> Answer {
+// A redirect to t and its target, of which the inventory is told first.
+fn erase_forwarded(segment: &mut [u8], inventory: &mut [u8], id: usize, t: usize) -> Answer
+    requires { ⌜ Sizes (now segment) (now inventory) ⌝ }
+    requires { ⌜ (pageNo id * 16384 + 16384 ≤ length (now segment)) × (sound (segView (now segment) .page (pageNo id)) ≡ true) × (segView (now segment) .page (pageNo id) .at (slotNo id) ≡ Slot.Redirect t) ⌝ }
+    ensures { λ r. ⌜ outcome r (now (segment .exit)) (now (inventory .exit)) ≡ result (now (segment .entry)) (eraseBy (segView (now (segment .entry))) (now (inventory .entry)) id (Slot.Redirect t)) ⌝ }
+{
     if !lent_pages::points_back(segment, id, t) {
         return Answer::Damaged;
     }
@@ -20,7 +40,9 @@ fn erase_forwarded(segment: &mut [u8], inventory: &mut [u8], id: usize, t: usize
     Answer::Done { id }
 }
 
-pub fn erase_record(segment: &mut [u8], inventory: &mut [u8], id: usize) -> Answer {
+pub fn erase_record(segment: &mut [u8], inventory: &mut [u8], id: usize) -> Answer
+    ensures { λ r. ⌜ outcome r (now (segment .exit)) (now (inventory .exit)) ≡ eraseStep (now (segment .entry)) (now (inventory .entry)) id ⌝ }
+{
     if !lent_pages::sizes_ok(segment, inventory) {
         return Answer::Size;
     }

@@ -2,13 +2,21 @@
 use store::Answer;
 use store::Named;
 use store::Place;
+ghost use mathlib.Core.Path.{_≡_};
+ghost use Prim.Native.Nat.{_+_, _*_, _/_, _≤_};
+ghost use lib.ListN.{length};
+ghost use Rattle.store.specs.Numbers.{zeros};
+ghost use Rattle.store.specs.Segment.{insertStep, allocateStep};
+ghost use Rattle.store.specs.Answers.{outcome};
+ghost use Rattle.lent_steps.specs.After.{Sizes};
+ghost use Rattle.segment_insert.specs.Words.{answerAt, classedAt, Told, insertOn};
 
-// On the page that the inventory names.
-fn insert_at(segment: &mut [u8], inventory: &mut [u8], p: usize, record: &[u8]) -> Answer {
-    if !lent_pages::page_sound(segment, p) {
-        return Answer::Damaged;
-    }
-    let place = lent_steps::insert_on(segment, p, record);
+// "If the page's answer holds no place, the call stops there"; else the inventory is told the page's free space.
+fn finish(segment: &[u8], inventory: &mut [u8], p: usize, place: Place) -> Answer
+    requires { ⌜ Sizes (now segment) (now inventory) ⌝ }
+    requires { ⌜ (p * 16384 + 16384 ≤ length (now segment)) × Told (now segment) p place ⌝ }
+    ensures { λ r. ⌜ (r ≡ answerAt p place) × (now (inventory .exit) ≡ classedAt (now (segment .entry)) (now (inventory .entry)) p place) ⌝ }
+{
     let Place::At { slot, offset: _ } = place else {
         return Answer::Stale;
     };
@@ -18,7 +26,22 @@ fn insert_at(segment: &mut [u8], inventory: &mut [u8], p: usize, record: &[u8]) 
     }
 }
 
-pub fn insert_record(segment: &mut [u8], inventory: &mut [u8], record: &[u8]) -> Answer {
+// On the page that the inventory names.
+fn insert_at(segment: &mut [u8], inventory: &mut [u8], p: usize, record: &[u8]) -> Answer
+    requires { ⌜ Sizes (now segment) (now inventory) ⌝ }
+    requires { ⌜ (p * 16384 + 16384 ≤ length (now segment)) × (length (now «record») ≤ 16364) ⌝ }
+    ensures { λ r. ⌜ outcome r (now (segment .exit)) (now (inventory .exit)) ≡ insertOn (now (segment .entry)) (now (inventory .entry)) (now («record» .entry)) p ⌝ }
+{
+    if !lent_pages::page_sound(segment, p) {
+        return Answer::Damaged;
+    }
+    let place = lent_steps::insert_on(segment, p, record);
+    finish(segment, inventory, p, place)
+}
+
+pub fn insert_record(segment: &mut [u8], inventory: &mut [u8], record: &[u8]) -> Answer
+    ensures { λ r. ⌜ outcome r (now (segment .exit)) (now (inventory .exit)) ≡ insertStep (now (segment .entry)) (now (inventory .entry)) (now («record» .entry)) ⌝ }
+{
     if !lent_pages::sizes_ok(segment, inventory) {
         return Answer::Size;
     }
@@ -32,21 +55,22 @@ pub fn insert_record(segment: &mut [u8], inventory: &mut [u8], record: &[u8]) ->
     insert_at(segment, inventory, page, record)
 }
 
-fn allocate_at(segment: &mut [u8], inventory: &mut [u8], p: usize, size: usize) -> Answer {
+// The same with zeros for the record's bytes, which the page's allocation has written.
+fn allocate_at(segment: &mut [u8], inventory: &mut [u8], p: usize, size: usize) -> Answer
+    requires { ⌜ Sizes (now segment) (now inventory) ⌝ }
+    requires { ⌜ (p * 16384 + 16384 ≤ length (now segment)) × (size ≤ 16364) ⌝ }
+    ensures { λ r. ⌜ outcome r (now (segment .exit)) (now (inventory .exit)) ≡ insertOn (now (segment .entry)) (now (inventory .entry)) (zeros size) p ⌝ }
+{
     if !lent_pages::page_sound(segment, p) {
         return Answer::Damaged;
     }
     let place = lent_steps::allocate_on(segment, p, size);
-    let Place::At { slot, offset: _ } = place else {
-        return Answer::Stale;
-    };
-    lent_steps::update_on(segment, inventory, p);
-    Answer::Done {
-        id: p * 65536 + slot,
-    }
+    finish(segment, inventory, p, place)
 }
 
-pub fn allocate(segment: &mut [u8], inventory: &mut [u8], size: usize) -> Answer {
+pub fn allocate(segment: &mut [u8], inventory: &mut [u8], size: usize) -> Answer
+    ensures { λ r. ⌜ outcome r (now (segment .exit)) (now (inventory .exit)) ≡ allocateStep (now (segment .entry)) (now (inventory .entry)) size ⌝ }
+{
     if !lent_pages::sizes_ok(segment, inventory) {
         return Answer::Size;
     }

@@ -1,17 +1,88 @@
--- A record's bytes written where it stands. Assumes nothing.
+-- A plan but for its record's bytes, and those bytes written afterwards. Assumes nothing.
 use mathlib.Core.Path.{_≡_, refl, sym, ap, _∙_}
-use mathlib.Core.List.{List, [], _∷_}
-use Prim.Native.Nat.{ℕ}
+use mathlib.Core.Bool.{true, false}
+use mathlib.Core.List.{List, [], _∷_, _++_}
+use Prim.Native.Nat.{ℕ, zero, suc, _+_, _*_, _≤_}
 use native.Mathlib.Omega.{arith}
 use borrow.Author.Tests.{eq-eqb}
-use Rattle.store.specs.Numbers.{put}
-use Rattle.store.specs.Slots.{off}
+use lib.ListN.{length, length-replicate}
+use Rattle.store.specs.Numbers.{put, zeros}
+use Rattle.store.specs.Slots.{off, len, slotBytes}
 use Rattle.store.specs.Page.{View}
-use Rattle.store.specs.PageSteps.{apply, fill, run, withSlot, Alloc, noRoom, got}
+use Rattle.store.specs.PageSteps.{Edit, apply, commit, fill, move, run, withSlot, Alloc, noRoom, got, Relocated, refused, moved}
+use Rattle.store.specs.Laws.Numbers.{put-nil}
+use Rattle.store.specs.Laws.Views.{upd-same}
 use Rattle.store.specs.Laws.Exact.{run-append}
+use Rattle.store.specs.declared.Slot.{Slot}
+use Rattle.store.specs.declared.Slot.the-variants.{Target}
 use Rattle.store.specs.declared.Place.{Place}
 use Rattle.store.specs.declared.Place.the-variants.{At, NoRoom}
-use Rattle.slotted_page.specs.Words.{pageAfter, placeOf, filledAt}
+use Rattle.places.specs.Words.{unfilled, pageBare, placeOf, allocOf}
+use Rattle.slotted_page.specs.Words.{pageAfter, filledAt, targetAt, pageMoved, wasMoved, refilled}
+use Rattle.places.proofs.BareLaws.{commit-writes, run-bare}
+
+pub length-zeros : (n : ℕ) → length (zeros n) ≡ n
+length-zeros n = length-replicate n 0
+
+-- ---- bytes written twice
+
+pub put-over : (p : List ℕ) (i : ℕ) (a b : List ℕ) → length a ≤ length b → put (put p i a) i b ≡ put p i b
+put-over [] i a b h = refl
+put-over (x ∷ p) (suc i) a b h = ap {B = List ℕ} (λ r. x ∷ r) (put-over p i a b h)
+put-over (x ∷ p) zero [] b h = refl
+put-over (x ∷ p) zero (y ∷ a) [] h = absurd (omega arith)
+put-over (x ∷ p) zero (y ∷ a) (z ∷ b) h = ap {B = List ℕ} (λ r. z ∷ r) (put-over p zero a b (omega arith))
+
+-- two writes, the first below the second
+pub put-swap : (p : List ℕ) (i j : ℕ) (a b : List ℕ) → i + length a ≤ j → put (put p j b) i a ≡ put (put p i a) j b
+put-swap [] i j a b h = refl
+put-swap (x ∷ p) (suc i) zero a b h = absurd (omega arith)
+put-swap (x ∷ p) (suc i) (suc j) a b h = ap {B = List ℕ} (λ r. x ∷ r) (put-swap p i j a b (omega arith))
+put-swap (x ∷ p) zero j [] b h = put-nil (put (x ∷ p) j b) 0
+put-swap (x ∷ p) zero zero (y ∷ a) b h = absurd (omega arith)
+put-swap (x ∷ p) zero (suc j) (y ∷ a) b h = ap {B = List ℕ} (λ r. y ∷ r) (put-swap p zero j a b (omega arith))
+
+-- ---- the bytes written afterwards
+
+fill-writes : (v : View) (k : ℕ) (bs q : List ℕ) → apply (fill k (withSlot v k (v .at k) bs)) q ≡ put q (off (v .at k)) bs
+unfolding apply
+fill-writes v k bs q = rw (eq-eqb k k refl)
+
+pub move-writes : (v : View) (k : ℕ) (s : Slot) (bs q : List ℕ) → apply (move k (withSlot v k s bs)) q ≡ put (put q (12 + 8 * k) (slotBytes s)) (off s) bs
+unfolding apply
+move-writes v k s bs q = rw (eq-eqb k k refl)
+
+-- the plan of these edits, which leaves v, writes `own` at slot k's record in the end; other bytes in their place make the plan with these
+pub record Ends (p : List ℕ) (k : ℕ) (own : List ℕ) (es : List Edit) (v : View) : Type 0 where
+  pub written : run es p ≡ put (run (unfilled es) p) (off (v .at k)) own
+  pub fills : (bs : List ℕ) → length bs ≡ length own → run (es ++ fill k (withSlot v k (v .at k) bs) ∷ []) p ≡ put (run (unfilled es) p) (off (v .at k)) bs
+
+abbrev pub Ended : List ℕ → List ℕ → Alloc → Type 0
+Ended p own noRoom = Unit {0}
+Ended p own (got k a) = Ends p k own (a .edits) (a .after)
+
+-- the record has n bytes
+abbrev pub Sized : ℕ → Alloc → Type 0
+Sized n noRoom = Unit {0}
+Sized n (got k a) = len (a .after .at k) ≡ n
+
+pub ends-by : (p : List ℕ) (k : ℕ) (own : List ℕ) (es : List Edit) (v : View) → run es p ≡ put (run (unfilled es) p) (off (v .at k)) own → Ends p k own es v
+ends-by p k own es v w =
+    record {
+      written = w;
+      fills = λ bs e.
+          run-append es (fill k (withSlot v k (v .at k) bs) ∷ []) p ∙ fill-writes v k bs (run es p)
+          ∙ rw w (put-over (run (unfilled es) p) (off (v .at k)) own bs (omega arith));
+    }
+
+pub commit-ends : (p : List ℕ) (es : List Edit) (w : View) (k : ℕ) (s : Slot) (own : List ℕ) → Ends p k own (es ++ commit k (withSlot w k s own) ∷ []) (withSlot w k s own)
+commit-ends p es w k s own =
+    let fs : List Edit = es ++ commit k (withSlot w k s own) ∷ [] in
+    ends-by p k own fs (withSlot w k s own)
+    (run-append es (commit k (withSlot w k s own) ∷ []) p ∙ commit-writes w k s own (run es p) ∙ ap (λ (q : List ℕ). put q (off s) own) (sym (run-bare es w k s own p))
+    ∙ ap (λ (x : Slot). put (run (unfilled fs) p) (off x) own) (sym (upd-same (w .at) k s)))
+
+-- ---- what the code finds: the place, and the page without the bytes
 
 abbrev tag : Place → ℕ
 tag (At k o) = 0
@@ -21,17 +92,56 @@ abbrev offsetOf : Place → ℕ
 offsetOf (At k o) = o
 offsetOf NoRoom = 0
 
-fill-writes : (v : View) (k : ℕ) (bs q : List ℕ) → apply (fill k (withSlot v k (v .at k) bs)) q ≡ put q (off (v .at k)) bs
-unfolding apply
-fill-writes v k bs q = rw (eq-eqb k k refl)
+abbrev slotOf : Place → ℕ
+slotOf (At k o) = k
+slotOf NoRoom = 0
 
-pub fill-done : (a : Alloc) (k o : ℕ) (bs p q₁ q₂ : List ℕ) → At k o ≡ placeOf a → q₁ ≡ pageAfter a p → q₂ ≡ put q₁ o bs → q₂ ≡ pageAfter (filledAt a bs) p
-fill-done noRoom k o bs p q₁ q₂ e e₁ e₂ = let z : _≡_ {A = ℕ} 0 1 = ap tag e in absurd (omega arith)
-fill-done (got j a) k o bs p q₁ q₂ e e₁ e₂ =
-    let v : View = a .after in
-    let f : o ≡ off (v .at j) = ap offsetOf e in
-    e₂ ∙ rw (e₁, f) (sym (run-append (a .edits) (fill j (withSlot v j (v .at j) bs) ∷ []) p ∙ fill-writes v j bs (run (a .edits) p)))
+module _ (k o : ℕ) (own p q₁ q₂ : List ℕ) where
+  pub written-done : (a : Alloc) → Ended p own a → At k o ≡ placeOf a → q₁ ≡ pageBare a p → q₂ ≡ put q₁ o own → q₂ ≡ pageAfter a p
+  written-done noRoom f e e₁ e₂ = let z : _≡_ {A = ℕ} 0 1 = ap tag e in absurd (omega arith)
+  written-done (got j a) f e e₁ e₂ = e₂ ∙ rw (e₁, ap offsetOf e) (sym (f .written))
 
-pub none-done : (a : Alloc) (bs p q : List ℕ) → NoRoom ≡ placeOf a → q ≡ pageAfter a p → q ≡ pageAfter (filledAt a bs) p
-none-done noRoom bs p q e e₁ = e₁
-none-done (got j a) bs p q e e₁ = let z : _≡_ {A = ℕ} 1 0 = ap tag e in absurd (omega arith)
+  pub fill-done : (a : Alloc) (bs : List ℕ) → Ended p own a → length bs ≡ length own → At k o ≡ placeOf a → q₁ ≡ pageBare a p → q₂ ≡ put q₁ o bs → q₂ ≡ pageAfter (filledAt a bs) p
+  fill-done noRoom bs f l e e₁ e₂ = let z : _≡_ {A = ℕ} 0 1 = ap tag e in absurd (omega arith)
+  fill-done (got j a) bs f l e e₁ e₂ = e₂ ∙ rw (e₁, ap offsetOf e) (sym (f .fills bs l))
+
+  -- its entry a target's, of the same place and length
+  pub target-done : (a : Alloc) (n : ℕ) (bs q₃ : List ℕ) → Ended p own a → Sized n a → length bs ≡ length own → 20 + 8 * k ≤ o → At k o ≡ placeOf a → q₁ ≡ pageBare a p
+      → q₂ ≡ put q₁ (12 + 8 * k) (slotBytes (Target o n)) → q₃ ≡ put q₂ o bs → q₃ ≡ pageAfter (targetAt a bs) p
+  target-done noRoom n bs q₃ f s l h e e₁ e₂ e₃ = let z : _≡_ {A = ℕ} 0 1 = ap tag e in absurd (omega arith)
+  target-done (got j a) n bs q₃ f s l h e e₁ e₂ e₃ =
+      let v : View = a .after in
+      let i : 12 + 8 * k + 8 ≤ o = omega arith in
+      let x : Slot = Target o n in
+      let w : run (a .edits) p ≡ put q₁ o own = f .written ∙ rw (e₁, ap offsetOf e) in
+      let g : put (put (put q₁ o own) (12 + 8 * k) (slotBytes x)) o bs ≡ q₃ =
+      ap (λ (q : List ℕ). put q o bs) (put-swap q₁ (12 + 8 * k) o (slotBytes x) own i) ∙ put-over (put q₁ (12 + 8 * k) (slotBytes x)) o own bs (omega arith) ∙ sym (rw (e₃, e₂)) in
+      sym (run-append (a .edits) (move j (withSlot v j (Target (off (v .at j)) (len (v .at j))) bs) ∷ []) p
+      ∙ move-writes v j (Target (off (v .at j)) (len (v .at j))) bs (run (a .edits) p) ∙ rw (s, w, ← ap offsetOf e, ← ap slotOf e) g)
+
+-- ---- a record that was relocated, as code that has its place finds it
+
+module _ (k : ℕ) (p q : List ℕ) where
+  pub moved-done : (r : Relocated) (j o : ℕ) → At j o ≡ placeOf (allocOf k r) → q ≡ pageAfter (allocOf k r) p → (q ≡ pageMoved r p) × (true ≡ wasMoved r)
+  moved-done refused j o e x = let z : _≡_ {A = ℕ} 0 1 = ap tag e in absurd (omega arith)
+  moved-done (moved a) j o e x = (x, refl)
+
+  pub refilled-done : (r : Relocated) (j o : ℕ) (bs : List ℕ) → At j o ≡ placeOf (allocOf k r) → q ≡ pageAfter (filledAt (allocOf k r) bs) p → (q ≡ pageMoved (refilled r k bs) p) × (true ≡ wasMoved r)
+  refilled-done refused j o bs e x = let z : _≡_ {A = ℕ} 0 1 = ap tag e in absurd (omega arith)
+  refilled-done (moved a) j o bs e x = (x, refl)
+
+-- ---- a refusal leaves the page
+
+module _ (p q : List ℕ) where
+  pub none-done : (a : Alloc) → NoRoom ≡ placeOf a → q ≡ pageBare a p → (q ≡ pageAfter a p) × ((bs : List ℕ) → (q ≡ pageAfter (filledAt a bs) p) × (q ≡ pageAfter (targetAt a bs) p))
+  none-done noRoom e e₁ = (e₁, λ bs. (e₁, e₁))
+  none-done (got j a) e e₁ = let z : _≡_ {A = ℕ} 1 0 = ap tag e in absurd (omega arith)
+
+  pub refused-done : (k : ℕ) (r : Relocated) → NoRoom ≡ placeOf (allocOf k r) → q ≡ pageBare (allocOf k r) p
+      → (q ≡ pageMoved r p) × (false ≡ wasMoved r) × ((bs : List ℕ) → q ≡ pageMoved (refilled r k bs) p)
+  refused-done k refused e e₁ = (e₁, refl, λ bs. e₁)
+  refused-done k (moved a) e e₁ = let z : _≡_ {A = ℕ} 1 0 = ap tag e in absurd (omega arith)
+
+  pub unmoved-done : (k : ℕ) (r : Relocated) (bs : List ℕ) → false ≡ wasMoved r → q ≡ pageMoved r p → q ≡ pageMoved (refilled r k bs) p
+  unmoved-done k refused bs e e₁ = e₁
+  unmoved-done k (moved a) bs e e₁ = let z : _≡_ {A = ℕ} 0 1 = cc in absurd (omega arith)

@@ -1,5 +1,5 @@
-pub mod AllocLaws
+pub mod AllocateLaws
+pub mod EraseLaws
 pub mod FillLaws
 pub mod OpenLaws
-pub mod RelocLaws
-pub mod StepLaws
+pub mod RecordLaws

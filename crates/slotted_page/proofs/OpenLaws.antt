@@ -1,9 +1,9 @@
 -- A fresh page: initialised, then as any other. Assumes nothing.
 use mathlib.Core.Path.{_≡_, refl, sym, ap, _∙_}
 use mathlib.Core.Bool.{true, false}
-use mathlib.Core.List.{List, [], _∷_, _++_}
+use mathlib.Core.List.{List, [], _++_}
 use mathlib.Core.Logic.{_≢_}
-use Prim.Native.Nat.{ℕ, zero, suc, _+_, _-_, _≤_}
+use Prim.Native.Nat.{ℕ, _+_, _-_, _≤_}
 use native.Mathlib.Omega.{arith}
 use lib.ListN.{length}
 use lib.Dec.{ltb, eqb}
@@ -11,28 +11,22 @@ use borrow.Author.Tests.{le-ltb, eq-eqb, ne-eqb}
 use Rattle.store.specs.Numbers.{put, zeros, toBE}
 use Rattle.store.specs.Slots.{slotBytes}
 use Rattle.store.specs.Page.{View, view, sound}
-use Rattle.store.specs.PageSteps.{opened, initialised, apply, commit, putHead, headBytes, withHead, allocated, allocate}
+use Rattle.store.specs.PageSteps.{opened, initialised, apply, putHead, headBytes, withHead, allocate}
 use Rattle.store.specs.Laws.Numbers.{length-put}
 use Rattle.store.specs.Laws.Edits.{head-view}
 use Rattle.store.specs.Laws.Views.{Sound, sound-fits}
 use Rattle.store.specs.Laws.SoundPage.{sound-init, sound-page}
+use Rattle.store.specs.declared.Slot.{Slot}
 use Rattle.store.specs.declared.Slot.the-variants.{Ordinary}
 use Rattle.store.specs.declared.Place.{Place}
 use Rattle.layout.specs.Run.{headOf}
-use Rattle.slotted_page.specs.Words.{pageAfter, placeOf}
-use Rattle.slotted_page.proofs.StepLaws.{commit-writes}
+use Rattle.places.specs.Words.{pageBare, placeOf}
+use Rattle.places.proofs.BareLaws.{run-bare}
+use Rattle.slotted_page.proofs.FillLaws.{put-over}
 
 pub head-init : (p : List ℕ) → put p 0 (headOf 0 0 16384 16372) ≡ putHead initialised p
 unfolding headOf
 head-init p = refl
-
--- what is written again
-put-over : (p : List ℕ) (i : ℕ) (a b : List ℕ) → length a ≤ length b → put (put p i a) i b ≡ put p i b
-put-over [] i a b h = refl
-put-over (x ∷ p) (suc i) a b h = ap {B = List ℕ} (λ r. x ∷ r) (put-over p i a b h)
-put-over (x ∷ p) zero [] b h = refl
-put-over (x ∷ p) zero (y ∷ a) [] h = absurd (omega arith)
-put-over (x ∷ p) zero (y ∷ a) (z ∷ b) h = ap {B = List ℕ} (λ r. z ∷ r) (put-over p zero a b (omega arith))
 
 pub init-view : (p : List ℕ) → length p ≡ 16384 → view (putHead initialised p) ≡ initialised
 unfolding apply
@@ -43,27 +37,26 @@ unfolding headOf
 head-over p c f d n = put-over p 0 (headBytes initialised) (toBE 2 c ++ (toBE 2 f ++ (toBE 4 d ++ toBE 4 n))) (omega arith)
 
 -- the plan writes the whole header: it does not see the one before
-init-alloc : (p : List ℕ) (n : ℕ) → n ≤ 16364 → pageAfter (allocate initialised n) (putHead initialised p) ≡ pageAfter (allocate initialised n) p
+init-reserve : (p : List ℕ) (n : ℕ) → n ≤ 16364 → pageBare (allocate initialised n) (putHead initialised p) ≡ pageBare (allocate initialised n) p
 unfolding allocate
-init-alloc p n h =
+init-reserve p n h =
     let t : ltb 16372 (n + 8) ≡ false = le-ltb 16372 (n + 8) (omega arith) in
     let u : View = withHead initialised 1 1 (16384 - n) (16372 - (n + 8)) in
-    let f : (q : List ℕ) → apply (commit 0 (allocated initialised n)) q ≡ put (put (put q 0 (headOf 1 1 (16384 - n) (16372 - (n + 8)))) 12 (slotBytes (Ordinary (16384 - n) n))) (16384 - n) (zeros n) =
-    λ q. commit-writes u 0 (Ordinary (16384 - n) n) (zeros n) q in
-    rw t (f (putHead initialised p) ∙ ap (λ (q : List ℕ). put (put q 12 (slotBytes (Ordinary (16384 - n) n))) (16384 - n) (zeros n)) (head-over p 1 1 (16384 - n) (16372 - (n + 8))) ∙ sym (f p))
+    let s : Slot = Ordinary (16384 - n) n in
+    rw t (run-bare [] u 0 s (zeros n) (putHead initialised p) ∙ ap (λ (q : List ℕ). put q 12 (slotBytes s)) (head-over p 1 1 (16384 - n) (16372 - (n + 8))) ∙ sym (run-bare [] u 0 s (zeros n) p))
 
 module _ (p : List ℕ) (n c : ℕ) (ec : c ≡ view p .slotCount) where
   pub fresh-done : (q₁ q₂ : List ℕ) (r : Place) → length p ≡ 16384 → n ≤ 16364 → c ≡ 0 → q₁ ≡ putHead initialised p
-      → (q₂ ≡ pageAfter (allocate (view q₁) n) q₁) × (r ≡ placeOf (allocate (view q₁) n))
-      → (q₂ ≡ pageAfter (allocate (opened (view p)) n) p) × (r ≡ placeOf (allocate (opened (view p)) n))
+      → (q₂ ≡ pageBare (allocate (view q₁) n) q₁) × (r ≡ placeOf (allocate (view q₁) n))
+      → (q₂ ≡ pageBare (allocate (opened (view p)) n) p) × (r ≡ placeOf (allocate (opened (view p)) n))
   fresh-done q₁ q₂ r whole h z e₁ e₂ =
       let t : eqb (view p .slotCount) 0 ≡ true = eq-eqb (view p .slotCount) 0 (sym ec ∙ z) in
       let s : view q₁ ≡ initialised = ap view e₁ ∙ init-view p whole in
-      rw t (e₂ .0 ∙ rw (s, e₁) (init-alloc p n h), e₂ .1 ∙ rw s)
+      rw t (e₂ .0 ∙ rw (s, e₁) (init-reserve p n h), e₂ .1 ∙ rw s)
 
   pub used-done : (q : List ℕ) (r : Place) → c ≢ 0
-      → (q ≡ pageAfter (allocate (view p) n) p) × (r ≡ placeOf (allocate (view p) n))
-      → (q ≡ pageAfter (allocate (opened (view p)) n) p) × (r ≡ placeOf (allocate (opened (view p)) n))
+      → (q ≡ pageBare (allocate (view p) n) p) × (r ≡ placeOf (allocate (view p) n))
+      → (q ≡ pageBare (allocate (opened (view p)) n) p) × (r ≡ placeOf (allocate (opened (view p)) n))
   used-done q r z e = let a : view p .slotCount ≢ 0 = omega arith in rw (ne-eqb (view p .slotCount) 0 a) e
 
   pub used-sound : length p ≡ 16384 → sound (view p) ≡ true → c ≢ 0 → Sound (view p)

@@ -9,7 +9,8 @@ ghost use lib.ListN.{length};
 ghost use Rattle.store.specs.Numbers.{toBE, fit};
 ghost use Rattle.store.specs.Page.{view, sound};
 ghost use Rattle.store.specs.PageSteps.{opened, allocate};
-ghost use Rattle.slotted_page.specs.Words.{pageAfter, placeOf, filledAt, targetAt};
+ghost use Rattle.places.specs.Words.{placeOf};
+ghost use Rattle.slotted_page.specs.Words.{pageAfter, filledAt, targetAt};
 
 pub fn insert_bytes(page: &mut [u8], bytes: &[u8]) -> Place
     requires { ⌜ (length (now page) ≡ 16384) × (sound (view (now page)) ≡ true) × (length (now bytes) ≤ 16364) ⌝ }

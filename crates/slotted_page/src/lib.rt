@@ -1,5 +1,4 @@
 // One page: its header, its slots, and the steps of document 01 on it.
-pub mod alloc;
 pub mod erase;
 pub mod insert;
 pub mod open;

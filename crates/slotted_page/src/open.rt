@@ -6,7 +6,8 @@ ghost use Prim.Native.Nat.{_≤_};
 ghost use lib.ListN.{length};
 ghost use Rattle.store.specs.Page.{view, sound};
 ghost use Rattle.store.specs.PageSteps.{opened, putHead, initialised, allocate};
-ghost use Rattle.slotted_page.specs.Words.{pageBare, pageAfter, placeOf, Inside, PastEntry};
+ghost use Rattle.places.specs.Words.{pageBare, placeOf, Inside, PastEntry};
+ghost use Rattle.slotted_page.specs.Words.{pageAfter};
 
 // The header of a page just initialised.
 fn initialize(page: &mut [u8])
@@ -25,9 +26,9 @@ pub fn reserve_opened(page: &mut [u8], size: usize) -> Place
     let c = layout::header::get_slot_count(page);
     if c == 0 {
         initialize(page);
-        return crate::alloc::reserve(page, size);
+        return places::reserve::reserve(page, size);
     }
-    crate::alloc::reserve(page, size)
+    places::reserve::reserve(page, size)
 }
 
 pub fn allocate_opened(page: &mut [u8], size: usize) -> Place

@@ -9,16 +9,12 @@ use std::{env, fs};
 
 const USAGE: &str = "judge classes | numbers | quick | long [SEED SEQUENCES] | faults | traces FILE | trace SEED COUNT [PAGES CALLS] | replay FILE..";
 
-/// The Rust's class of so many used bytes, as free_space_inventory.rs computes it.
-fn powf_class(used: usize) -> usize {
-    let (used, most) = (used as f64, 16372f64);
-    ((2f64.powf(used / (most / 4f64))).ceil() as u8).min(15) as usize
-}
-
+/// The class table against the published Rust's formula.
 fn classes() -> Result<(), String> {
     for used in 0..=16372 {
-        if powf_class(used) != model::inventory::class(used) {
-            return Err(format!("class of {used}: formula {}, table {}", powf_class(used), model::inventory::class(used)));
+        let (formula, table) = (original::class(used), model::inventory::class(used));
+        if formula != table {
+            return Err(format!("class of {used}: formula {formula}, table {table}"));
         }
     }
     println!("classes: all 16373 values equal");

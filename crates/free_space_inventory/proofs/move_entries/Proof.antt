@@ -1,5 +1,5 @@
 -- `free_space_inventory::move_entries` meets its contract. Assumes nothing.
-use mathlib.Core.Path.{_≡_, refl, _∙_, sym, ap}
+use mathlib.Core.Path.{_∙_}
 use mathlib.Core.Logic.{⊎-elim, inl, inr}
 use Prim.Native.Nat.{_-_, _<_}
 use native.Mathlib.Omega.{arith}
@@ -40,7 +40,7 @@ pages-less c = omega arith
 pages-again : tie.Need-pages-again Inv-loop μ-loop Inv-pages μ-pages
 pages-again c =
     let b = c .before .before .before in
-    (searched-next (b .before .pages .inv .0) (b .pages-test .taken) (omega (arith, c .before .read-nibble .ensures)), b .before .pages .inv .1)
+    (searched-next (b .before .pages .inv .0) (b .pages-test .taken) (omega (arith, c .before .read-nibble .ensures .0)), b .before .pages .inv .1)
 
 loop-holds : tie.Need-loop-holds Inv-loop μ-loop Inv-pages μ-pages
 loop-holds c = (placed-none _ _ _ _ _ (omega arith), c .before .before .before .before .pages .inv .1)
@@ -71,8 +71,8 @@ pages-again-2 c =
     let g = c .before .before .before in
     let b = g .before .before in
     let q = c .before .loop .inv .0 in (
-      searched-next (searched-here (b .before .pages .inv .0) (b .pages-test .taken) (g .read-nibble .ensures) q) (b .pages-test .taken)
-          (omega (arith, q .same (b .before .pages .p), g .read-nibble .ensures)),
+      searched-next (searched-here (b .before .pages .inv .0) (b .pages-test .taken) (g .read-nibble .ensures .0) q) (b .pages-test .taken)
+          (omega (arith, q .same (b .before .pages .p), g .read-nibble .ensures .0)),
       c .before .loop .inv .1,
     )
 
@@ -85,7 +85,7 @@ joined c =
     (λ w.
     rw (w .13, w .14)
     (left-over
-    (searched-here (w .1 .inv .0) (w .2 .taken) (w .4 .ensures)
+    (searched-here (w .1 .inv .0) (w .2 .taken) (w .4 .ensures .0)
     (placed-more _ (w .9 .ensures) (w .6 .inv .0) (w .6 .inv .1) (w .7 .taken)
     (omega (arith, w .6 .inv .0 .hi, w .1 .inv .0 .hi, c .before .before .pre .1 .1))))
     (inr (w .12 .taken))))

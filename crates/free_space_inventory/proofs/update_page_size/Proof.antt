@@ -1,9 +1,8 @@
 -- `free_space_inventory::update_page_size` meets its contract. Assumes nothing.
-use Prim.Native.Nat.{_+_, _-_, _*_, _/_, _≤_}
-use mathlib.Core.Path.{_≡_, refl, _∙_, sym, ap}
+use mathlib.Core.Path.{_∙_, ap}
 use native.Mathlib.Omega.{arith}
 use Rattle.store.specs.Inventory.{updated, update}
-use Rattle.free_space_inventory.proofs.Update.{class-le, nibble-lt, run-le, update-none, update-some}
+use Rattle.free_space_inventory.proofs.Update.{class-le, update-none, update-some}
 use borrow.Author.Needs.{needs}
 use Rattle.free_space_inventory.proofs.update_page_size.Statement.{statement}
 use Rattle.free_space_inventory.proofs.update_page_size.Tie as tie
@@ -28,24 +27,11 @@ write-nibble-requires c κs = omega (arith, class-le _ _ (c .before .before .bef
 
 run-end-requires : tie.Need-run-end-requires
 run-end-requires c κs =
-    let m = c .before .before .before in
-    omega (arith, m .write-nibble .kept .0, class-le _ _ (m .before .before .before .before .before .class-of .ensures))
+    let w = c .before .before .before in
+    omega (arith, class-le _ _ (w .before .before .before .before .before .class-of .ensures))
 
 move-entries-requires : tie.Need-move-entries-requires
-move-entries-requires c κs =
-    let m = c .before .before .before .before .before in
-    let b = m .before .before .before in
-    let k = b .before .before .class-of in
-    let o = nibble-lt (b .before .before .before .before .args .inventory .now) (b .before .before .before .before .args .page + 240) (b .before .before .before .slice-known .given _ .fits) in
-    omega (
-      arith,
-      m .write-nibble .kept .0,
-      class-le _ _ (k .ensures),
-      b .read-nibble .ensures,
-      o,
-      c .before .run-end .ensures,
-      run-le (m .write-nibble .last .0) (b .before .before .before .before .args .page) (b .read-nibble .result) (k .result - b .read-nibble .result),
-    )
+move-entries-requires c κs = search needs
 
 pull-entries-requires : tie.Need-pull-entries-requires
 pull-entries-requires c κs = search needs
@@ -62,7 +48,7 @@ returns c =
     let m = e .before .before .before .before in
     let t = m .before .before in
     let k = t .before .before .before .class-of in
-    update-some _ _ _ _ _ (t .before .read-nibble .ensures) (t .if1 .taken) _ _ _ _ (m .write-nibble .ensures) (e .run-end .ensures)
+    update-some _ _ _ _ _ (t .before .read-nibble .ensures .0) (t .if1 .taken) _ _ _ _ (m .write-nibble .ensures) (e .run-end .ensures .0)
     (v .move-entries .ensures) (l .pull-entries .ensures)
     ∙ ap (updated _ _ _) (k .ensures)
 
@@ -73,7 +59,7 @@ returns-2 : tie.Need-returns-2
 unfolding update
 returns-2 c =
     let k = c .before .before .before .class-of in
-    update-none _ _ _ _ _ (c .before .read-nibble .ensures) (c .if1 .left) ∙ ap (updated _ _ _) (k .ensures)
+    update-none _ _ _ _ _ (c .before .read-nibble .ensures .0) (c .if1 .left) ∙ ap (updated _ _ _) (k .ensures)
 
 pub update-page-size-spec : {M : Type 1} → statement M
 update-page-size-spec =

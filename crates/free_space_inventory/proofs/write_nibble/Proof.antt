@@ -1,6 +1,4 @@
 -- `free_space_inventory::write_nibble` meets its contract. Assumes nothing.
-use Prim.Native.Nat.{_/_}
-use native.Mathlib.Omega.{arith}
 use borrow.Author.Tests.{eq-eqb, ne-eqb}
 use Rattle.store.specs.Inventory.{setNibble}
 use borrow.Author.Needs.{needs}
@@ -20,7 +18,7 @@ add-inventory : tie.Need-add-inventory
 add-inventory c = search needs
 
 cast-inventory : tie.Need-cast-inventory
-cast-inventory c = omega (arith, c .before .before .slice-known2 .given (c .before .before .before .before .args .j / 2))
+cast-inventory c = search needs
 
 slice-write-inventory : tie.Need-slice-write-inventory
 slice-write-inventory c = search needs
@@ -42,14 +40,14 @@ same-length c = search needs
 
 returns : tie.Need-returns
 unfolding setNibble
-returns c = rw (eq-eqb _ _ (c .if1 .taken), c .before .wide .ensures)
+returns c = rw (eq-eqb _ _ (c .if1 .taken), c .before .wide .ensures .0)
 
 same-length-2 : tie.Need-same-length-2
 same-length-2 c = search needs
 
 returns-2 : tie.Need-returns-2
 unfolding setNibble
-returns-2 c = rw (ne-eqb _ _ (c .if1 .left), c .before .wide .ensures)
+returns-2 c = rw (ne-eqb _ _ (c .if1 .left), c .before .wide .ensures .0)
 
 pub write-nibble-spec : {M : Type 1} → statement M
 write-nibble-spec =

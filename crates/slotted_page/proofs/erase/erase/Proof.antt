@@ -3,7 +3,7 @@ use mathlib.Core.Path.{_∙_, ap}
 use native.Mathlib.Omega.{arith}
 use Rattle.store.specs.Slots.{len}
 use Rattle.store.specs.Page.{view}
-use Rattle.slotted_page.proofs.StepLaws.{erase-done, start-done}
+use Rattle.slotted_page.proofs.EraseLaws.{erase-done, start-done}
 use borrow.Author.Needs.{needs}
 use Rattle.slotted_page.proofs.erase.erase.Statement.{statement}
 use Rattle.slotted_page.proofs.erase.erase.Tie as tie

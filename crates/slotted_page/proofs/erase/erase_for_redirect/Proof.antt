@@ -2,7 +2,7 @@
 use mathlib.Core.Path.{_∙_}
 use Rattle.store.specs.Page.{view}
 use Rattle.store.specs.Slots.{len}
-use Rattle.slotted_page.proofs.StepLaws.{redirect-done, start-done}
+use Rattle.slotted_page.proofs.EraseLaws.{redirect-done, start-done}
 use mathlib.Core.Path.{ap}
 use native.Mathlib.Omega.{arith}
 use borrow.Author.Needs.{needs}

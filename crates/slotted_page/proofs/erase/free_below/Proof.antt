@@ -5,7 +5,7 @@ use native.Mathlib.Omega.{arith}
 use Rattle.store.specs.Slots.{isFree}
 use Rattle.store.specs.Page.{view}
 use Rattle.store.specs.PageSteps.{freeBelow}
-use Rattle.slotted_page.proofs.StepLaws.{below-more, below-ends}
+use Rattle.slotted_page.proofs.EraseLaws.{below-more, below-ends}
 use Rattle.slotted_page.proofs.erase.free_below.Statement.{statement}
 use Rattle.slotted_page.proofs.erase.free_below.Tie as tie
 use Rattle.slotted_page.proofs.erase.free_below.Reads as reads

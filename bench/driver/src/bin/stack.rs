@@ -1,0 +1,101 @@
+//! `stack`: the most stack, in bytes, that each call of the archive took over generated sequences of
+//! calls, damaged pages and untrue inventories among them.
+//!
+//! The stack below the caller is painted before each call; what is no longer painted afterwards was
+//! used. The crate's own frames are counted as well.
+
+use hekatosuy::{SlottedPageSegment, SlottedPages};
+use judge::sequence::{any_style, few_pages, Event, Sequence};
+use std::arch::asm;
+use std::hint::black_box;
+use std::ptr::{read_volatile, write_volatile};
+use store::{record, Call, PAGE_SIZE};
+
+const SEQUENCES: u64 = 400;
+/// The stack of the thread, how much of it is painted, and how close to the caller.
+const STACK: usize = 1 << 20;
+const PAINTED: usize = 1 << 18;
+const MARGIN: usize = 256;
+const PAINT: u64 = 0xA5C3_96E1_0F5A_B4D2;
+
+#[inline(always)]
+fn stack_pointer() -> usize {
+    let place;
+    unsafe { asm!("mov {}, rsp", out(reg) place, options(nomem, nostack, preserves_flags)) };
+    place
+}
+
+/// How far below its caller a call reached.
+#[inline(never)]
+fn depth(call: &mut dyn FnMut() -> bool) -> usize {
+    let top = (stack_pointer() - MARGIN) & !7;
+    let words = (top - PAINTED..top).step_by(8);
+    words.clone().for_each(|word| unsafe { write_volatile(word as *mut u64, PAINT) });
+    black_box(call());
+    let lowest = words.clone().find(|&word| unsafe { read_volatile(word as *const u64) } != PAINT);
+    top + MARGIN - lowest.unwrap_or(top)
+}
+
+const CALLS: [&str; 7] =
+    ["insert_record", "allocate", "get_record", "write_record", "resize_record", "erase_record", "scan, a step"];
+
+struct Lent {
+    segment: Vec<u8>,
+    inventory: Vec<u8>,
+}
+
+impl Lent {
+    /// Which call it was, and its depth.
+    fn call(&mut self, call: Call) -> (usize, usize) {
+        if call == Call::Scan {
+            return (6, self.scan());
+        }
+        let mut calls = SlottedPageSegment::new(&mut self.segment, &mut self.inventory);
+        match call {
+            Call::Insert { length, seed } => {
+                let data = record(length, seed);
+                (0, depth(&mut || calls.insert_record(&data).is_ok()))
+            }
+            Call::Allocate { size } => (1, depth(&mut || calls.allocate(size as usize).is_ok())),
+            Call::Read { id } => (2, depth(&mut || calls.get_record(id.into()).is_ok())),
+            Call::Write { id, length, seed } => {
+                let data = record(length, seed);
+                (3, depth(&mut || calls.write_record(id.into(), &data).is_ok()))
+            }
+            Call::Resize { id, size } => (4, depth(&mut || calls.resize_record(id.into(), size as usize).is_ok())),
+            Call::Erase { id } => (5, depth(&mut || calls.erase_record(id.into()).is_ok())),
+            Call::Scan => unreachable!("a scan has steps of its own"),
+        }
+    }
+
+    /// The deepest of the first steps.
+    fn scan(&self) -> usize {
+        let mut scan = SlottedPages::new(&self.segment).scan();
+        (0..20).map(|_| depth(&mut || scan.next().is_some())).max().unwrap_or(0)
+    }
+}
+
+fn run(seed: u64, most: &mut [usize; 7]) {
+    let n = few_pages(seed);
+    let mut lent = Lent { segment: vec![0; n * PAGE_SIZE], inventory: vec![0; PAGE_SIZE] };
+    let mut sequence = Sequence::new(seed, any_style(seed), n, 100);
+    while let Some(event) = sequence.next(&lent.segment) {
+        match event {
+            Event::Call(call) => {
+                let (kind, depth) = lent.call(call);
+                most[kind] = most[kind].max(depth);
+            }
+            Event::Pokes(pokes) => pokes.iter().for_each(|poke| poke.apply(&mut lent.segment, &mut lent.inventory)),
+        }
+    }
+}
+
+fn main() {
+    let measured = std::thread::Builder::new().stack_size(STACK).spawn(|| {
+        let mut most = [0; 7];
+        (1..=SEQUENCES).for_each(|seed| run(seed, &mut most));
+        most
+    });
+    let most = measured.expect("a thread is made").join().expect("all calls ended");
+    CALLS.iter().zip(most).for_each(|(call, most)| println!("{most} {call}"));
+}

@@ -1,0 +1,56 @@
+-- `lent_steps::set_redirect_on` meets its contract. Assumes nothing.
+use denote.Ref.{now}
+use Rattle.store.specs.Page.{View, view}
+use Rattle.store.specs.Laws.Calls.{page-ok}
+use Rattle.slotted_page.specs.Words.{redirectPlan}
+use Rattle.lent_steps.specs.Lent.{lent-entry, lent-plan}
+use borrow.Author.Needs.{needs}
+use Rattle.lent_steps.proofs.set_redirect_on.Statement.{statement}
+use Rattle.lent_steps.proofs.set_redirect_on.Tie as tie
+use Rattle.lent_steps.proofs.set_redirect_on.Reads as reads
+use Rattle.lent_steps.proofs.set_redirect_on.Lts as lts
+use Rattle.slotted_page.proofs.erase.set_redirect.Reads as set-redirect-reads
+
+mul-a : tie.Need-mul-a
+mul-a c = search needs
+
+add-e : tie.Need-add-e
+add-e c = search needs
+
+sub-set-redirect : tie.Need-sub-set-redirect
+sub-set-redirect c = search needs
+
+part-set-redirect-start : tie.Need-part-set-redirect-start
+part-set-redirect-start c = search needs
+
+part-set-redirect-end : tie.Need-part-set-redirect-end
+part-set-redirect-end c = search needs
+
+set-redirect-requires : tie.Need-set-redirect-requires
+set-redirect-requires c κs =
+    let z = c .before .before in
+    (lent-entry (now (z .args .segment)) (z .args .p) (z .args .k) (z .pre .0) (z .pre .1) (z .pre .2), z .pre .3)
+
+same-length : tie.Need-same-length
+same-length c = search needs
+
+returns : tie.Need-returns
+returns c =
+    let z = c .before .before .before .before .before in
+    let x = c .before .before .set-redirect in
+    let s = now (z .args .segment) in
+    let o = page-ok s (z .args .p) (z .args .k) (z .pre .0) (z .pre .1) (z .pre .2) in
+    lent-plan s (z .args .p) (z .pre .0) view (o .seen) (λ (v : View). redirectPlan v (z .args .k) (z .args .id)) (x .last .0) (x .ensures)
+
+pub set-redirect-on-spec : {M : Type 1} → statement M
+set-redirect-on-spec =
+    tie.close
+    (tie.spec
+    mul-a
+    add-e
+    sub-set-redirect
+    part-set-redirect-start
+    part-set-redirect-end
+    set-redirect-requires
+    same-length
+    returns)

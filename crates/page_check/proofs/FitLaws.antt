@@ -1,0 +1,175 @@
+-- All slots: one more slot, and the whole page. Assumes nothing.
+use Prim.Native.Nat.{ℕ, zero, suc, _+_, _*_, _/_, _%_, _^_, _≤_, _<_}
+use mathlib.Core.Path.{_≡_, refl, sym, ap, _∙_}
+use mathlib.Core.Bool.{Bool, true, false, cond}
+use mathlib.Core.List.{List}
+use mathlib.Core.Logic.{_⊎_, inl, inr, _≢_}
+use native.Mathlib.Omega.{arith}
+use native.Mathlib.Numerals.{add-one}
+use native.Mathlib.Decide.{decLt, ℕ-discrete}
+use lib.ListN.{length, drop, length-take, length-drop}
+use lib.Dec.{eqb, ltb}
+use borrow.Author.Tests.{le-ltb, eq-eqb, ne-eqb}
+use Rattle.store.specs.Numbers.{cut, be, sum}
+use Rattle.store.specs.Slots.{off, len, isTarget, slotOf, ofKind}
+use Rattle.store.specs.Page.{View, view, count, slotAt, sound}
+use Rattle.store.specs.Laws.Slots.{Codable}
+use Rattle.store.specs.Laws.Edits.{Apart}
+use Rattle.store.specs.Laws.Views.{Sound}
+use Rattle.store.specs.Laws.SoundPage.{sound-page, sound-test}
+use Rattle.store.specs.declared.Slot.{Slot}
+use Rattle.store.specs.declared.Slot.the-variants.{Free}
+use Rattle.page_check.specs.Fit.{Allowed, Runs, RecordsFit, Total, HeaderFits}
+use Rattle.page_check.proofs.SlotLaws.{refuted}
+
+-- ---- one more slot
+
+pub fit-none : (v : View) (f d : ℕ) → RecordsFit v 0 f d
+fit-none v f d = record { allowed = λ j h. absurd (omega arith); above = λ j h. absurd (omega arith); apart = λ i j g h. absurd (omega arith) }
+
+pub fit-lower : (v : View) (n f d e : ℕ) → RecordsFit v n f d → e ≤ d → RecordsFit v n f e
+fit-lower v n f d e r h = record { allowed = r .allowed; above = λ j g p. omega (arith, r .above j g p); apart = r .apart }
+
+pub fit-more : (v : View) (k f d : ℕ) → RecordsFit v k f d → Allowed (v .at k) k f 16384 → (0 < len (v .at k) → d ≤ off (v .at k)) → ((i : ℕ) → i < k → Apart (v .at i) (v .at k)) → RecordsFit v (k + 1) f d
+fit-more v k f d r a o s = record {
+  allowed = λ j h. allowed j h (ℕ-discrete j k);
+  above = λ j h. above j h (ℕ-discrete j k);
+  apart = λ i j g h. apart i j g h (ℕ-discrete j k);
+}
+  where
+    allowed : (j : ℕ) → j < k + 1 → Dec (j ≡ k) → Allowed (v .at j) j f 16384
+    allowed j h (yes e) = rw e a
+    allowed j h (no e) = r .allowed j (omega arith)
+
+    above : (j : ℕ) → j < k + 1 → Dec (j ≡ k) → 0 < len (v .at j) → d ≤ off (v .at j)
+    above j h (yes e) = rw e o
+    above j h (no e) = r .above j (omega arith)
+
+    apart : (i j : ℕ) → i < j → j < k + 1 → Dec (j ≡ k) → Apart (v .at i) (v .at j)
+    apart i j g h (yes e) = rw e (s i (omega arith))
+    apart i j g h (no e) = r .apart i j g (omega arith)
+
+pub total-none : (v : View) → Total v 0 0
+total-none v = record { is = refl; small = omega arith }
+
+pub total-more : (v : View) (k t l : ℕ) → Total v k t → l ≡ len (v .at k) → l ≤ 16384 → Total v (k + 1) (t + l)
+total-more v k t l s e h = record {
+  is = let g : sum (k + 1) (λ j. len (v .at j)) ≡ len (v .at k) + sum k (λ j. len (v .at j)) = ap (λ (m : ℕ). sum m (λ j. len (v .at j))) (add-one k) in omega (arith, s .is, g);
+  small = omega (arith, s .small);
+}
+
+-- the record of slot k lies below all before
+pub fit-under : (v : View) (k f low o l : ℕ) → low ≤ 16384 → RecordsFit v k f low → Allowed (v .at k) k f low → Runs (v .at k) low o l → RecordsFit v (k + 1) f o
+fit-under v k f low o l h r a s =
+    fit-more v k f o (fit-lower v k f low o r (omega (arith, s .down)))
+    (record { under = omega (arith, a .under); long = a .long; used = a .used })
+    (λ p. omega (arith, s .start (omega (arith, s .size))))
+    (λ i g p q. inr (omega (arith, r .above i g p, a .under)))
+
+-- ---- the page
+
+kind-codable : (k w : ℕ) → w < 2 ^ 62 → Codable (ofKind k w)
+kind-codable zero w h = (omega arith, omega arith)
+kind-codable (suc zero) w h = tt
+kind-codable (suc (suc zero)) w h = h
+kind-codable (suc (suc (suc k))) w h = (omega arith, omega arith)
+
+pub past-free : (p : List ℕ) (k : ℕ) → view p .slotCount ≤ k → view p .at k ≡ Free
+unfolding view
+past-free p k h = rw (le-ltb k (count p) h)
+
+entry-codable : (e : ℕ) (b : Bool) → Codable (cond b (slotOf e) Free)
+entry-codable e true = kind-codable (e / 2 ^ 62) (e % 2 ^ 62) (omega arith)
+entry-codable e false = tt
+
+page-codable : (p : List ℕ) (k : ℕ) → Codable (view p .at k)
+unfolding view
+page-codable p k = entry-codable (be (cut p (12 + 8 * k) 8)) (ltb k (count p))
+
+-- a slot count of 0
+pub fresh-sound : (p : List ℕ) (n : ℕ) → n ≡ view p .slotCount → n ≡ 0 → true ≡ sound (view p)
+unfolding sound
+fresh-sound p n e z = sym (rw (eq-eqb (view p .slotCount) 0 (sym e ∙ z)))
+
+module _ (p : List ℕ) (n f d : ℕ) (whole : length p ≡ 16384) (en : n ≡ view p .slotCount) (ef : f ≡ view p .firstFree) (ed : d ≡ view p .dataStart) where
+  pub sound-header : Sound (view p) → HeaderFits (view p) n f d
+  sound-header s = rw (en, ef, ed) (record { few = s .few; first = s .first≤; free = s .first-free; dir = s .dir; start = s .start≤ })
+
+  pub sound-records : Sound (view p) → RecordsFit (view p) n f d
+  sound-records s =
+      rw (en, ef, ed)
+      (record {
+        allowed = λ j h. record { under = s .high j; long = s .targets j; used = s .lower j };
+        above = λ j h. s .low j;
+        apart = λ i j g h. s .apart i j (λ e. omega arith);
+      })
+
+  -- a page that is neither fresh nor sound
+  pub unsound : n ≢ 0 → (Sound (view p) → ⊥) → false ≡ sound (view p)
+  unsound z h = go (sound (view p)) refl
+    where
+      go : (b : Bool) → sound (view p) ≡ b → false ≡ sound (view p)
+      go true e = absurd (h (sound-page p whole (ne-eqb (view p .slotCount) 0 (λ q. z (en ∙ q))) e))
+      go false e = sym e
+
+  -- a slot past the last is free, and what is asked of one that is counted holds of it
+  module _ (h : HeaderFits (view p) n f d) (r : RecordsFit (view p) n f d) where
+    high : (j : ℕ) → Dec (j < n) → off (view p .at j) + len (view p .at j) ≤ 16384
+    high j (yes g) = r .allowed j g .under
+    high j (no g) = rw (past-free p j (omega arith)) (omega arith)
+
+    low : (j : ℕ) → Dec (j < n) → 0 < len (view p .at j) → d ≤ off (view p .at j)
+    low j (yes g) = r .above j g
+    low j (no g) = rw (past-free p j (omega arith)) (λ x. absurd (omega arith))
+
+    long : (j : ℕ) → Dec (j < n) → isTarget (view p .at j) ≡ true → 8 ≤ len (view p .at j)
+    long j (yes g) = r .allowed j g .long
+    long j (no g) = rw (past-free p j (omega arith)) refuted
+
+    swap : (s t : Slot) → Apart s t → Apart t s
+    swap s t a x y = go (a y x)
+      where
+        go : (off s + len s ≤ off t) ⊎ (off t + len t ≤ off s) → (off t + len t ≤ off s) ⊎ (off s + len s ≤ off t)
+        go (inl e) = inr e
+        go (inr e) = inl e
+
+    ordered : (i j : ℕ) → i < j → Dec (j < n) → Apart (view p .at i) (view p .at j)
+    ordered i j g (yes m) = r .apart i j g m
+    ordered i j g (no m) = rw (past-free p j (omega arith)) (λ x y. absurd (omega arith))
+
+    apart : (i j : ℕ) → i ≢ j → Dec (i < j) → Apart (view p .at i) (view p .at j)
+    apart i j e (yes g) = ordered i j g (decLt j n)
+    apart i j e (no g) = swap (view p .at j) (view p .at i) (ordered j i (omega arith) (decLt i n))
+
+    lens : (j : ℕ) → length (view p .bytes j) ≡ len (view p .at j)
+    unfolding view
+    lens j = length-take (len (slotAt p j)) (drop (off (slotAt p j)) p) ∙ omega (arith, length-drop (off (slotAt p j)) p, high j (decLt j n))
+
+    all-sound : view p .freeSpace + 8 * view p .slotCount + sum (view p .slotCount) (λ j. len (view p .at j)) ≡ 16372 → Sound (view p)
+    all-sound e = record {
+      few = omega (arith, h .few);
+      first≤ = omega (arith, h .first);
+      first-free = rw (← ef) (h .free);
+      lower = λ j g. r .allowed j (omega (arith, h .first)) .used (omega arith);
+      dir = omega (arith, h .dir);
+      start≤ = omega (arith, h .start);
+      low = λ j. rw (← ed) (low j (decLt j n));
+      high = λ j. high j (decLt j n);
+      apart = λ i j g. apart i j g (decLt i j);
+      targets = λ j. long j (decLt j n);
+      sums = e;
+      codable = page-codable p;
+      past = past-free p;
+      lens = lens;
+    }
+
+    -- all that is left is the free space
+    pub sound-space : n ≢ 0 → (a t : ℕ) → a ≡ view p .freeSpace → Total (view p) n t → eqb (a + 8 * n + t) 16372 ≡ sound (view p)
+    sound-space z a t ea s = go (ℕ-discrete (a + 8 * n + t) 16372)
+      where
+        sums : a + 8 * n + t ≡ view p .freeSpace + 8 * view p .slotCount + sum (view p .slotCount) (λ j. len (view p .at j))
+        sums = (λ i. ea i + 8 * n + s .is i) ∙ (λ i. view p .freeSpace + 8 * en i + sum (en i) (λ j. len (view p .at j)))
+
+        go : Dec (a + 8 * n + t ≡ 16372) → eqb (a + 8 * n + t) 16372 ≡ sound (view p)
+        go (yes e) = eq-eqb (a + 8 * n + t) 16372 e ∙ sym (sound-test (view p) (all-sound (sym sums ∙ e)))
+        go (no e) = ne-eqb (a + 8 * n + t) 16372 e ∙ unsound z (λ q. e (sums ∙ q .sums))

@@ -1,0 +1,32 @@
+-- One bit for each byte of the page, in 256 words. Assumes nothing.
+use Prim.Native.Nat.{ℕ, zero, suc, _/_, _%_, _≤_, _<_}
+use mathlib.Core.Path.{_≡_}
+use mathlib.Core.List.{List}
+use lib.ListN.{getD}
+
+-- bit j of x
+unfoldable pub bit : ℕ → ℕ → ℕ
+bit zero x = x % 2
+bit (suc j) x = bit j (x / 2)
+
+-- the bits of m from a on below b are set, and no others
+pub record Mask (m a b : ℕ) : Type 0 where
+  pub within : (j : ℕ) → a ≤ j → j < b → bit j m ≡ 1
+  pub outside : (j : ℕ) → (a ≤ j → j < b → ⊥) → bit j m ≡ 0
+
+-- the mark of byte i
+unfoldable pub mark : List ℕ → ℕ → ℕ
+mark u i = bit (i % 64) (getD u (i / 64) 0)
+
+abbrev pub Blank : List ℕ → Type 0
+Blank u = (i : ℕ) → mark u i ≡ 0
+
+-- the bytes from o on below e have no mark
+abbrev pub Clear : List ℕ → ℕ → ℕ → Type 0
+Clear u o e = (i : ℕ) → o ≤ i → i < e → mark u i ≡ 0
+
+-- From u to v they are marked, and no other mark has changed.
+pub record Claimed (u v : List ℕ) (o e : ℕ) : Type 0 where
+  pub clear : Clear u o e
+  pub taken : (i : ℕ) → o ≤ i → i < e → mark v i ≡ 1
+  pub keeps : (i : ℕ) → (o ≤ i → i < e → ⊥) → mark v i ≡ mark u i

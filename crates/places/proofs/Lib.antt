@@ -1,0 +1,3 @@
+pub mod BareLaws
+pub mod RelocationLaws
+pub mod ReserveLaws

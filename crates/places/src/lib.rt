@@ -1,0 +1,3 @@
+// Where a record goes: allocate and relocate but for its bytes.
+pub mod relocation;
+pub mod reserve;

@@ -1,0 +1,27 @@
+-- `slotted_page::erase::set_redirect` meets its contract. Assumes nothing.
+use mathlib.Core.Path.{sym, _∙_}
+use mathlib.Core.List.{[]}
+use Rattle.store.specs.Page.{view}
+use Rattle.store.specs.Laws.Numbers.{put-nil}
+use Rattle.store.specs.declared.Slot.the-variants.{Redirect}
+use Rattle.slotted_page.proofs.FillLaws.{move-writes}
+use borrow.Author.Needs.{needs}
+use Rattle.slotted_page.proofs.erase.set_redirect.Statement.{statement}
+use Rattle.slotted_page.proofs.erase.set_redirect.Tie as tie
+use Rattle.slotted_page.proofs.erase.set_redirect.Reads as reads
+use Rattle.slotted_page.proofs.erase.set_redirect.Lts as lts
+use Rattle.layout.proofs.slots.write_slot.Reads as write-slot-reads
+
+write-slot-requires : tie.Need-write-slot-requires
+write-slot-requires c κs = search needs
+
+same-length : tie.Need-same-length
+same-length c = search needs
+
+returns : tie.Need-returns
+returns c =
+    let s = c .before .before .before .before .before .args in
+    c .before .before .write-slot .ensures ∙ sym (move-writes (view (s .page .now)) (s .k) (Redirect (s .id)) [] (s .page .now) ∙ put-nil _ 0)
+
+pub set-redirect-spec : {M : Type 1} → statement M
+set-redirect-spec = tie.close (tie.spec write-slot-requires same-length returns)

@@ -1,0 +1,25 @@
+-- `slotted_page::record::resize` meets its contract. Assumes nothing.
+use mathlib.Core.Path.{_∙_}
+use Rattle.slotted_page.proofs.RecordLaws.{again-done}
+use borrow.Author.Needs.{needs}
+use Rattle.slotted_page.proofs.record.resize.Statement.{statement}
+use Rattle.slotted_page.proofs.record.resize.Tie as tie
+use Rattle.slotted_page.proofs.record.resize.Reads as reads
+use Rattle.slotted_page.proofs.record.resize.Lts as lts
+use Rattle.slotted_page.proofs.relocate.relocate.Reads as relocate-reads
+
+relocate-requires : tie.Need-relocate-requires
+relocate-requires c κs = search needs
+
+same-length : tie.Need-same-length
+same-length c = search needs
+
+returns : tie.Need-returns
+returns c =
+    let u = c .before .before in
+    let b = u .before .before .before in
+    let a = b .args in
+    (u .relocate .ensures .0 ∙ again-done (a .page .now) (a .k) (a .size) (b .pre .0) (b .pre .1) (b .pre .2), u .relocate .ensures .1)
+
+pub resize-spec : {M : Type 1} → statement M
+resize-spec = tie.close (tie.spec relocate-requires same-length returns)

@@ -1,0 +1,90 @@
+-- `slotted_page::relocate::relocate` meets its contract. Assumes nothing.
+use mathlib.Core.Path.{ap}
+use native.Mathlib.Omega.{arith}
+use Rattle.store.specs.Slots.{len}
+use borrow.Author.Needs.{needs}
+use Rattle.slotted_page.proofs.relocate.relocate.Statement.{statement}
+use Rattle.slotted_page.proofs.relocate.relocate.Tie as tie
+use Rattle.slotted_page.proofs.relocate.relocate.Reads as reads
+use Rattle.slotted_page.proofs.relocate.relocate.Lts as lts
+use Rattle.layout.proofs.header.get_data_start.Reads as get-data-start-reads
+use Rattle.layout.proofs.header.get_slot_count.Reads as get-slot-count-reads
+use Rattle.layout.proofs.slots.get_slot.Reads as get-slot-reads
+use Rattle.layout.proofs.slots.len_of.Reads as len-of-reads
+use Rattle.slotted_page.proofs.relocate.grow.Reads as grow-reads
+use Rattle.slotted_page.proofs.relocate.grow_packed.Reads as grow-packed-reads
+use Rattle.slotted_page.proofs.relocate.settle.Reads as settle-reads
+
+get-slot-requires : tie.Need-get-slot-requires
+get-slot-requires c κs = search needs
+
+len-of-requires : tie.Need-len-of-requires
+len-of-requires c κs = search needs
+
+settle-requires : tie.Need-settle-requires
+settle-requires c κs =
+    let e = c .before in
+    let l = c .before .before in
+    let g = c .before .before .before in
+    let b = g .before .before .before in
+    (b .pre .0, b .pre .1, b .pre .2, omega (arith, ap len (g .get-slot .ensures .0), l .len-of .ensures, e .if1 .taken))
+
+same-length : tie.Need-same-length
+same-length c = search needs
+
+returns : tie.Need-returns
+returns c = search needs
+
+get-slot-count-requires : tie.Need-get-slot-count-requires
+get-slot-count-requires c κs = search needs
+
+get-data-start-requires : tie.Need-get-data-start-requires
+get-data-start-requires c κs = search needs
+
+mul-if2 : tie.Need-mul-if2
+mul-if2 c = search needs
+
+add-if2 : tie.Need-add-if2
+add-if2 c = search needs
+
+sub-if2 : tie.Need-sub-if2
+sub-if2 c = search needs
+
+grow-packed-requires : tie.Need-grow-packed-requires
+grow-packed-requires c κs = search needs
+
+same-length-2 : tie.Need-same-length-2
+same-length-2 c = search needs
+
+returns-2 : tie.Need-returns-2
+returns-2 c = search needs
+
+grow-requires : tie.Need-grow-requires
+grow-requires c κs = search needs
+
+same-length-3 : tie.Need-same-length-3
+same-length-3 c = search needs
+
+returns-3 : tie.Need-returns-3
+returns-3 c = search needs
+
+pub relocate-spec : {M : Type 1} → statement M
+relocate-spec =
+    tie.close
+    (tie.spec
+    get-slot-requires
+    len-of-requires
+    settle-requires
+    same-length
+    returns
+    get-slot-count-requires
+    get-data-start-requires
+    mul-if2
+    add-if2
+    sub-if2
+    grow-packed-requires
+    same-length-2
+    returns-2
+    grow-requires
+    same-length-3
+    returns-3)

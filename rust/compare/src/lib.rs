@@ -1,0 +1,85 @@
+//! The crate `hekatosuy` as a store that the judge can compare.
+
+use hekatosuy::{Refusal, Rid, SlottedPageSegment, SlottedPages};
+use store::{Answer, Found, Store, DONE};
+
+/// Bytes of any length, lent anew for each call.
+pub struct Ours {
+    segment: Vec<u8>,
+    inventory: Vec<u8>,
+}
+
+fn answer<T>(result: &Result<T, Refusal>) -> Answer {
+    result.as_ref().err().map_or(DONE, |refusal| Answer::Number(refusal.number()))
+}
+
+fn new_id(result: Result<Rid, Refusal>) -> (Answer, u64) {
+    (answer(&result), result.map_or(0, u64::from))
+}
+
+impl Ours {
+    pub fn new(segment: &[u8], inventory: &[u8]) -> Ours {
+        Ours { segment: segment.to_vec(), inventory: inventory.to_vec() }
+    }
+
+    fn lend(&mut self) -> SlottedPageSegment<'_> {
+        SlottedPageSegment::new(&mut self.segment, &mut self.inventory)
+    }
+
+    fn offset_of(&self, record: &[u8]) -> u64 {
+        (record.as_ptr() as usize - self.segment.as_ptr() as usize) as u64
+    }
+
+    fn found(&self, (tid, record): (Rid, &[u8])) -> Found {
+        Found { id: tid.into(), offset: self.offset_of(record), length: record.len() as u64 }
+    }
+}
+
+impl Store for Ours {
+    fn load(&mut self, segment: &[u8], inventory: &[u8]) {
+        self.segment.copy_from_slice(segment);
+        self.inventory.copy_from_slice(inventory);
+    }
+
+    fn segment(&self) -> &[u8] {
+        &self.segment
+    }
+
+    fn inventory(&self) -> &[u8] {
+        &self.inventory
+    }
+
+    fn insert_record(&mut self, record: &[u8]) -> (Answer, u64) {
+        new_id(self.lend().insert_record(record))
+    }
+
+    fn allocate(&mut self, size: u64) -> (Answer, u64) {
+        new_id(self.lend().allocate(size as usize))
+    }
+
+    fn get_record(&mut self, id: u64) -> (Answer, u64, u64) {
+        let result = SlottedPages::new(&self.segment).get_record(id.into());
+        let (offset, length) = result.map_or((0, 0), |record| (self.offset_of(record), record.len() as u64));
+        (answer(&result), offset, length)
+    }
+
+    fn write_record(&mut self, id: u64, record: &[u8]) -> Answer {
+        answer(&self.lend().write_record(id.into(), record))
+    }
+
+    fn resize_record(&mut self, id: u64, size: u64) -> Answer {
+        answer(&self.lend().resize_record(id.into(), size as usize))
+    }
+
+    fn erase_record(&mut self, id: u64) -> Answer {
+        answer(&self.lend().erase_record(id.into()))
+    }
+
+    fn scan(&mut self) -> (Answer, Vec<Found>) {
+        let mut scan = SlottedPages::new(&self.segment).scan();
+        let mut found = Vec::new();
+        let ended = scan.by_ref().try_for_each(|step| step.map(|record| found.push(self.found(record))));
+        assert!(scan.next().is_none() && scan.next().is_none(), "a scan that is over went on");
+        (answer(&ended), found)
+    }
+}

@@ -1,0 +1,151 @@
+//! The functions of libhekatosuy.a, as include/hekatosuy.h declares them, and a safe function over
+//! each. All `unsafe` of the crate is here.
+//!
+//! A call is lent whole slices and writes only into those that are lent to be written, and only
+//! inside them: that is proved of the archive's functions for every length and all bytes. None of
+//! them keeps a pointer, and none reads what it was not lent.
+
+extern "C" {
+    fn hk_insert_record(
+        segment: *mut u8,
+        segment_len: usize,
+        inventory: *mut u8,
+        inventory_len: usize,
+        record: *const u8,
+        record_len: usize,
+        id: *mut u64,
+    ) -> u64;
+    fn hk_allocate(
+        segment: *mut u8,
+        segment_len: usize,
+        inventory: *mut u8,
+        inventory_len: usize,
+        size: u64,
+        id: *mut u64,
+    ) -> u64;
+    fn hk_get_record(segment: *const u8, segment_len: usize, id: u64, offset: *mut u64, length: *mut u64) -> u64;
+    fn hk_write_record(
+        segment: *mut u8,
+        segment_len: usize,
+        inventory: *mut u8,
+        inventory_len: usize,
+        id: u64,
+        record: *const u8,
+        record_len: usize,
+    ) -> u64;
+    fn hk_resize_record(
+        segment: *mut u8,
+        segment_len: usize,
+        inventory: *mut u8,
+        inventory_len: usize,
+        id: u64,
+        size: u64,
+    ) -> u64;
+    fn hk_erase_record(
+        segment: *mut u8,
+        segment_len: usize,
+        inventory: *mut u8,
+        inventory_len: usize,
+        id: u64,
+    ) -> u64;
+    fn hk_scan_step(
+        segment: *const u8,
+        segment_len: usize,
+        place: *mut u64,
+        found: *mut u64,
+        id: *mut u64,
+        offset: *mut u64,
+        length: *mut u64,
+    ) -> u64;
+}
+
+/// A record in the segment: where it starts, counted from the segment's first byte, and its length.
+#[derive(Clone, Copy, Default)]
+pub(crate) struct Place {
+    pub offset: u64,
+    pub length: u64,
+}
+
+/// What a step of a scan gave: a record and its id, where `found` is 1.
+#[derive(Clone, Copy, Default)]
+pub(crate) struct Step {
+    pub answer: u64,
+    pub found: u64,
+    pub id: u64,
+    pub place: Place,
+}
+
+/// The answer, and the new record's id where it is 0.
+pub(crate) fn insert_record(segment: &mut [u8], inventory: &mut [u8], record: &[u8]) -> (u64, u64) {
+    let mut id = 0;
+    let answer = unsafe {
+        hk_insert_record(
+            segment.as_mut_ptr(),
+            segment.len(),
+            inventory.as_mut_ptr(),
+            inventory.len(),
+            record.as_ptr(),
+            record.len(),
+            &mut id,
+        )
+    };
+    (answer, id)
+}
+
+/// The answer, and the new record's id where it is 0.
+pub(crate) fn allocate(segment: &mut [u8], inventory: &mut [u8], size: u64) -> (u64, u64) {
+    let mut id = 0;
+    let answer = unsafe {
+        hk_allocate(segment.as_mut_ptr(), segment.len(), inventory.as_mut_ptr(), inventory.len(), size, &mut id)
+    };
+    (answer, id)
+}
+
+/// The answer, and the record's place where it is 0.
+pub(crate) fn get_record(segment: &[u8], id: u64) -> (u64, Place) {
+    let mut place = Place::default();
+    let answer =
+        unsafe { hk_get_record(segment.as_ptr(), segment.len(), id, &mut place.offset, &mut place.length) };
+    (answer, place)
+}
+
+pub(crate) fn write_record(segment: &mut [u8], inventory: &mut [u8], id: u64, record: &[u8]) -> u64 {
+    unsafe {
+        hk_write_record(
+            segment.as_mut_ptr(),
+            segment.len(),
+            inventory.as_mut_ptr(),
+            inventory.len(),
+            id,
+            record.as_ptr(),
+            record.len(),
+        )
+    }
+}
+
+pub(crate) fn resize_record(segment: &mut [u8], inventory: &mut [u8], id: u64, size: u64) -> u64 {
+    unsafe {
+        hk_resize_record(segment.as_mut_ptr(), segment.len(), inventory.as_mut_ptr(), inventory.len(), id, size)
+    }
+}
+
+pub(crate) fn erase_record(segment: &mut [u8], inventory: &mut [u8], id: u64) -> u64 {
+    unsafe { hk_erase_record(segment.as_mut_ptr(), segment.len(), inventory.as_mut_ptr(), inventory.len(), id) }
+}
+
+/// One step of a scan; `scanned` is 0 before the first, and then what the step before left there.
+pub(crate) fn scan_step(segment: &[u8], scanned: &mut u64) -> Step {
+    let mut step = Step::default();
+    step.answer = unsafe {
+        hk_scan_step(
+            segment.as_ptr(),
+            segment.len(),
+            scanned,
+            &mut step.found,
+            &mut step.id,
+            &mut step.place.offset,
+            &mut step.place.length,
+        )
+    };
+    step
+}

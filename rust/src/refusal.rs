@@ -1,0 +1,101 @@
+//! Why a call was refused.
+
+use std::error::Error;
+use std::fmt;
+
+/// Why a call was refused, by the number and name of the store's table of answers. (Answer 0,
+/// DONE, is no refusal.) A refused call has changed nothing.
+///
+/// Where several hold, the one given is the first in this order: 1, 3, 2, 4 (the id's page), 5, 6,
+/// 4 (the page it is forwarded to), 7, 4 (the new page), 8.
+#[derive(Debug, Clone, Copy, PartialEq, Eq, Hash)]
+pub enum Refusal {
+    /// The segment is not 0 to 32,527 whole pages, or the inventory is not one page.
+    Size = 1,
+    /// The id's page is not in the segment.
+    NoPage = 2,
+    /// The new size is above 16,364.
+    Long = 3,
+    /// A page to be touched is not sound, or a forwarded record is not where it is said to be.
+    Damaged = 4,
+    /// There is no record of this id.
+    None = 5,
+    /// The id is that of the place a record was forwarded to; only reads take it.
+    Forwarded = 6,
+    /// No page has room, by what the inventory says.
+    Full = 7,
+    /// The inventory names a page that has no room: it does not tell the truth about the pages.
+    Stale = 8,
+}
+
+impl Refusal {
+    /// All refusals, by their number.
+    pub const ALL: [Refusal; 8] = [
+        Refusal::Size,
+        Refusal::NoPage,
+        Refusal::Long,
+        Refusal::Damaged,
+        Refusal::None,
+        Refusal::Forwarded,
+        Refusal::Full,
+        Refusal::Stale,
+    ];
+
+    /// The number in the table of answers, 1 to 8.
+    pub const fn number(self) -> u64 {
+        self as u64
+    }
+
+    /// The refusal of a number, if there is one.
+    pub const fn from_number(number: u64) -> Option<Refusal> {
+        match number {
+            1..=8 => Some(Refusal::ALL[number as usize - 1]),
+            _ => None,
+        }
+    }
+
+    /// The name in the table of answers.
+    pub const fn name(self) -> &'static str {
+        match self {
+            Refusal::Size => "SIZE",
+            Refusal::NoPage => "NOPAGE",
+            Refusal::Long => "LONG",
+            Refusal::Damaged => "DAMAGED",
+            Refusal::None => "NONE",
+            Refusal::Forwarded => "FORWARDED",
+            Refusal::Full => "FULL",
+            Refusal::Stale => "STALE",
+        }
+    }
+
+    const fn meaning(self) -> &'static str {
+        match self {
+            Refusal::Size => "the segment is not 0 to 32,527 whole pages, or the inventory is not one page",
+            Refusal::NoPage => "the id's page is not in the segment",
+            Refusal::Long => "the size is above 16,364",
+            Refusal::Damaged => "a page is damaged",
+            Refusal::None => "there is no record of this id",
+            Refusal::Forwarded => "the id is that of a forwarded record's place",
+            Refusal::Full => "no page has room",
+            Refusal::Stale => "the inventory names a page that has no room",
+        }
+    }
+
+    /// What a call's number means. The archive answers 0 to 8; that is proved.
+    pub(crate) fn of_answer(number: u64) -> Result<(), Refusal> {
+        match (number, Refusal::from_number(number)) {
+            (0, _) => Ok(()),
+            (_, Some(refusal)) => Err(refusal),
+            (_, None) => panic!("no answer has the number {number}: this is not the archive that the crate is for"),
+        }
+    }
+}
+
+/// Number, name and meaning: `5 NONE: there is no record of this id`.
+impl fmt::Display for Refusal {
+    fn fmt(&self, out: &mut fmt::Formatter<'_>) -> fmt::Result {
+        write!(out, "{} {}: {}", self.number(), self.name(), self.meaning())
+    }
+}
+
+impl Error for Refusal {}

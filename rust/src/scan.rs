@@ -1,0 +1,38 @@
+//! The scan.
+
+use crate::segment::part;
+use crate::{archive, Refusal, Rid};
+use std::iter::FusedIterator;
+
+/// All records of a segment with their ids, by page and slot. A record that was forwarded comes
+/// where it lies now, with the id that it has always had.
+///
+/// Each page is checked when the scan reaches it. A damaged page, or a segment of a wrong size, is
+/// given as the last item.
+#[derive(Debug, Clone)]
+pub struct SlottedPageScan<'a> {
+    segment: &'a [u8],
+    place: u64,
+}
+
+impl<'a> SlottedPageScan<'a> {
+    pub(crate) fn new(segment: &'a [u8]) -> SlottedPageScan<'a> {
+        SlottedPageScan { segment, place: 0 }
+    }
+}
+
+impl<'a> Iterator for SlottedPageScan<'a> {
+    type Item = Result<(Rid, &'a [u8]), Refusal>;
+
+    fn next(&mut self) -> Option<Self::Item> {
+        let step = archive::scan_step(self.segment, &mut self.place);
+        match Refusal::of_answer(step.answer) {
+            Err(refusal) => Some(Err(refusal)),
+            Ok(()) if step.found == 0 => None,
+            Ok(()) => Some(Ok((Rid::from(step.id), part(self.segment, step.place)))),
+        }
+    }
+}
+
+/// A scan that is over stays over.
+impl FusedIterator for SlottedPageScan<'_> {}
