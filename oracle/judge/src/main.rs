@@ -4,11 +4,10 @@ use judge::sequence::{any_style, few_pages, Sequence, Start, Style};
 use judge::soundness::is_sound;
 use judge::trial::{Counts, Trial};
 use judge::{cases, show, trace, Store};
-use std::path::Path;
 use std::process::ExitCode;
 use std::{env, fs};
 
-const USAGE: &str = "judge classes | numbers | quick | long [SEED SEQUENCES] | faults | traces FOLDER | trace SEED COUNT [PAGES CALLS] | replay FILE..";
+const USAGE: &str = "judge classes | numbers | quick | long [SEED SEQUENCES] | faults | traces FILE | trace SEED COUNT [PAGES CALLS] | replay FILE..";
 
 /// The class table against the published Rust's formula.
 fn classes() -> Result<(), String> {
@@ -79,14 +78,14 @@ fn faults() -> Result<(), String> {
 
 const CALM: Style = Style { start: Start::Zero, damages: false, untruths: false, most_slots: 12 };
 
-/// The committed sample: name, style, pages, first seed, sequences, calls of each.
-const SAMPLE: [(&str, Style, &[usize], u64, u64, u64); 6] = [
-    ("zero", CALM, &[1, 2, 3, 4], 10_000, 12, 50),
-    ("leftovers", Style { start: Start::Leftovers, ..CALM }, &[1, 2, 3], 11_000, 9, 50),
-    ("populated", Style { start: Start::Populated, ..CALM }, &[2, 3, 4], 12_000, 16, 50),
-    ("damaged", Style { start: Start::Populated, damages: true, ..CALM }, &[1, 2, 3], 13_000, 18, 50),
-    ("untrue", Style { start: Start::Populated, untruths: true, ..CALM }, &[2, 3], 14_000, 12, 40),
-    ("dozen", Style { start: Start::Populated, ..CALM }, &[12], 15_000, 2, 60),
+/// The committed sample after its cases: style, pages, first seed, sequences, calls of each.
+const SAMPLE: [(Style, &[usize], u64, u64, u64); 6] = [
+    (CALM, &[1, 2, 3, 4], 10_000, 12, 50),
+    (Style { start: Start::Leftovers, ..CALM }, &[1, 2, 3], 11_000, 9, 50),
+    (Style { start: Start::Populated, ..CALM }, &[2, 3, 4], 12_000, 16, 50),
+    (Style { start: Start::Populated, damages: true, ..CALM }, &[1, 2, 3], 13_000, 18, 50),
+    (Style { start: Start::Populated, untruths: true, ..CALM }, &[2, 3], 14_000, 12, 40),
+    (Style { start: Start::Populated, ..CALM }, &[12], 15_000, 2, 60),
 ];
 
 fn sample_of_cases(counts: &mut Counts) -> Result<String, String> {
@@ -104,21 +103,16 @@ fn sample_of_cases(counts: &mut Counts) -> Result<String, String> {
     Ok(text)
 }
 
-fn write_traces(folder: &str) -> Result<(), String> {
+fn write_traces(file: &str) -> Result<(), String> {
     let mut counts = Counts::default();
-    let write = |name: &str, text: String| {
-        let path = Path::new(folder).join(format!("{name}.trace"));
-        fs::write(&path, text).map_err(|why| format!("{}: {why}", path.display()))
-    };
-    write("cases", sample_of_cases(&mut counts)?)?;
-    for (name, style, pages, first_seed, sequences, calls) in SAMPLE {
-        let mut text = String::new();
+    let mut text = sample_of_cases(&mut counts)?;
+    for (style, pages, first_seed, sequences, calls) in SAMPLE {
         for seed in first_seed..first_seed + sequences {
             let n = pages[seed as usize % pages.len()];
             text += &trace::of_sequence(n, &mut Sequence::new(seed, style, n, calls), &mut counts)?;
         }
-        write(name, text)?;
     }
+    fs::write(file, text).map_err(|why| format!("{file}: {why}"))?;
     print(&counts);
     complete(counts)
 }
@@ -162,7 +156,7 @@ fn run(command: &str, rest: &[String]) -> Result<(), String> {
         ("long", [], _) => long(),
         ("long", _, Some(&[seed, sequences])) => compare(seed, sequences).map(|_| ()),
         ("faults", [], _) => faults(),
-        ("traces", [folder], _) => write_traces(folder),
+        ("traces", [file], _) => write_traces(file),
         ("trace", _, Some(numbers @ ([_, _] | [_, _, _, _]))) => print_traces(numbers),
         ("replay", files, _) => replay(files),
         _ => Err(USAGE.to_string()),

@@ -1,0 +1,131 @@
+// A small archive: the rows of a fringe map go in, are listed, one is read back, one is erased, and they are listed again.
+mod map;
+
+use libc::STDOUT_FILENO;
+use store::Answer;
+use store::Step;
+
+fn say(text: &[u8]) {
+    io::write_all(STDOUT_FILENO, text);
+}
+
+fn number(n: usize) {
+    io::print_decimal(STDOUT_FILENO, n as u64);
+}
+
+// An id as its page and slot.
+fn say_id(id: usize) {
+    say(b"(");
+    number(id / 65536);
+    say(b",");
+    number(id % 65536);
+    say(b")");
+}
+
+fn insert_row(segment: &mut [u8], inventory: &mut [u8], y: usize) {
+    let mut row = [0u8; 41];
+    map::draw(&mut row, y);
+    let answer = segment_insert::insert_record(segment, inventory, &row);
+    let Answer::Done { id } = answer else {
+        say(b"  the row was refused\n");
+        return;
+    };
+    say(b"  ");
+    say_id(id);
+    say(b"  ");
+    say(&row);
+    say(b"\n");
+}
+
+fn insert_map(segment: &mut [u8], inventory: &mut [u8]) {
+    let mut y: usize = 0;
+    while y < 7 {
+        insert_row(segment, inventory, y);
+        y = y + 1;
+    }
+}
+
+// Where a scan stands, and whether it goes on.
+struct Place {
+    page: usize,
+    slot: usize,
+    going: bool,
+}
+
+fn list_one(segment: &[u8], p: Place) -> Place {
+    let step = segment_scan::scan_step(segment, p.page, p.slot);
+    let Step::Record {
+        id,
+        offset: _,
+        length,
+        page,
+        slot,
+    } = step
+    else {
+        return Place {
+            page: p.page,
+            slot: p.slot,
+            going: false,
+        };
+    };
+    say(b"  ");
+    say_id(id);
+    say(b"  ");
+    number(length);
+    say(b" bytes\n");
+    Place {
+        page,
+        slot,
+        going: true,
+    }
+}
+
+fn list(segment: &[u8]) {
+    let mut p = Place {
+        page: 0,
+        slot: 0,
+        going: true,
+    };
+    let mut turns: usize = 1000;
+    while 0 < turns && p.going {
+        turns = turns - 1;
+        p = list_one(segment, p);
+    }
+}
+
+fn read(segment: &[u8], id: usize) {
+    let mut answer: usize = 0;
+    let row = segment_read::get_record(segment, id, &mut answer);
+    say(b"  answer ");
+    number(answer);
+    if 0 < row.len() {
+        say(b"  ");
+        say(row);
+    }
+    say(b"\n");
+}
+
+fn erase(segment: &mut [u8], inventory: &mut [u8], id: usize) {
+    let answer = segment_erase::erase_record(segment, inventory, id);
+    if let Answer::Done { id: _ } = answer {
+        say(b"  erased\n");
+    } else {
+        say(b"  refused\n");
+    }
+}
+
+fn main() {
+    let mut segment = [0u8; 32768];
+    let mut inventory = [0u8; 16384];
+    say(b"An archive of two empty pages. The rows of a fringe map go in:\n");
+    insert_map(&mut segment, &mut inventory);
+    say(b"What a scan of the archive lists:\n");
+    list(&segment);
+    say(b"The row (0,3), read back:\n");
+    read(&segment, 3);
+    say(b"The row (0,3) is erased, and read once more (5: no such record):\n");
+    erase(&mut segment, &mut inventory, 3);
+    read(&segment, 3);
+    say(b"What a scan lists now:\n");
+    list(&segment);
+}

@@ -1,0 +1,67 @@
+-- `hekatosuy::hand_step` meets its contract, case by case. Assumes nothing.
+use mathlib.Core.Path.{_≡_, subst}
+use mathlib.Core.List.{List, []}
+use Prim.Native.Nat.{ℕ}
+use borrow.Author.Needs.{needs}
+use Rattle.store.specs.Answers.{scannedOf}
+use Rattle.store.specs.declared.Step.{Step}
+use Rattle.hekatosuy.specs.Handed.{InPlace}
+use Rattle.hekatosuy.proofs.hand_step.Statement.{statement}
+use Rattle.hekatosuy.proofs.hand_step.Tie as tie
+
+-- the place that the step names fits
+fits : (s t : Step) → s ≡ t → ((xs : List ℕ) → InPlace (scannedOf s xs)) → InPlace (scannedOf t [])
+fits s t e h = subst (λ (u : Step). InPlace (scannedOf u [])) e (h [])
+
+enum-known-s : tie.Need-enum-known-s
+enum-known-s c = search needs
+
+place-of-requires : tie.Need-place-of-requires
+place-of-requires c κs = let a = c .before .before .before in let h = fits (a .args .s) _ (c .before .s .given .1) (a .pre) in (h .page, h .slot)
+
+enum-known-s-2 : tie.Need-enum-known-s-2
+enum-known-s-2 c = search needs
+
+without-record-requires : tie.Need-without-record-requires
+without-record-requires c κs = let a = c .before .before .before in let h = fits (a .args .s) _ (c .before .s2 .given .1) (a .pre) in (h .page, h .slot)
+
+enum-told : tie.Need-enum-told
+enum-told c = search needs
+
+without-record-requires-2 : tie.Need-without-record-requires-2
+without-record-requires-2 c κs = search needs
+
+enum-told-2 : tie.Need-enum-told-2
+enum-told-2 c = search needs
+
+without-record-requires-3 : tie.Need-without-record-requires-3
+without-record-requires-3 c κs = search needs
+
+returns : tie.Need-returns
+returns c = λ xs. rw (c .before .before .s .given .1, c .place-of .ensures)
+
+returns-2 : tie.Need-returns-2
+returns-2 c = λ xs. rw (c .before .before .s2 .given .1) (c .without-record .ensures)
+
+returns-3 : tie.Need-returns-3
+returns-3 c = λ xs. rw (c .before .enum-told .given .1) (c .without-record2 .ensures)
+
+returns-4 : tie.Need-returns-4
+returns-4 c = λ xs. rw (c .before .enum-told2 .given .1) (c .without-record3 .ensures)
+
+pub hand-step-spec : {M : Type 1} → statement M
+hand-step-spec =
+    tie.close
+    (tie.spec
+    enum-known-s
+    place-of-requires
+    enum-known-s-2
+    without-record-requires
+    enum-told
+    without-record-requires-2
+    enum-told-2
+    without-record-requires-3
+    returns
+    returns-2
+    returns-3
+    returns-4)

@@ -1,0 +1,13 @@
+-- `hekatosuy::without_record` meets its contract. Assumes nothing.
+use borrow.Author.Needs.{needs}
+use Rattle.hekatosuy.proofs.without_record.Statement.{statement}
+use Rattle.hekatosuy.proofs.without_record.Tie as tie
+
+place-of-requires : tie.Need-place-of-requires
+place-of-requires c κs = search needs
+
+returns : tie.Need-returns
+returns c = rw (c .place-of .ensures)
+
+pub without-record-spec : {M : Type 1} → statement M
+without-record-spec = tie.close (tie.spec place-of-requires returns)

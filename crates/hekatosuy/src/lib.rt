@@ -1,0 +1,270 @@
+// The store for C: the six calls of a segment and the scan, with document 01's numbers for answers. include/hekatosuy.h declares them.
+//
+// A slice is a pointer and a length. What a call hands back beside its number it writes through a pointer to one u64.
+use store::Answer;
+use store::Reading;
+use store::Step;
+ghost use mathlib.Core.Path.{_≡_};
+ghost use mathlib.Core.Bool.{cond};
+ghost use mathlib.Core.List.{List};
+ghost use Prim.Native.Nat.{ℕ, _^_, _<_};
+ghost use lib.Dec.{eqb};
+ghost use Rattle.store.specs.Numbers.{idOf, pageNo, slotNo};
+ghost use Rattle.store.specs.Segment.{insertStep, allocateStep, writeStep, resizeStep, eraseStep, locateStep};
+ghost use Rattle.store.specs.Scan.{without, scanStep};
+ghost use Rattle.store.specs.Answers.{answerNo, answerId, readingNo, readingPart, scannedOf};
+ghost use Rattle.hekatosuy.specs.Handed.{withId, withoutId, stepped, InPlace};
+
+// "Answers by number".
+fn answer_no(a: Answer) -> u64
+    ensures { λ r. ⌜ r ≡ answerNo a ⌝ }
+{
+    match a {
+        Answer::Done { id: _ } => 0,
+        Answer::Size => 1,
+        Answer::NoPage => 2,
+        Answer::Long => 3,
+        Answer::Damaged => 4,
+        Answer::NoRecord => 5,
+        Answer::Forwarded => 6,
+        Answer::Full => 7,
+        Answer::Stale => 8,
+    }
+}
+
+fn answer_id(a: Answer) -> u64
+    ensures { λ r. ⌜ r ≡ answerId a ⌝ }
+{
+    match a {
+        Answer::Done { id } => id as u64,
+        Answer::Size => 0,
+        Answer::NoPage => 0,
+        Answer::Long => 0,
+        Answer::Damaged => 0,
+        Answer::NoRecord => 0,
+        Answer::Forwarded => 0,
+        Answer::Full => 0,
+        Answer::Stale => 0,
+    }
+}
+
+// The number, with the new record's id where there is one; else `id` keeps what it was.
+fn hand_id(a: Answer, id: &mut u64) -> u64
+    ensures { λ r. ⌜ (r ≡ answerNo a) × (now (id .exit) ≡ cond (eqb (answerNo a) 0) (answerId a) (now (id .entry))) ⌝ }
+{
+    let n = answer_no(a);
+    if n != 0 {
+        return n;
+    }
+    *id = answer_id(a);
+    0
+}
+
+#[no_mangle]
+pub extern "C" fn hk_insert_record(
+    segment: &mut [u8],
+    inventory: &mut [u8],
+    bytes: &[u8],
+    id: &mut u64,
+) -> u64
+    ensures { λ r. ⌜ record { answer = r; id = now (id .exit); seg = now (segment .exit); inv = now (inventory .exit) }
+        ≡ withId (now (id .entry)) (insertStep (now (segment .entry)) (now (inventory .entry)) (now (bytes .entry))) ⌝ }
+{
+    let a = segment_insert::insert_record(segment, inventory, bytes);
+    hand_id(a, id)
+}
+
+#[no_mangle]
+pub extern "C" fn hk_allocate(
+    segment: &mut [u8],
+    inventory: &mut [u8],
+    size: u64,
+    id: &mut u64,
+) -> u64
+    ensures { λ r. ⌜ record { answer = r; id = now (id .exit); seg = now (segment .exit); inv = now (inventory .exit) }
+        ≡ withId (now (id .entry)) (allocateStep (now (segment .entry)) (now (inventory .entry)) size) ⌝ }
+{
+    let a = segment_insert::allocate(segment, inventory, size as usize);
+    hand_id(a, id)
+}
+
+#[no_mangle]
+pub extern "C" fn hk_write_record(
+    segment: &mut [u8],
+    inventory: &mut [u8],
+    id: u64,
+    bytes: &[u8],
+) -> u64
+    ensures { λ r. ⌜ record { answer = r; id = 0; seg = now (segment .exit); inv = now (inventory .exit) }
+        ≡ withoutId (writeStep (now (segment .entry)) (now (inventory .entry)) id (now (bytes .entry))) ⌝ }
+{
+    let a = segment_store::write::write_record(segment, inventory, id as usize, bytes);
+    answer_no(a)
+}
+
+#[no_mangle]
+pub extern "C" fn hk_resize_record(
+    segment: &mut [u8],
+    inventory: &mut [u8],
+    id: u64,
+    size: u64,
+) -> u64
+    ensures { λ r. ⌜ record { answer = r; id = 0; seg = now (segment .exit); inv = now (inventory .exit) }
+        ≡ withoutId (resizeStep (now (segment .entry)) (now (inventory .entry)) id size) ⌝ }
+{
+    let a = segment_store::resize::resize_record(segment, inventory, id as usize, size as usize);
+    answer_no(a)
+}
+
+#[no_mangle]
+pub extern "C" fn hk_erase_record(segment: &mut [u8], inventory: &mut [u8], id: u64) -> u64
+    ensures { λ r. ⌜ record { answer = r; id = 0; seg = now (segment .exit); inv = now (inventory .exit) }
+        ≡ withoutId (eraseStep (now (segment .entry)) (now (inventory .entry)) id) ⌝ }
+{
+    let a = segment_erase::erase_record(segment, inventory, id as usize);
+    answer_no(a)
+}
+
+fn reading_no(r: Reading) -> u64
+    ensures { λ n. ⌜ n ≡ readingNo r ⌝ }
+{
+    match r {
+        Reading::At {
+            offset: _,
+            length: _,
+        } => 0,
+        Reading::Size => 1,
+        Reading::NoPage => 2,
+        Reading::Damaged => 4,
+        Reading::NoRecord => 5,
+    }
+}
+
+// "an empty part for a read" that is refused.
+fn offset_of(r: Reading) -> u64
+    ensures { λ n. ⌜ n ≡ readingPart r .offset ⌝ }
+{
+    match r {
+        Reading::At { offset, length: _ } => offset as u64,
+        Reading::Size => 0,
+        Reading::NoPage => 0,
+        Reading::Damaged => 0,
+        Reading::NoRecord => 0,
+    }
+}
+
+fn length_of(r: Reading) -> u64
+    ensures { λ n. ⌜ n ≡ readingPart r .length ⌝ }
+{
+    match r {
+        Reading::At { offset: _, length } => length as u64,
+        Reading::Size => 0,
+        Reading::NoPage => 0,
+        Reading::Damaged => 0,
+        Reading::NoRecord => 0,
+    }
+}
+
+// The record's place in the segment, without the back id of a target.
+#[no_mangle]
+pub extern "C" fn hk_get_record(segment: &[u8], id: u64, offset: &mut u64, length: &mut u64) -> u64
+    ensures { λ r. ⌜ record { answer = r; part = record { offset = now (offset .exit); length = now (length .exit) } }
+        ≡ locateStep (now (segment .entry)) id ⌝ }
+{
+    let r = segment_read::find_record(segment, id as usize);
+    *offset = offset_of(r);
+    *length = length_of(r);
+    reading_no(r)
+}
+
+// What a step of the scan hands to C.
+pub struct Stepped {
+    pub answer: u64,
+    pub place: u64,
+    pub found: u64,
+    pub id: u64,
+    pub offset: u64,
+    pub length: u64,
+}
+
+// A place as one number.
+fn place_of(page: usize, slot: usize) -> u64
+    requires { ⌜ (page < 2 ^ 48) × (slot < 65536) ⌝ }
+    ensures { λ r. ⌜ r ≡ idOf page slot ⌝ }
+{
+    page as u64 * 65536 + slot as u64
+}
+
+fn without_record(answer: u64, page: usize, slot: usize) -> Stepped
+    requires { ⌜ (page < 2 ^ 48) × (slot < 65536) ⌝ }
+    ensures { λ r. ⌜ r ≡ stepped (without answer page slot) ⌝ }
+{
+    let place = place_of(page, slot);
+    Stepped {
+        answer,
+        place,
+        found: 0,
+        id: 0,
+        offset: 0,
+        length: 0,
+    }
+}
+
+fn hand_step(s: Step) -> Stepped
+    requires { ⌜ ((xs : List ℕ) → InPlace (scannedOf s xs)) ⌝ }
+    ensures { λ r. ⌜ ((xs : List ℕ) → r ≡ stepped (scannedOf s xs)) ⌝ }
+{
+    match s {
+        Step::Record {
+            id,
+            offset,
+            length,
+            page,
+            slot,
+        } => {
+            let place = place_of(page, slot);
+            Stepped {
+                answer: 0,
+                place,
+                found: 1,
+                id: id as u64,
+                offset: offset as u64,
+                length: length as u64,
+            }
+        }
+        Step::End { page, slot } => without_record(0, page, slot),
+        Step::Size => without_record(1, 32528, 0),
+        Step::Damaged => without_record(4, 32528, 0),
+    }
+}
+
+// The step from a place that is one number.
+fn step_from(segment: &[u8], place: u64) -> Stepped
+    ensures { λ r. ⌜ r ≡ stepped (scanStep (now (segment .entry)) (pageNo place) (slotNo place)) ⌝ }
+{
+    let at = place as usize;
+    let s = segment_scan::scan_step(segment, at / 65536, at % 65536);
+    hand_step(s)
+}
+
+// The next record from `place` on, which is 0 at first and afterwards what the last step left there.
+#[no_mangle]
+pub extern "C" fn hk_scan_step(
+    segment: &[u8],
+    place: &mut u64,
+    found: &mut u64,
+    id: &mut u64,
+    offset: &mut u64,
+    length: &mut u64,
+) -> u64
+    ensures { λ r. ⌜ record { answer = r; place = now (place .exit); found = now (found .exit); id = now (id .exit); offset = now (offset .exit); length = now (length .exit) }
+        ≡ stepped (scanStep (now (segment .entry)) (pageNo (now (place .entry))) (slotNo (now (place .entry)))) ⌝ }
+{
+    let h = step_from(segment, *place);
+    *place = h.place;
+    *found = h.found;
+    *id = h.id;
+    *offset = h.offset;
+    *length = h.length;
+    h.answer
+}

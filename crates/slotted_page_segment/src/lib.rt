@@ -1,0 +1,11 @@
+// The calls on a segment and the scan, under one name: slotted_page_segment.rs for users in Rattle. Each is proved where it stands, with
+// no `requires`, and its contract is one equation with document 01's step (crates/store/specs/Segment.antt, Scan.antt).
+pub use segment_erase::erase_record;
+pub use segment_insert::allocate;
+pub use segment_insert::insert_record;
+pub use segment_read::find_record;
+pub use segment_read::get_record;
+pub use segment_scan::held;
+pub use segment_scan::scan_step;
+pub use segment_store::resize::resize_record;
+pub use segment_store::write::write_record;

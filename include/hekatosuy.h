@@ -1,0 +1,82 @@
+/*
+ * Hekatosuy: records in pages of 16,384 bytes.
+ *
+ * A segment is a run of 0 to 32,527 whole pages and its inventory is one page more. Both are lent to each call and hold everything
+ * between calls. A segment of zeros with an inventory of zeros is empty and ready for use. The library keeps nothing itself, allocates
+ * nothing, and of the C library it calls memcpy and memset alone.
+ *
+ * A record has 0 to 16,364 bytes and an id, page * 65,536 + slot, which stays the same until the record is erased.
+ *
+ * Each function is proved to meet its contract (crates/hekatosuy): for every segment, inventory and argument it answers one of the
+ * numbers below and leaves each byte as the contract says. A call that is refused leaves segment and inventory as they were.
+ *
+ * The pointer before a length points to so many bytes, and no pointer is null, also where the length is 0. What one call is lent to
+ * write (segment, inventory and the single numbers) overlaps nothing else that it is lent.
+ *
+ * Link with libhekatosuy.a, which `rt staticlib hekatosuy` writes for x86-64 Linux.
+ */
+#ifndef HEKATOSUY_H
+#define HEKATOSUY_H
+
+#include <stddef.h>
+#include <stdint.h>
+
+#ifdef __cplusplus
+extern "C" {
+#endif
+
+/*
+ * What a call answers. Where several refusals hold, this is their order: 1, 3, 2, 4 for the id's own page, 5, 6, 4 for a target, 7,
+ * 4 for a new page, 8.
+ */
+enum {
+    HK_DONE = 0,      /* the call is carried out */
+    HK_SIZE = 1,      /* segment not 0 to 32,527 whole pages, or inventory not 16,384 bytes */
+    HK_NOPAGE = 2,    /* the segment has no page of the id's number */
+    HK_LONG = 3,      /* new size above 16,364 */
+    HK_DAMAGED = 4,   /* a page to be touched is not sound, or a redirect to be followed lacks its target pointing back */
+    HK_NONE = 5,      /* the id's slot is at or past the page's slot count, or free */
+    HK_FORWARDED = 6, /* write, resize or erase by the id of the place that a record was moved to, and not by its own */
+    HK_FULL = 7,      /* the inventory names no page with so much room */
+    HK_STALE = 8      /* the inventory names a page that has not the room: it is not true */
+};
+
+/* A new record with these bytes. Its id is written when the answer is 0, and else left as it was. */
+uint64_t hk_insert_record(uint8_t *segment, size_t segment_length, uint8_t *inventory, size_t inventory_length,
+                          const uint8_t *record, size_t record_length, uint64_t *id);
+
+/* A new record of so many zeros. Its id is written when the answer is 0, and else left as it was. */
+uint64_t hk_allocate(uint8_t *segment, size_t segment_length, uint8_t *inventory, size_t inventory_length, uint64_t size,
+                     uint64_t *id);
+
+/*
+ * Where the record lies: its first byte, counted from the start of the segment, and its length; 0 and 0 on refusal. The place is good
+ * until the next call that writes.
+ */
+uint64_t hk_get_record(const uint8_t *segment, size_t segment_length, uint64_t id, uint64_t *offset, uint64_t *length);
+
+/* The record gets these bytes, and their length. */
+uint64_t hk_write_record(uint8_t *segment, size_t segment_length, uint8_t *inventory, size_t inventory_length, uint64_t id,
+                         const uint8_t *record, size_t record_length);
+
+/* The record gets this length: cut off, or filled up with zeros. */
+uint64_t hk_resize_record(uint8_t *segment, size_t segment_length, uint8_t *inventory, size_t inventory_length, uint64_t id,
+                          uint64_t size);
+
+/* The record is gone, and its id may be given again. */
+uint64_t hk_erase_record(uint8_t *segment, size_t segment_length, uint8_t *inventory, size_t inventory_length, uint64_t id);
+
+/*
+ * The next record of a scan. `place` is 0 at first and afterwards what the last step left there: its number means nothing else. With a
+ * record `found` is 1, and id, offset and length are those of the record, as hk_get_record tells them. Without one all four are 0: the
+ * scan is over, at the end if the answer is 0, and every further step answers 0 without a record. A step that meets a damaged page
+ * answers 4.
+ */
+uint64_t hk_scan_step(const uint8_t *segment, size_t segment_length, uint64_t *place, uint64_t *found, uint64_t *id,
+                      uint64_t *offset, uint64_t *length);
+
+#ifdef __cplusplus
+}
+#endif
+
+#endif

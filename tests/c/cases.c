@@ -1,0 +1,279 @@
+/*
+ * The calls from C: document 01's cases of the segment, refusals of each kind, and the scan. Prints one line a case, and what differs.
+ */
+#include "hekatosuy.h"
+
+#include <stdio.h>
+#include <string.h>
+
+enum { PAGE = 16384, PAGES = 3, LONGEST = 16365 };
+
+static uint8_t segment[PAGES * PAGE];
+static uint8_t inventory[PAGE];
+static uint8_t record[LONGEST];
+static size_t segment_length;
+static int faults;
+static int faults_before;
+
+static void expect(const char *what, uint64_t got, uint64_t wanted) {
+    if (got != wanted) {
+        printf("  %s: %llu, not %llu\n", what, (unsigned long long)got, (unsigned long long)wanted);
+        faults++;
+    }
+}
+
+static void begin(size_t pages) {
+    memset(segment, 0, sizeof segment);
+    memset(inventory, 0, sizeof inventory);
+    segment_length = pages * PAGE;
+    faults_before = faults;
+}
+
+static void end(const char *name) {
+    printf("%s: %s\n", name, faults == faults_before ? "ok" : "FAILED");
+}
+
+static uint64_t id_of(uint64_t page, uint64_t slot) {
+    return page * 65536 + slot;
+}
+
+static void fill(size_t length, unsigned seed) {
+    for (size_t k = 0; k < length; k++) record[k] = (uint8_t)(seed + 7 * k + k / 256);
+}
+
+static void insert(size_t length, unsigned seed, uint64_t answer, uint64_t wanted) {
+    uint64_t id = 77;
+    fill(length, seed);
+    expect("insert", hk_insert_record(segment, segment_length, inventory, PAGE, record, length, &id), answer);
+    expect("insert's id", id, answer == HK_DONE ? wanted : 77);
+}
+
+static void write_to(uint64_t id, size_t length, unsigned seed, uint64_t answer) {
+    fill(length, seed);
+    expect("write", hk_write_record(segment, segment_length, inventory, PAGE, id, record, length), answer);
+}
+
+static void resize(uint64_t id, uint64_t size, uint64_t answer) {
+    expect("resize", hk_resize_record(segment, segment_length, inventory, PAGE, id, size), answer);
+}
+
+static void erase(uint64_t id, uint64_t answer) {
+    expect("erase", hk_erase_record(segment, segment_length, inventory, PAGE, id), answer);
+}
+
+/* Where the record lies, and that its first bytes are those of the seed and the rest, from `zeros_from` on, are 0. */
+static void read_back(uint64_t id, uint64_t offset, uint64_t length, unsigned seed, size_t zeros_from) {
+    uint64_t at = 77, n = 77;
+    expect("read", hk_get_record(segment, segment_length, id, &at, &n), HK_DONE);
+    expect("read's offset", at, offset);
+    expect("read's length", n, length);
+    fill(length, seed);
+    if (zeros_from < length) memset(record + zeros_from, 0, length - zeros_from);
+    expect("read's bytes differ", n == length && memcmp(segment + at, record, n) != 0, 0);
+}
+
+static void read_refused(uint64_t id, uint64_t answer) {
+    uint64_t at = 77, n = 77;
+    expect("read", hk_get_record(segment, segment_length, id, &at, &n), answer);
+    expect("refused read's offset", at, 0);
+    expect("refused read's length", n, 0);
+}
+
+static uint64_t big_endian(size_t at, size_t width) {
+    uint64_t value = 0;
+    for (size_t k = 0; k < width; k++) value = value << 8 | segment[at + k];
+    return value;
+}
+
+static void header(size_t page, uint64_t count, uint64_t first_free, uint64_t data_start, uint64_t free_space) {
+    size_t at = page * PAGE;
+    expect("slot count", big_endian(at, 2), count);
+    expect("first free slot", big_endian(at + 2, 2), first_free);
+    expect("data start", big_endian(at + 4, 4), data_start);
+    expect("free space", big_endian(at + 8, 4), free_space);
+}
+
+static void slot(size_t page, size_t k, uint64_t value) {
+    expect("slot", big_endian(page * PAGE + 12 + 8 * k, 8), value);
+}
+
+static void three_bytes(void) {
+    begin(1);
+    insert(3, 1, HK_DONE, 0);
+    header(0, 1, 1, 16381, 16361);
+    slot(0, 0, 0x00003FFD00000003);
+    expect("nibble", inventory[120], 2);
+    insert(12271, 2, HK_FULL, 0);
+    insert(12270, 2, HK_DONE, 1);
+    read_back(0, 16381, 3, 1, 3);
+    end("three bytes, then 12,271 and 12,270");
+}
+
+static void largest(void) {
+    begin(1);
+    insert(16365, 1, HK_LONG, 0);
+    insert(16364, 1, HK_DONE, 0);
+    header(0, 1, 1, 20, 0);
+    end("16,365 and 16,364 bytes");
+}
+
+static void erased_in_order(void) {
+    begin(1);
+    insert(3, 1, HK_DONE, 0);
+    insert(4, 2, HK_DONE, 1);
+    insert(5, 3, HK_DONE, 2);
+    erase(0, HK_DONE);
+    erase(1, HK_DONE);
+    erase(2, HK_DONE);
+    header(0, 1, 0, 16377, 16364);
+    slot(0, 0, 0x4000000000000000);
+    erase(0, HK_NONE);
+    end("lengths 3, 4, 5, erased in order");
+}
+
+static void compactified(size_t last, uint64_t offset, uint64_t free_space, const char *name) {
+    begin(1);
+    insert(5000, 1, HK_DONE, 0);
+    insert(5000, 2, HK_DONE, 1);
+    insert(3000, 3, HK_DONE, 2);
+    erase(1, HK_DONE);
+    insert(10, 4, HK_DONE, 1);
+    insert(last, 5, HK_DONE, 3);
+    read_back(3, offset, last, 5, last);
+    read_back(2, last == 3338 ? 8384 : 3384, 3000, 3, 3000);
+    header(0, 4, 4, offset, free_space);
+    end(name);
+}
+
+static void grown(void) {
+    begin(1);
+    insert(100, 1, HK_DONE, 0);
+    resize(0, 300, HK_DONE);
+    header(0, 1, 1, 15984, 16064);
+    read_back(0, 15984, 300, 1, 100);
+    end("a record of 100 alone, grown to 300");
+}
+
+/* "n = 3: insert 16,000 at (0,0), 100 at (1,0), 12,000 at (1,1). Write 5,000 to (1,0)" */
+static void begin_forwarded(void) {
+    begin(3);
+    insert(16000, 1, HK_DONE, id_of(0, 0));
+    insert(100, 2, HK_DONE, id_of(1, 0));
+    insert(12000, 3, HK_DONE, id_of(1, 1));
+    write_to(id_of(1, 0), 5000, 4, HK_DONE);
+}
+
+static void forwarded(void) {
+    begin_forwarded();
+    read_back(id_of(1, 0), 2 * PAGE + 11384, 5000, 4, 5000);
+    slot(1, 0, 0x8000000000020000);
+    slot(2, 0, 0xC0002C7000001390);
+    expect("free space of page 1", big_endian(PAGE + 8, 4), 4356);
+    expect("free space of page 2", big_endian(2 * PAGE + 8, 4), 11356);
+    expect("back id", big_endian(2 * PAGE + 11376, 8), id_of(1, 0));
+    write_to(id_of(1, 0), 16357, 5, HK_FULL);
+    read_back(id_of(1, 0), 2 * PAGE + 11384, 5000, 4, 5000);
+    write_to(id_of(1, 0), 16356, 5, HK_DONE);
+    read_back(id_of(1, 0), 2 * PAGE + 28, 16356, 5, 16356);
+    expect("free space of page 2", big_endian(2 * PAGE + 8, 4), 0);
+    end("forwarded, with 16,357 and 16,356");
+}
+
+static void by_the_targets_id(void) {
+    begin_forwarded();
+    read_back(id_of(2, 0), 2 * PAGE + 11384, 5000, 4, 5000);
+    write_to(id_of(2, 0), 10, 5, HK_FORWARDED);
+    resize(id_of(2, 0), 10, HK_FORWARDED);
+    erase(id_of(2, 0), HK_FORWARDED);
+    erase(id_of(1, 0), HK_DONE);
+    read_refused(id_of(1, 0), HK_NONE);
+    read_refused(id_of(2, 0), HK_NONE);
+    end("calls by a target's own id");
+}
+
+static void scanned(uint64_t *place, uint64_t answer, uint64_t wanted, uint64_t id, uint64_t offset, uint64_t length) {
+    uint64_t found = 77, i = 77, at = 77, n = 77;
+    expect("scan", hk_scan_step(segment, segment_length, place, &found, &i, &at, &n), answer);
+    expect("scan's found", found, wanted);
+    expect("scan's id", i, id);
+    expect("scan's offset", at, offset);
+    expect("scan's length", n, length);
+}
+
+static void scan(void) {
+    uint64_t place = 0;
+    begin_forwarded();
+    scanned(&place, HK_DONE, 1, id_of(0, 0), 384, 16000);
+    scanned(&place, HK_DONE, 1, id_of(1, 1), PAGE + 4284, 12000);
+    scanned(&place, HK_DONE, 1, id_of(1, 0), 2 * PAGE + 11384, 5000);
+    scanned(&place, HK_DONE, 0, 0, 0, 0);
+    scanned(&place, HK_DONE, 0, 0, 0, 0);
+    place = 0;
+    segment[PAGE + 11]++;
+    scanned(&place, HK_DONE, 1, id_of(0, 0), 384, 16000);
+    scanned(&place, HK_DAMAGED, 0, 0, 0, 0);
+    scanned(&place, HK_DONE, 0, 0, 0, 0);
+    place = 0;
+    segment_length--;
+    scanned(&place, HK_SIZE, 0, 0, 0, 0);
+    scanned(&place, HK_DONE, 0, 0, 0, 0);
+    end("a scan, of a damaged page, of a wrong size");
+}
+
+static void allocated(void) {
+    uint64_t id = 77;
+    begin(1);
+    memset(segment + 12, 9, PAGE - 12);
+    expect("allocate", hk_allocate(segment, segment_length, inventory, PAGE, 50, &id), HK_DONE);
+    expect("allocate's id", id, 0);
+    read_back(0, 16334, 50, 0, 0);
+    id = 77;
+    expect("allocate", hk_allocate(segment, segment_length, inventory, PAGE, 16365, &id), HK_LONG);
+    expect("allocate's id", id, 77);
+    end("allocated bytes are zeros");
+}
+
+static void refused(void) {
+    begin(2);
+    insert(10, 1, HK_DONE, 0);
+    read_refused(id_of(2, 0), HK_NOPAGE);
+    read_refused(id_of(0, 1), HK_NONE);
+    erase(UINT64_MAX, HK_NOPAGE);
+    resize(0, 16365, HK_LONG);
+    segment[11]++;
+    read_refused(0, HK_DAMAGED);
+    write_to(0, 10, 2, HK_DAMAGED);
+    segment[11]--;
+    expect("erase of a short inventory", hk_erase_record(segment, segment_length, inventory, PAGE - 1, 0), HK_SIZE);
+    /* an inventory that names page 0 for what page 0 has no room for */
+    insert(16000, 3, HK_DONE, id_of(1, 0));
+    insert(16000, 4, HK_FULL, 0);
+    memset(inventory, 0, 8 * 15);
+    insert(16364, 4, HK_STALE, 0);
+    read_back(0, 16374, 10, 1, 10);
+    end("refusals");
+}
+
+static void nothing_lent(void) {
+    uint64_t id = 77;
+    begin(0);
+    expect("insert into nothing", hk_insert_record(segment, 0, inventory, PAGE, record, 0, &id), HK_FULL);
+    expect("without an inventory", hk_insert_record(segment, 0, inventory, 0, record, 0, &id), HK_SIZE);
+    end("no pages");
+}
+
+int main(void) {
+    three_bytes();
+    largest();
+    erased_in_order();
+    compactified(3338, 5036, 4992, "3,338 into a gap of 3,338: compactified");
+    compactified(3330, 44, 5000, "3,330 into a gap of 3,338: not compactified");
+    grown();
+    forwarded();
+    by_the_targets_id();
+    scan();
+    allocated();
+    refused();
+    nothing_lent();
+    return faults != 0;
+}
