@@ -77,7 +77,7 @@ fn differ(one: (&dyn Store, Reply), other: (&dyn Store, Reply)) -> Option<String
 }
 
 /// Allocate takes 16 bits in the published Rust: a larger size cannot be asked of it.
-fn askable(call: Call) -> bool {
+pub fn askable(call: Call) -> bool {
     !matches!(call, Call::Allocate { size } if size > u16::MAX.into())
 }
 

@@ -1,13 +1,15 @@
 //! Generated sequences of calls on the crate and on the corrected Rust: equal answers, ids, places
-//! and bytes after every call; and the judge's committed traces.
+//! and bytes after every call; the published Rust beside them up to the first call that meets a
+//! fault; and the judge's committed traces.
 
 use compare::Ours;
 use judge::poke::poke_store;
 use judge::sequence::{any_style, few_pages, Event, Sequence};
 use judge::trace;
+use judge::trial::askable;
 use std::path::Path;
 use std::{env, fs};
-use store::{perform, Call, Store, PAGE_SIZE};
+use store::{perform, Call, Reply, Store, PAGE_SIZE};
 
 /// How many sequences are run, unless HEKATOSUY_SEQUENCES says another number.
 const USUAL_SEQUENCES: u64 = 1000;
@@ -15,12 +17,24 @@ const USUAL_SEQUENCES: u64 = 1000;
 struct Pair {
     ours: Ours,
     corrected: corrected::LentStore,
+    /// Tells which faults a call meets.
+    model: model::Model,
+    /// The published Rust, until a call meets a fault.
+    original: Option<original::LentStore>,
+    /// Calls that were compared with the published Rust.
+    published: u64,
 }
 
 impl Pair {
     fn new(n: usize) -> Pair {
         let (segment, inventory) = (vec![0; n * PAGE_SIZE], vec![0; PAGE_SIZE]);
-        Pair { ours: Ours::new(&segment, &inventory), corrected: corrected::LentStore::new(&segment, &inventory) }
+        Pair {
+            ours: Ours::new(&segment, &inventory),
+            corrected: corrected::LentStore::new(&segment, &inventory),
+            model: model::Model::new(&segment, &inventory),
+            original: Some(original::LentStore::new(&segment, &inventory)),
+            published: 0,
+        }
     }
 
     fn call(&mut self, call: Call) {
@@ -28,6 +42,21 @@ impl Pair {
         assert_eq!(ours, corrected, "{call}: ours and the corrected Rust's answer");
         assert!(self.ours.segment() == self.corrected.segment(), "{call} leaves another segment");
         assert!(self.ours.inventory() == self.corrected.inventory(), "{call} leaves another inventory");
+        self.ask_original(call, ours);
+    }
+
+    fn ask_original(&mut self, call: Call, ours: Reply) {
+        self.model.notes.faults = 0;
+        perform(&mut self.model, call);
+        if self.model.notes.faults != 0 || !askable(call) {
+            self.original = None;
+        }
+        if let Some(original) = &mut self.original {
+            assert_eq!(ours, perform(original, call), "{call}: ours and the published Rust's answer");
+            assert!(self.ours.segment() == original.segment(), "{call} leaves another segment than the published Rust");
+            assert!(self.ours.inventory() == original.inventory(), "{call} leaves another inventory than the published Rust");
+            self.published += 1;
+        }
     }
 
     fn run(&mut self, sequence: &mut Sequence) -> u64 {
@@ -41,6 +70,10 @@ impl Pair {
                 Event::Pokes(pokes) => {
                     poke_store(&mut self.ours, &pokes);
                     poke_store(&mut self.corrected, &pokes);
+                    poke_store(&mut self.model, &pokes);
+                    if let Some(original) = &mut self.original {
+                        poke_store(original, &pokes);
+                    }
                 }
             }
         }
@@ -51,24 +84,23 @@ impl Pair {
 #[test]
 fn generated_sequences() {
     let wanted = env::var("HEKATOSUY_SEQUENCES").ok().and_then(|number| number.parse().ok());
-    let mut calls = 0;
+    let (mut calls, mut published) = (0, 0);
     for seed in 5_000_000..5_000_000 + wanted.unwrap_or(USUAL_SEQUENCES) {
         let n = few_pages(seed);
         println!("seed {seed}, {n} pages");
-        calls += Pair::new(n).run(&mut Sequence::new(seed, any_style(seed), n, 100));
+        let mut pair = Pair::new(n);
+        calls += pair.run(&mut Sequence::new(seed, any_style(seed), n, 100));
+        published += pair.published;
     }
-    println!("{calls} calls, all equal");
+    println!("{calls} calls, all equal; {published} of them before a fault, equal to the published Rust too");
+    assert!(published * 50 > calls, "only {published} calls were compared with the published Rust");
 }
 
 #[test]
 fn committed_traces() {
-    let folder = Path::new(env!("CARGO_MANIFEST_DIR")).join("../../oracle/traces");
-    let mut calls = 0;
-    for file in fs::read_dir(&folder).expect("the judge's traces are there") {
-        let path = file.expect("a trace is listed").path();
-        let text = fs::read_to_string(&path).expect("a trace is read");
-        let lend = |segment: &[u8], inventory: &[u8]| Some(Box::new(Ours::new(segment, inventory)) as Box<dyn Store>);
-        calls += trace::replay(&text, &lend).unwrap_or_else(|what| panic!("{}: {what}", path.display()));
-    }
+    let path = Path::new(env!("CARGO_MANIFEST_DIR")).join("../../crates/replay/stdin");
+    let text = fs::read_to_string(&path).expect("the judge's traces are there");
+    let lend = |segment: &[u8], inventory: &[u8]| Some(Box::new(Ours::new(segment, inventory)) as Box<dyn Store>);
+    let calls = trace::replay(&text, &lend).unwrap_or_else(|what| panic!("{}: {what}", path.display()));
     assert!(calls > 1000, "only {calls} calls were replayed");
 }
