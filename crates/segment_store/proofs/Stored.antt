@@ -3,7 +3,7 @@
 use Prim.Native.Nat.{ℕ, _+_, _-_, _*_, _/_, _≤_, _<_}
 use mathlib.Core.Path.{_≡_, refl, sym, ap, subst, _∙_}
 use mathlib.Core.Bool.{true, false, _&&_, _||_}
-use mathlib.Core.List.{List, [], _∷_, _++_}
+use mathlib.Core.List.{List, [], _++_}
 use native.Mathlib.Omega.{arith}
 use lib.ListN.{length, take, drop, length-drop}
 use lib.Seq.{length-take-le}
@@ -14,7 +14,7 @@ use Rattle.store.specs.Slots.{off, len, isFree, isTarget}
 use Rattle.store.specs.Page.{view, sound}
 use Rattle.store.specs.PageSteps.{Plan, filled, Relocated, moved, relocate}
 use Rattle.store.specs.Inventory.{Room, update, foundIn}
-use Rattle.store.specs.Segment.{segView, pageOf, sizeOk, invOk, OnPage, on, Out, Result, result, step, Found, nowhere, found, find, pointsBack, forwarded, forwardedAgain, atHome, atTarget, storeBy, storePlan, writeStep, resizeStep}
+use Rattle.store.specs.Segment.{segView, pageOf, sizeOk, invOk, OnPage, on, Result, result, step, Found, nowhere, found, find, pointsBack, forwarded, forwardedAgain, atHome, atTarget, storeBy, storePlan, writeStep, resizeStep}
 use Rattle.store.specs.Answers.{outcome}
 use Rattle.store.specs.Laws.Numbers.{cut-same, cut-drop}
 use Rattle.store.specs.Laws.SoundPage.{sound-test}
@@ -87,9 +87,6 @@ saved t q at n h room old e =
     ap (take n) e ∙ cut-same q 0 (cut t at n) n l (omega arith)
 
 module _ (s : List ℕ) (p k : ℕ) (o : PageOk s p k) where
-  pub in-segment : p * 16384 + (off (segView s .page p .at k) + len (segView s .page p .at k)) ≤ length s
-  in-segment = omega (arith, o .fits, o .sound .high k)
-
   pub slot-cut : cut s (p * 16384 + off (segView s .page p .at k)) (len (segView s .page p .at k)) ≡ segView s .page p .bytes k
   slot-cut = seen-bytes s p k (o .sound .high k)
 

@@ -12,7 +12,7 @@ ghost use Rattle.store.specs.Segment.{segView, result, storeBy, writeStep};
 ghost use Rattle.store.specs.Answers.{outcome};
 ghost use Rattle.lent_steps.specs.After.{Sizes};
 
-// The record of an ordinary slot, wherever it lies: "try the root page first".
+// The record of an ordinary slot, wherever it lies: "the root page first", then a new target.
 fn write_ordinary(segment: &mut [u8], inventory: &mut [u8], id: usize, bytes: &[u8]) -> Answer
     requires { ⌜ Sizes (now segment) (now inventory) ⌝ }
     requires { ⌜ (pageNo id * 16384 + 16384 ≤ length (now segment)) × (sound (segView (now segment) .page (pageNo id)) ≡ true) × (isFree (segView (now segment) .page (pageNo id) .at (slotNo id)) ≡ false)
