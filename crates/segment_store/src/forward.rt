@@ -4,7 +4,13 @@ use store::Named;
 use store::Place;
 
 // The first forwarding: the root's record becomes a redirect. The new target has the bytes, cut off or filled up with zeros to `size`.
-pub fn forward(segment: &mut [u8], inventory: &mut [u8], id: usize, bytes: &[u8], size: usize) -> Answer {
+pub fn forward(
+    segment: &mut [u8],
+    inventory: &mut [u8],
+    id: usize,
+    bytes: &[u8],
+    size: usize,
+) -> Answer {
     let named = free_space_inventory::find_page(inventory, segment.len() / 16384, size + 16);
     let Named::At { page } = named else {
         return Answer::Full;
@@ -26,7 +32,14 @@ pub fn forward(segment: &mut [u8], inventory: &mut [u8], id: usize, bytes: &[u8]
 }
 
 // The second: the root's redirect names the new target, and the old one at t is freed.
-pub fn forward_again(segment: &mut [u8], inventory: &mut [u8], id: usize, t: usize, bytes: &[u8], size: usize) -> Answer {
+pub fn forward_again(
+    segment: &mut [u8],
+    inventory: &mut [u8],
+    id: usize,
+    t: usize,
+    bytes: &[u8],
+    size: usize,
+) -> Answer {
     let named = free_space_inventory::find_page(inventory, segment.len() / 16384, size + 16);
     let Named::At { page } = named else {
         return Answer::Full;

@@ -7,13 +7,27 @@ fn save(segment: &[u8], at: usize, n: usize, old: &mut [u8]) {
     layout::copy_in(old, 0, &segment[at..e]);
 }
 
-fn forward_old(segment: &mut [u8], inventory: &mut [u8], id: usize, at: usize, n: usize, size: usize) -> Answer {
+fn forward_old(
+    segment: &mut [u8],
+    inventory: &mut [u8],
+    id: usize,
+    at: usize,
+    n: usize,
+    size: usize,
+) -> Answer {
     let mut old = [0u8; 16384];
     save(segment, at, n, &mut old);
     crate::forward::forward(segment, inventory, id, &old[..n], size)
 }
 
-fn resize_ordinary(segment: &mut [u8], inventory: &mut [u8], id: usize, at: usize, n: usize, size: usize) -> Answer {
+fn resize_ordinary(
+    segment: &mut [u8],
+    inventory: &mut [u8],
+    id: usize,
+    at: usize,
+    n: usize,
+    size: usize,
+) -> Answer {
     if lent_steps::resize_on(segment, id / 65536, id % 65536, size) {
         lent_steps::update_on(segment, inventory, id / 65536);
         return Answer::Done { id };
@@ -22,7 +36,14 @@ fn resize_ordinary(segment: &mut [u8], inventory: &mut [u8], id: usize, at: usiz
 }
 
 // With the n old bytes of the target at t saved.
-fn resize_saved(segment: &mut [u8], inventory: &mut [u8], id: usize, t: usize, old: &[u8], size: usize) -> Answer {
+fn resize_saved(
+    segment: &mut [u8],
+    inventory: &mut [u8],
+    id: usize,
+    t: usize,
+    old: &[u8],
+    size: usize,
+) -> Answer {
     if lent_steps::rewrite_on(segment, id / 65536, id % 65536, old, size) {
         return crate::forward::come_home(segment, inventory, id, t);
     }
@@ -33,14 +54,25 @@ fn resize_saved(segment: &mut [u8], inventory: &mut [u8], id: usize, t: usize, o
     crate::forward::forward_again(segment, inventory, id, t, old, size)
 }
 
-fn resize_forwarded(segment: &mut [u8], inventory: &mut [u8], id: usize, t: usize, size: usize) -> Answer {
+fn resize_forwarded(
+    segment: &mut [u8],
+    inventory: &mut [u8],
+    id: usize,
+    t: usize,
+    size: usize,
+) -> Answer {
     if !lent_pages::points_back(segment, id, t) {
         return Answer::Damaged;
     }
     let s = lent_pages::slot_on(segment, t / 65536, t % 65536);
     let n = layout::slots::len_of(s) - 8;
     let mut old = [0u8; 16384];
-    save(segment, t / 65536 * 16384 + layout::slots::off_of(s) + 8, n, &mut old);
+    save(
+        segment,
+        t / 65536 * 16384 + layout::slots::off_of(s) + 8,
+        n,
+        &mut old,
+    );
     resize_saved(segment, inventory, id, t, &old[..n], size)
 }
 
@@ -60,7 +92,14 @@ pub fn resize_record(segment: &mut [u8], inventory: &mut [u8], id: usize, size: 
     }
     let s = lent_pages::slot_on(segment, p, id % 65536);
     match s {
-        Slot::Ordinary { offset, length } => resize_ordinary(segment, inventory, id, p * 16384 + offset, length, size),
+        Slot::Ordinary { offset, length } => resize_ordinary(
+            segment,
+            inventory,
+            id,
+            p * 16384 + offset,
+            length,
+            size,
+        ),
         Slot::Free => Answer::NoRecord,
         Slot::Redirect { id: t } => resize_forwarded(segment, inventory, id, t, size),
         Slot::Target {

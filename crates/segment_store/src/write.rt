@@ -9,7 +9,13 @@ fn write_ordinary(segment: &mut [u8], inventory: &mut [u8], id: usize, record: &
     crate::forward::forward(segment, inventory, id, record, record.len())
 }
 
-fn write_forwarded(segment: &mut [u8], inventory: &mut [u8], id: usize, t: usize, record: &[u8]) -> Answer {
+fn write_forwarded(
+    segment: &mut [u8],
+    inventory: &mut [u8],
+    id: usize,
+    t: usize,
+    record: &[u8],
+) -> Answer {
     if !lent_pages::points_back(segment, id, t) {
         return Answer::Damaged;
     }

@@ -1,5 +1,5 @@
 //! Generated sequences of calls on the crate and on the corrected Rust: equal answers, ids, places
-//! and bytes after every call; and the judge's committed traces.
+//! and bytes after every call; and the committed sample of traces.
 
 use compare::Ours;
 use judge::poke::poke_store;
@@ -62,13 +62,9 @@ fn generated_sequences() {
 
 #[test]
 fn committed_traces() {
-    let folder = Path::new(env!("CARGO_MANIFEST_DIR")).join("../../oracle/traces");
-    let mut calls = 0;
-    for file in fs::read_dir(&folder).expect("the judge's traces are there") {
-        let path = file.expect("a trace is listed").path();
-        let text = fs::read_to_string(&path).expect("a trace is read");
-        let lend = |segment: &[u8], inventory: &[u8]| Some(Box::new(Ours::new(segment, inventory)) as Box<dyn Store>);
-        calls += trace::replay(&text, &lend).unwrap_or_else(|what| panic!("{}: {what}", path.display()));
-    }
+    let path = Path::new(env!("CARGO_MANIFEST_DIR")).join("../../crates/replay/stdin");
+    let text = fs::read_to_string(&path).expect("the sample of traces is read");
+    let lend = |segment: &[u8], inventory: &[u8]| Some(Box::new(Ours::new(segment, inventory)) as Box<dyn Store>);
+    let calls = trace::replay(&text, &lend).unwrap_or_else(|what| panic!("{}: {what}", path.display()));
     assert!(calls > 1000, "only {calls} calls were replayed");
 }
