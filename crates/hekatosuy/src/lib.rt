@@ -12,7 +12,7 @@ ghost use lib.Dec.{eqb};
 ghost use Rattle.store.specs.Numbers.{idOf, pageNo, slotNo};
 ghost use Rattle.store.specs.Segment.{insertStep, allocateStep, writeStep, resizeStep, eraseStep, locateStep};
 ghost use Rattle.store.specs.Scan.{without, scanStep};
-ghost use Rattle.store.specs.Answers.{answerNo, answerId, readingNo, readingPart, scannedOf};
+ghost use Rattle.store.specs.Answers.{answerNo, answerId, readingPart, scannedOf};
 ghost use Rattle.hekatosuy.specs.Handed.{withId, withoutId, stepped, InPlace};
 
 // "Answers by number".
@@ -125,21 +125,6 @@ pub extern "C" fn hk_erase_record(segment: &mut [u8], inventory: &mut [u8], id: 
     answer_no(a)
 }
 
-fn reading_no(r: Reading) -> u64
-    ensures { λ n. ⌜ n ≡ readingNo r ⌝ }
-{
-    match r {
-        Reading::At {
-            offset: _,
-            length: _,
-        } => 0,
-        Reading::Size => 1,
-        Reading::NoPage => 2,
-        Reading::Damaged => 4,
-        Reading::NoRecord => 5,
-    }
-}
-
 // "an empty part for a read" that is refused.
 fn offset_of(r: Reading) -> u64
     ensures { λ n. ⌜ n ≡ readingPart r .offset ⌝ }
@@ -174,7 +159,7 @@ pub extern "C" fn hk_get_record(segment: &[u8], id: u64, offset: &mut u64, lengt
     let r = segment_read::find_record(segment, id as usize);
     *offset = offset_of(r);
     *length = length_of(r);
-    reading_no(r)
+    segment_read::reading_no(r) as u64
 }
 
 // What a step of the scan hands to C.

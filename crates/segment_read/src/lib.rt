@@ -71,7 +71,8 @@ pub fn find_record(segment: &[u8], id: usize) -> Reading
     read_slot(segment, id, s)
 }
 
-fn reading_no(r: Reading) -> usize
+// "Answers by number", of a read.
+pub fn reading_no(r: Reading) -> usize
     ensures { λ n. ⌜ n ≡ readingNo r ⌝ }
 {
     match r {
