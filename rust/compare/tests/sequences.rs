@@ -1,6 +1,6 @@
 //! Generated sequences of calls on the crate and on the corrected Rust: equal answers, ids, places
-//! and bytes after every call; the published Rust beside them up to the first call that meets a
-//! fault; and the judge's committed traces.
+//! and bytes after every call; the published Rust beside them on every call that meets no fault,
+//! from the same bytes; and the judge's committed traces.
 
 use compare::Ours;
 use judge::poke::poke_store;
@@ -19,9 +19,8 @@ struct Pair {
     corrected: corrected::LentStore,
     /// Tells which faults a call meets.
     model: model::Model,
-    /// The published Rust, until a call meets a fault.
-    original: Option<original::LentStore>,
-    /// Calls that were compared with the published Rust.
+    original: original::LentStore,
+    /// Calls that met no fault and were compared with the published Rust.
     published: u64,
 }
 
@@ -32,7 +31,7 @@ impl Pair {
             ours: Ours::new(&segment, &inventory),
             corrected: corrected::LentStore::new(&segment, &inventory),
             model: model::Model::new(&segment, &inventory),
-            original: Some(original::LentStore::new(&segment, &inventory)),
+            original: original::LentStore::new(&segment, &inventory),
             published: 0,
         }
     }
@@ -49,14 +48,13 @@ impl Pair {
         self.model.notes.faults = 0;
         perform(&mut self.model, call);
         if self.model.notes.faults != 0 || !askable(call) {
-            self.original = None;
+            self.original.load(self.ours.segment(), self.ours.inventory());
+            return;
         }
-        if let Some(original) = &mut self.original {
-            assert_eq!(ours, perform(original, call), "{call}: ours and the published Rust's answer");
-            assert!(self.ours.segment() == original.segment(), "{call} leaves another segment than the published Rust");
-            assert!(self.ours.inventory() == original.inventory(), "{call} leaves another inventory than the published Rust");
-            self.published += 1;
-        }
+        assert_eq!(ours, perform(&mut self.original, call), "{call}: ours and the published Rust's answer");
+        assert!(self.ours.segment() == self.original.segment(), "{call} leaves another segment than the published Rust");
+        assert!(self.ours.inventory() == self.original.inventory(), "{call} leaves another inventory than the published Rust");
+        self.published += 1;
     }
 
     fn run(&mut self, sequence: &mut Sequence) -> u64 {
@@ -71,9 +69,7 @@ impl Pair {
                     poke_store(&mut self.ours, &pokes);
                     poke_store(&mut self.corrected, &pokes);
                     poke_store(&mut self.model, &pokes);
-                    if let Some(original) = &mut self.original {
-                        poke_store(original, &pokes);
-                    }
+                    poke_store(&mut self.original, &pokes);
                 }
             }
         }
@@ -92,8 +88,8 @@ fn generated_sequences() {
         calls += pair.run(&mut Sequence::new(seed, any_style(seed), n, 100));
         published += pair.published;
     }
-    println!("{calls} calls, all equal; {published} of them before a fault, equal to the published Rust too");
-    assert!(published * 50 > calls, "only {published} calls were compared with the published Rust");
+    println!("{calls} calls, all equal; {published} of them met no fault and are equal to the published Rust's too");
+    assert!(published * 5 > calls, "only {published} calls were compared with the published Rust");
 }
 
 #[test]
