@@ -71,11 +71,15 @@ pub fn move_up(page: &mut [u8], from: usize, n: usize, to: usize)
     }
 }
 
-// The n bytes at `from` to `to`, also where the two runs overlap.
+// The n bytes at `from` to `to`, also where the two runs overlap. Where they are one run nothing is to be done: compactify finds most
+// records in their place.
 pub fn move_within(page: &mut [u8], from: usize, n: usize, to: usize)
     requires { ⌜ (from + n ≤ length (now page)) × (to + n ≤ length (now page)) ⌝ }
     ensures { λ _. ⌜ now (page .exit) ≡ put (now (page .entry)) to (cut (now (page .entry)) from n) ⌝ }
 {
+    if to == from {
+        return;
+    }
     if to <= from {
         move_down(page, from, n, to);
     } else {

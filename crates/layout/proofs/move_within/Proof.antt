@@ -1,0 +1,54 @@
+-- `layout::move_within` meets its contract. Assumes nothing.
+use mathlib.Core.Path.{_≡_, sym, ap, _∙_}
+use mathlib.Core.List.{List, _++_}
+use Prim.Native.Nat.{ℕ, _+_, _≤_}
+use native.Mathlib.Omega.{arith}
+use lib.ListN.{length, take, drop, length-drop, take-append-drop}
+use lib.Seq.{length-take-le, drop-drop}
+use Rattle.store.specs.Numbers.{cut, put}
+use Rattle.store.specs.Laws.Numbers.{put-parts}
+use borrow.Author.Needs.{needs}
+use Rattle.layout.proofs.move_within.Statement.{statement}
+use Rattle.layout.proofs.move_within.Tie as tie
+use Rattle.layout.proofs.move_within.Reads as reads
+use Rattle.layout.proofs.move_within.Lts as lts
+use Rattle.layout.proofs.move_down.Reads as move-down-reads
+use Rattle.layout.proofs.move_up.Reads as move-up-reads
+
+-- what stands there, written again
+put-own : (q : List ℕ) (i n : ℕ) → i + n ≤ length q → put q i (cut q i n) ≡ q
+put-own q i n h =
+    let l : length (cut q i n) ≡ n = length-take-le n (drop i q) (rw length-drop (omega arith)) in
+    put-parts q i (cut q i n) (omega arith)
+    ∙ ap (λ (m : ℕ). take i q ++ (cut q i n ++ drop (i + m) q)) l
+    ∙ ap (λ (z : List ℕ). take i q ++ (cut q i n ++ z)) (sym (drop-drop n i q))
+    ∙ ap (λ (z : List ℕ). take i q ++ z) (take-append-drop n (drop i q))
+    ∙ take-append-drop i q
+
+returns : tie.Need-returns
+returns c =
+    let z = c .before .before in
+    let q : List ℕ = z .args .page .now in
+    let e : z .args .to ≡ z .args .from = c .if1 .taken in
+    sym (ap (λ (i : ℕ). put q i (cut q (z .args .from) (z .args .n))) e ∙ put-own q (z .args .from) (z .args .n) (z .pre .0))
+
+move-down-requires : tie.Need-move-down-requires
+move-down-requires c κs = search needs
+
+move-up-requires : tie.Need-move-up-requires
+move-up-requires c κs = search needs
+
+same-length : tie.Need-same-length
+same-length c = search needs
+
+returns-2 : tie.Need-returns-2
+returns-2 c = search needs
+
+same-length-2 : tie.Need-same-length-2
+same-length-2 c = search needs
+
+returns-3 : tie.Need-returns-3
+returns-3 c = search needs
+
+pub move-within-spec : {M : Type 1} → statement M
+move-within-spec = tie.close (tie.spec returns move-down-requires move-up-requires same-length returns-2 same-length-2 returns-3)
