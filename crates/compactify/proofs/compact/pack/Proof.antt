@@ -6,7 +6,7 @@ use lib.ListN.{length, getD, take, drop}
 use Rattle.store.specs.Page.{view}
 use Rattle.store.specs.PageSteps.{pack, run}
 use Rattle.compactify.specs.Keys.{lenIn, slotsOf}
-use Rattle.compactify.proofs.PackLaws.{Todo, Turn, turn-at, todo-end}
+use Rattle.compactify.proofs.PackLaws.{ToPack, Turn, turn-at, to-pack-end}
 use Rattle.compactify.proofs.compact.pack.Statement.{statement}
 use Rattle.compactify.proofs.compact.pack.Tie as tie
 use Rattle.compactify.proofs.compact.pack.Reads as reads
@@ -18,7 +18,7 @@ use Rattle.layout.proofs.header.get_free_space.Reads as get-free-space-reads
 use Rattle.layout.proofs.header.set_header.Reads as set-header-reads
 
 abbrev Inv-loop : tie.InvT-loop
-Inv-loop page₀ t n d₀ j₀ page d j = Todo (drop j (take n t)) d page (run (pack (slotsOf (take n t)) 16384 (view page₀) .edits) page₀) (pack (slotsOf (take n t)) 16384 (view page₀) .after .dataStart) × (j ≤ n) × (length page ≡ 16384) × (d ≤ 16384)
+Inv-loop page₀ t n d₀ j₀ page d j = ToPack (drop j (take n t)) d page (run (pack (slotsOf (take n t)) 16384 (view page₀) .edits) page₀) (pack (slotsOf (take n t)) 16384 (view page₀) .after .dataStart) × (j ≤ n) × (length page ≡ 16384) × (d ≤ 16384)
 
 abbrev μ-loop : tie.MeasureT-loop
 μ-loop page₀ t n d₀ j₀ page d j = n - j
@@ -92,7 +92,7 @@ returns c =
     let v = view (s .page .now) in
     let ks = slotsOf (take (s .n) (s .t .now)) in
     let e : l .j ≡ s .n = omega arith in
-    todo-end (s .t .now) (s .n) (l .d) (pack ks 16384 v .after .dataStart) (n .get-slot-count .result) (f .get-first-free-slot .result) (r .get-free-space .result) (l .page) (run (pack ks 16384 v .edits) (s .page .now)) (z .set-header .last .0)
+    to-pack-end (s .t .now) (s .n) (l .d) (pack ks 16384 v .after .dataStart) (n .get-slot-count .result) (f .get-first-free-slot .result) (r .get-free-space .result) (l .page) (run (pack ks 16384 v .edits) (s .page .now)) (z .set-header .last .0)
     (c .before .before .before .before .before .before .before .before .before .before .before .before .before .before .pre .1) (rw e at (l .inv .0)) (n .get-slot-count .ensures .0) (f .get-first-free-slot .ensures .0) (r .get-free-space .ensures .0) (z .set-header .ensures)
 
 pub pack-spec : {M : Type 1} → statement M
