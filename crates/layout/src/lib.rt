@@ -26,11 +26,8 @@ pub fn copy_in(page: &mut [u8], at: usize, src: &[u8])
     requires { ⌜ at + length (now src) ≤ length (now page) ⌝ }
     ensures { λ _. ⌜ now (page .exit) ≡ put (now (page .entry)) at (now (src .entry)) ⌝ }
 {
-    let mut j = 0;
-    while j < src.len() {
-        page[at + j] = src[j];
-        j += 1;
-    }
+    let e = at + src.len();
+    bytes::copy(src, &mut page[at..e]);
 }
 
 // src from `at` on, cut off or filled up with zeros to `size` bytes.

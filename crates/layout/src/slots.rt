@@ -4,7 +4,7 @@ ghost use mathlib.Core.Path.{_≡_};
 ghost use Prim.Native.Nat.{_+_, _*_, _^_, _≤_, _<_};
 ghost use lib.ListN.{length};
 ghost use Rattle.store.specs.Numbers.{put};
-ghost use Rattle.store.specs.Slots.{slotWord, slotBytes, slotOf, off, len, isFree, isRecord};
+ghost use Rattle.store.specs.Slots.{slotWord, slotBytes, slotOf, off, len, isFree, isRecord, isTarget};
 ghost use Rattle.store.specs.Page.{view};
 ghost use Rattle.store.specs.Laws.Slots.{Codable};
 
@@ -89,6 +89,23 @@ pub fn is_record(s: Slot) -> bool
             offset: _,
             length: _,
         } => true,
+        Slot::Free => false,
+        Slot::Redirect { id: _ } => false,
+        Slot::Target {
+            offset: _,
+            length: _,
+        } => true,
+    }
+}
+
+pub fn is_target(s: Slot) -> bool
+    ensures { λ r. ⌜ r ≡ isTarget s ⌝ }
+{
+    match s {
+        Slot::Ordinary {
+            offset: _,
+            length: _,
+        } => false,
         Slot::Free => false,
         Slot::Redirect { id: _ } => false,
         Slot::Target {

@@ -1,5 +1,5 @@
 -- What is known of a segment after page steps, for the calls that take several. Assumes nothing.
-use Prim.Native.Nat.{ℕ, zero, suc, _+_, _*_, _/_, _^_, _≤_, _<_}
+use Prim.Native.Nat.{ℕ, suc, _+_, _*_, _/_, _^_, _≤_, _<_}
 use mathlib.Core.Path.{_≡_, refl, sym, ap, subst, _∙_}
 use mathlib.Core.Bool.{true, false, _&&_}
 use mathlib.Core.List.{List, [], _∷_, _++_}
@@ -14,7 +14,7 @@ use Rattle.store.specs.Page.{View, view, slotAt, sound}
 use Rattle.store.specs.PageSteps.{opened, apply, move, fill, run, Plan, plan, stay, withSlot, filled, erase, eraseForRedirect, Alloc, noRoom, got, allocate, Relocated, refused, moved, relocate}
 use Rattle.store.specs.Inventory.{Room, update}
 use Rattle.store.specs.Segment.{segView, pageOf, OnPage, on, carriedOn, sizeOk, invOk}
-use Rattle.store.specs.Laws.Numbers.{length-put, put-nil}
+use Rattle.store.specs.Laws.Numbers.{length-put, put-own, put-swap}
 use Rattle.store.specs.Laws.Exact.{Exact, exact-then, length-run, run-append}
 use Rattle.store.specs.Laws.Segments.{length-page, page-same, page-other, ExactOn, exact-skip}
 use Rattle.store.specs.Laws.OneSlot.{redirect-exact}
@@ -27,7 +27,6 @@ use Rattle.store.specs.declared.Slot.the-variants.{Redirect, Target}
 use Rattle.store.specs.declared.Place.{Place}
 use Rattle.store.specs.declared.Place.the-variants.{At, NoRoom}
 use Rattle.slotted_page.specs.Words.{pageAfter, placeOf, targetPlan, targetAt, redirectPlan, pageMoved, wasMoved, refilled}
-use Rattle.lent_steps.specs.Lent.{put-own}
 
 -- ---- sizes
 
@@ -270,14 +269,6 @@ fill-own q a whole x k bs e =
 
 -- ---- two steps on different pages, in either order
 
-put-swap : (s : List ℕ) (i : ℕ) (a : List ℕ) (j : ℕ) (b : List ℕ) → i + length a ≤ j → put (put s i a) j b ≡ put (put s j b) i a
-put-swap [] i a j b h = refl
-put-swap (x ∷ s) (suc i) a zero b h = absurd (omega arith)
-put-swap (x ∷ s) (suc i) a (suc j) b h = ap {B = List ℕ} (λ r. x ∷ r) (put-swap s i a j b (omega arith))
-put-swap (x ∷ s) zero [] j b h = sym (put-nil (put (x ∷ s) j b) zero)
-put-swap (x ∷ s) zero (v ∷ a) zero b h = absurd (omega arith)
-put-swap (x ∷ s) zero (v ∷ a) (suc j) b h = ap {B = List ℕ} (λ r. v ∷ r) (put-swap s zero a j b (omega arith))
-
 pub carried-swap : (s : List ℕ) (e f : OnPage) → ExactOn s e → ExactOn s f → f .on ≢ e .on → carriedOn f (carriedOn e s) ≡ carriedOn e (carriedOn f s)
 unfolding ran
 carried-swap s e f x y n =
@@ -292,8 +283,8 @@ carried-swap s e f x y n =
     b = ran s f y
 
     swap : Dec (e .on < f .on) → put (put s (e .on * 16384) a) (f .on * 16384) b ≡ put (put s (f .on * 16384) b) (e .on * 16384) a
-    swap (yes l) = put-swap s (e .on * 16384) a (f .on * 16384) b (omega (arith, ran-whole s e x))
-    swap (no l) = sym (put-swap s (f .on * 16384) b (e .on * 16384) a (omega (arith, ran-whole s f y)))
+    swap (yes l) = sym (put-swap s (e .on * 16384) (f .on * 16384) a b (omega (arith, ran-whole s e x)))
+    swap (no l) = put-swap s (f .on * 16384) (e .on * 16384) b a (omega (arith, ran-whole s f y))
 
 -- three on different pages, the first of them last
 pub carried-last : (s : List ℕ) (e f g : OnPage) → ExactOn s e → ExactOn s f → ExactOn s g → f .on ≢ e .on → g .on ≢ e .on → g .on ≢ f .on

@@ -5,15 +5,13 @@ use mathlib.Core.Path.{_≡_, refl, sym, ap, subst, _∙_}
 use mathlib.Core.Bool.{Bool, true, false}
 use mathlib.Core.List.{List}
 use native.Mathlib.Omega.{arith}
-use lib.ListN.{length, drop, length-drop}
-use lib.Seq.{length-take-le}
-use borrow.Rule.Slice.PartMut.{putMid, put-same}
+use lib.ListN.{length}
+use borrow.Rule.Slice.PartMut.{putMid}
 use Rattle.store.specs.Numbers.{cut, put}
 use Rattle.store.specs.Slots.{isFree}
 use Rattle.store.specs.Page.{View, view, sound}
 use Rattle.store.specs.PageSteps.{run, Plan, Alloc, noRoom, got, relocate, Relocated, refused, moved}
 use Rattle.store.specs.Segment.{segView, pageOf, on, carriedOn}
-use Rattle.store.specs.Laws.Numbers.{lent}
 use Rattle.store.specs.Laws.Views.{Sound}
 use Rattle.store.specs.Laws.Exact.{length-run}
 use Rattle.store.specs.Laws.Segments.{length-page, lent-page}
@@ -27,13 +25,6 @@ lentPart s p = cut s (p * 16384) (p * 16384 + 16384 - p * 16384)
 
 pub lent-part : (s : List ℕ) (p : ℕ) → lentPart s p ≡ pageOf s p
 lent-part s p = let e : p * 16384 + 16384 - p * 16384 ≡ 16384 = omega arith in ap (cut s (p * 16384)) e
-
--- what stands there, written again
-pub put-own : (q : List ℕ) (i n : ℕ) → i + n ≤ length q → put q i (cut q i n) ≡ q
-put-own q i n h =
-    let k : i + n - i ≡ n = omega arith in
-    let l : length (cut q i n) ≡ i + n - i = length-take-le n (drop i q) (rw length-drop (omega arith)) ∙ sym k in
-    sym (lent q i (i + n) (cut q i n) (omega arith) h l) ∙ ap (λ (m : ℕ). putMid i m q (cut q i n)) k ∙ put-same i n q
 
 -- an allocation's page is as long as it was
 pub length-after : (a : Alloc) (q : List ℕ) → length (pageAfter a q) ≡ length q

@@ -1,24 +1,22 @@
 -- All slots: one more slot, and the whole page. Assumes nothing.
-use Prim.Native.Nat.{ℕ, zero, suc, _+_, _*_, _/_, _%_, _^_, _≤_, _<_}
+use Prim.Native.Nat.{ℕ, _+_, _*_, _≤_, _<_}
 use mathlib.Core.Path.{_≡_, refl, sym, ap, _∙_}
-use mathlib.Core.Bool.{Bool, true, false, cond}
+use mathlib.Core.Bool.{Bool, true, false}
 use mathlib.Core.List.{List}
 use mathlib.Core.Logic.{_⊎_, inl, inr, _≢_}
 use native.Mathlib.Omega.{arith}
 use native.Mathlib.Numerals.{add-one}
 use native.Mathlib.Decide.{decLt, ℕ-discrete}
 use lib.ListN.{length, drop, length-take, length-drop}
-use lib.Dec.{eqb, ltb}
-use borrow.Author.Tests.{le-ltb, eq-eqb, ne-eqb}
-use Rattle.store.specs.Numbers.{cut, be, sum}
-use Rattle.store.specs.Slots.{off, len, isTarget, slotOf, ofKind}
-use Rattle.store.specs.Page.{View, view, count, slotAt, sound}
-use Rattle.store.specs.Laws.Slots.{Codable}
+use lib.Dec.{eqb}
+use borrow.Author.Tests.{eq-eqb, ne-eqb}
+use Rattle.store.specs.Numbers.{sum}
+use Rattle.store.specs.Slots.{off, len, isTarget}
+use Rattle.store.specs.Page.{View, view, slotAt, sound}
 use Rattle.store.specs.Laws.Edits.{Apart}
 use Rattle.store.specs.Laws.Views.{Sound}
-use Rattle.store.specs.Laws.SoundPage.{sound-page, sound-test}
+use Rattle.store.specs.Laws.SoundPage.{sound-page, sound-test, past-free, page-codable}
 use Rattle.store.specs.declared.Slot.{Slot}
-use Rattle.store.specs.declared.Slot.the-variants.{Free}
 use Rattle.page_check.specs.Fit.{Allowed, Runs, RecordsFit, Total, HeaderFits}
 use Rattle.page_check.proofs.SlotLaws.{refuted}
 
@@ -67,24 +65,6 @@ fit-under v k f low o l h r a s =
     (λ i g p q. inr (omega (arith, r .above i g p, a .under)))
 
 -- ---- the page
-
-kind-codable : (k w : ℕ) → w < 2 ^ 62 → Codable (ofKind k w)
-kind-codable zero w h = (omega arith, omega arith)
-kind-codable (suc zero) w h = tt
-kind-codable (suc (suc zero)) w h = h
-kind-codable (suc (suc (suc k))) w h = (omega arith, omega arith)
-
-pub past-free : (p : List ℕ) (k : ℕ) → view p .slotCount ≤ k → view p .at k ≡ Free
-unfolding view
-past-free p k h = rw (le-ltb k (count p) h)
-
-entry-codable : (e : ℕ) (b : Bool) → Codable (cond b (slotOf e) Free)
-entry-codable e true = kind-codable (e / 2 ^ 62) (e % 2 ^ 62) (omega arith)
-entry-codable e false = tt
-
-page-codable : (p : List ℕ) (k : ℕ) → Codable (view p .at k)
-unfolding view
-page-codable p k = entry-codable (be (cut p (12 + 8 * k) 8)) (ltb k (count p))
 
 -- a slot count of 0
 pub fresh-sound : (p : List ℕ) (n : ℕ) → n ≡ view p .slotCount → n ≡ 0 → true ≡ sound (view p)

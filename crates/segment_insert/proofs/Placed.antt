@@ -12,6 +12,7 @@ use Rattle.store.specs.PageSteps.{Plan, filled, Alloc, noRoom, got, allocate}
 use Rattle.store.specs.Inventory.{foundIn}
 use Rattle.store.specs.Segment.{segView, pageOf, sizeOk, invOk, OnPage, on, result, taken, find, findOn, inserted, insertPlan, insertStep, allocateStep}
 use Rattle.store.specs.Answers.{outcome}
+use Rattle.store.specs.Laws.Numbers.{put-own}
 use Rattle.store.specs.Laws.Segments.{length-page, ExactOn}
 use Rattle.store.specs.Laws.Relocate.{fill-exact}
 use Rattle.store.specs.Laws.Changes.{AllocChanges, alloc-changes}
@@ -22,7 +23,6 @@ use Rattle.store.specs.declared.Place.{Place}
 use Rattle.store.specs.declared.Answer.{Answer}
 use Rattle.store.specs.declared.Answer.the-variants as answer
 use Rattle.slotted_page.specs.Words.{pageAfter, placeOf, filledAt}
-use Rattle.lent_steps.specs.Lent.{put-own}
 use Rattle.lent_steps.specs.After.{Took, took-length, left-own, left-room, left-update, fill-own}
 use Rattle.segment_insert.specs.Words.{insertOn, answerAt, classedAt, Told}
 

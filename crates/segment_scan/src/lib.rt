@@ -9,47 +9,13 @@ ghost use mathlib.Core.Bool.{true, not, _&&_};
 ghost use Prim.Native.Nat.{_+_, _-_, _*_, _/_, _^_, _≤_, _<_};
 ghost use lib.ListN.{length};
 ghost use lib.Dec.{eqb};
-ghost use Rattle.store.specs.Slots.{isRecord, isTarget};
+ghost use Rattle.store.specs.Slots.{isRecord};
 ghost use Rattle.store.specs.Page.{sound, liesWell};
 ghost use Rattle.store.specs.Laws.Slots.{Codable};
 ghost use Rattle.store.specs.Segment.{segView};
 ghost use Rattle.store.specs.Scan.{Scanned, recordAt, nextRecord, scanPlan, scanStep};
 ghost use Rattle.store.specs.Answers.{scannedOf};
 ghost use Rattle.segment_scan.specs.Pages.{liesAt, wellAt, isEnd, recordOr, onPage, orLater};
-
-fn is_target(s: Slot) -> bool
-    ensures { λ r. ⌜ r ≡ isTarget s ⌝ }
-{
-    match s {
-        Slot::Ordinary {
-            offset: _,
-            length: _,
-        } => false,
-        Slot::Free => false,
-        Slot::Redirect { id: _ } => false,
-        Slot::Target {
-            offset: _,
-            length: _,
-        } => true,
-    }
-}
-
-fn is_record(s: Slot) -> bool
-    ensures { λ r. ⌜ r ≡ isRecord s ⌝ }
-{
-    match s {
-        Slot::Ordinary {
-            offset: _,
-            length: _,
-        } => true,
-        Slot::Free => false,
-        Slot::Redirect { id: _ } => false,
-        Slot::Target {
-            offset: _,
-            length: _,
-        } => true,
-    }
-}
 
 // l bytes from o on lie between data start d and the page's end; of no bytes, o is at most the page's end.
 fn lies_at(d: usize, o: usize, l: usize) -> bool
@@ -75,7 +41,7 @@ fn lies_well(d: usize, s: Slot) -> bool
     if !lies_at(d, o, l) {
         return false;
     }
-    if !is_target(s) {
+    if !layout::slots::is_target(s) {
         return true;
     }
     8 <= l
@@ -90,7 +56,7 @@ fn record_at(segment: &[u8], p: usize, k: usize, s: Slot) -> Step
     let o = layout::slots::off_of(s);
     let l = layout::slots::len_of(s);
     let own = p * 65536 + k;
-    if is_target(s) {
+    if layout::slots::is_target(s) {
         let root = lent_pages::back_id_on(segment, p, o);
         return Step::Record {
             id: root,
@@ -129,7 +95,7 @@ fn next_record(segment: &[u8], p: usize, k: usize, n: usize) -> usize
 {
     let mut j = k;
     while j < n {
-        if is_record(lent_pages::slot_on(segment, p, j)) {
+        if layout::slots::is_record(lent_pages::slot_on(segment, p, j)) {
             return j;
         }
         j += 1;

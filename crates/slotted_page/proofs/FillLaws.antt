@@ -2,7 +2,7 @@
 use mathlib.Core.Path.{_≡_, refl, sym, ap, _∙_}
 use mathlib.Core.Bool.{true, false}
 use mathlib.Core.List.{List, [], _∷_, _++_}
-use Prim.Native.Nat.{ℕ, zero, suc, _+_, _*_, _≤_}
+use Prim.Native.Nat.{ℕ, _+_, _*_, _≤_}
 use native.Mathlib.Omega.{arith}
 use borrow.Author.Tests.{eq-eqb}
 use lib.ListN.{length, length-replicate}
@@ -10,7 +10,7 @@ use Rattle.store.specs.Numbers.{put, zeros}
 use Rattle.store.specs.Slots.{off, len, slotBytes}
 use Rattle.store.specs.Page.{View}
 use Rattle.store.specs.PageSteps.{Edit, apply, commit, fill, move, run, withSlot, Alloc, noRoom, got, Relocated, refused, moved}
-use Rattle.store.specs.Laws.Numbers.{put-nil}
+use Rattle.store.specs.Laws.Numbers.{put-over, put-swap}
 use Rattle.store.specs.Laws.Views.{upd-same}
 use Rattle.store.specs.Laws.Exact.{run-append}
 use Rattle.store.specs.declared.Slot.{Slot}
@@ -23,24 +23,6 @@ use Rattle.places.proofs.BareLaws.{commit-writes, run-bare}
 
 pub length-zeros : (n : ℕ) → length (zeros n) ≡ n
 length-zeros n = length-replicate n 0
-
--- ---- bytes written twice
-
-pub put-over : (p : List ℕ) (i : ℕ) (a b : List ℕ) → length a ≤ length b → put (put p i a) i b ≡ put p i b
-put-over [] i a b h = refl
-put-over (x ∷ p) (suc i) a b h = ap {B = List ℕ} (λ r. x ∷ r) (put-over p i a b h)
-put-over (x ∷ p) zero [] b h = refl
-put-over (x ∷ p) zero (y ∷ a) [] h = absurd (omega arith)
-put-over (x ∷ p) zero (y ∷ a) (z ∷ b) h = ap {B = List ℕ} (λ r. z ∷ r) (put-over p zero a b (omega arith))
-
--- two writes, the first below the second
-pub put-swap : (p : List ℕ) (i j : ℕ) (a b : List ℕ) → i + length a ≤ j → put (put p j b) i a ≡ put (put p i a) j b
-put-swap [] i j a b h = refl
-put-swap (x ∷ p) (suc i) zero a b h = absurd (omega arith)
-put-swap (x ∷ p) (suc i) (suc j) a b h = ap {B = List ℕ} (λ r. x ∷ r) (put-swap p i j a b (omega arith))
-put-swap (x ∷ p) zero j [] b h = put-nil (put (x ∷ p) j b) 0
-put-swap (x ∷ p) zero zero (y ∷ a) b h = absurd (omega arith)
-put-swap (x ∷ p) zero (suc j) (y ∷ a) b h = ap {B = List ℕ} (λ r. y ∷ r) (put-swap p zero j a b (omega arith))
 
 -- ---- the bytes written afterwards
 

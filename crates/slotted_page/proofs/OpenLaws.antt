@@ -12,7 +12,7 @@ use Rattle.store.specs.Numbers.{put, zeros, toBE}
 use Rattle.store.specs.Slots.{slotBytes}
 use Rattle.store.specs.Page.{View, view, sound}
 use Rattle.store.specs.PageSteps.{opened, initialised, apply, putHead, headBytes, withHead, allocate}
-use Rattle.store.specs.Laws.Numbers.{length-put}
+use Rattle.store.specs.Laws.Numbers.{length-put, put-over}
 use Rattle.store.specs.Laws.Edits.{head-view}
 use Rattle.store.specs.Laws.Views.{Sound, sound-fits}
 use Rattle.store.specs.Laws.SoundPage.{sound-init, sound-page}
@@ -22,7 +22,6 @@ use Rattle.store.specs.declared.Place.{Place}
 use Rattle.layout.specs.Run.{headOf}
 use Rattle.places.specs.Words.{pageBare, placeOf}
 use Rattle.places.proofs.BareLaws.{run-bare}
-use Rattle.slotted_page.proofs.FillLaws.{put-over}
 
 pub head-init : (p : List ℕ) → put p 0 (headOf 0 0 16384 16372) ≡ putHead initialised p
 unfolding headOf

@@ -7,15 +7,15 @@ use Prim.Native.Nat.{ℕ, _+_, _-_, _*_, _≤_, _<_}
 use native.Mathlib.Nat.{sub-zero}
 use native.Mathlib.Decide.{decLt}
 use native.Mathlib.Omega.{arith}
-use lib.ListN.{length, take, drop, length-drop, length-append, take-append-drop, drop-of-length-le, replicate-append-replicate}
-use lib.Seq.{drop-drop, take-take, take-all, take-add, length-take-le}
+use lib.ListN.{length, take, drop, length-drop, length-append, drop-of-length-le, replicate-append-replicate}
+use lib.Seq.{take-take, take-all, take-add}
 use lib.Dec.{ltb, eqb}
 use borrow.Author.Tests.{ltb-true, ltb-false, eqb-true, eqb-false, le-ltb}
 use Rattle.store.specs.Numbers.{put, cut, zeros, fit}
 use Rattle.store.specs.Slots.{slotBytes, off, len, isRecord, placed}
 use Rattle.store.specs.Page.{View, view}
 use Rattle.store.specs.PageSteps.{Edit, commit, run, withHead, stay, makeRoom, gap, moveUnder, parked, shrunk, resized, relocateBy, relocate, got, Relocated, refused, moved}
-use Rattle.store.specs.Laws.Numbers.{put-nil, put-parts, length-put, cut-apart, cut-same}
+use Rattle.store.specs.Laws.Numbers.{put-nil, put-own, put-over, put-swap, length-put, cut-apart, cut-same}
 use Rattle.store.specs.Laws.Views.{Sound, upd-same}
 use Rattle.store.specs.Laws.Calls.{by-test}
 use Rattle.store.specs.Laws.Exact.{length-run}
@@ -29,20 +29,8 @@ use Rattle.layout.proofs.Writes.{write-append, fit-cut, fit-filled}
 use Rattle.compactify.proofs.PackLaws.{shown-bytes}
 use Rattle.places.specs.Words.{unfilled, shrinkPlan, growPlan, allocOf, pageBare, placeOf}
 use Rattle.slotted_page.specs.Words.{pageAfter, pageMoved, wasMoved, refilled}
-use Rattle.places.proofs.BareLaws.{commit-writes}
-use Rattle.places.proofs.BareLaws.{run-bare}
-use Rattle.slotted_page.proofs.FillLaws.{put-over, put-swap, Ends, Ended, ends-by, commit-ends, written-done, fill-done, moved-done, refilled-done}
-
--- ---- bytes that stand there already
-
-put-own : (q : List ℕ) (i n : ℕ) → i + n ≤ length q → put q i (cut q i n) ≡ q
-put-own q i n h =
-    let l : length (cut q i n) ≡ n = length-take-le n (drop i q) (rw length-drop (omega arith)) in
-    put-parts q i (cut q i n) (omega arith)
-    ∙ ap (λ (m : ℕ). take i q ++ (cut q i n ++ drop (i + m) q)) l
-    ∙ ap (λ (z : List ℕ). take i q ++ (cut q i n ++ z)) (sym (drop-drop n i q))
-    ∙ ap (λ (z : List ℕ). take i q ++ z) (take-append-drop n (drop i q))
-    ∙ take-append-drop i q
+use Rattle.places.proofs.BareLaws.{commit-writes, run-bare}
+use Rattle.slotted_page.proofs.FillLaws.{Ends, Ended, ends-by, commit-ends, written-done, fill-done, moved-done, refilled-done}
 
 length-head : (c f d n : ℕ) → length (headOf c f d n) ≡ 12
 unfolding headOf

@@ -1,66 +1,52 @@
--- `layout::copy_in` meets its contract: after j turns the first j bytes of src are in place. Assumes nothing.
-use mathlib.Core.Path.{_≡_, refl, sym}
-use Prim.Native.Nat.{_≤_, _-_}
+-- `layout::copy_in` meets its contract: the part that is lent to `bytes::copy` comes back as src. Assumes nothing.
+use mathlib.Core.Path.{_≡_, sym, ap, _∙_}
+use mathlib.Core.List.{List, _++_, append-nil}
+use Prim.Native.Nat.{ℕ, _+_, _-_}
 use native.Mathlib.Omega.{arith}
-use lib.ListN.{length, take, length-set}
-use lib.Seq.{take-length}
-use Rattle.layout.proofs.Writes.{write, write-none, write-take-more}
+use lib.ListN.{length, take, drop, length-drop}
+use lib.Seq.{take-length, drop-length, length-take-le}
+use borrow.Rule.Slice.PartMut.{putMid}
+use borrow.Author.Needs.{needs}
+use Rattle.store.specs.Numbers.{cut}
+use Rattle.store.specs.Laws.Numbers.{lent}
 use Rattle.layout.proofs.copy_in.Statement.{statement}
 use Rattle.layout.proofs.copy_in.Tie as tie
 use Rattle.layout.proofs.copy_in.Reads as reads
 use Rattle.layout.proofs.copy_in.Lts as lts
+use Rattle.bytes.proofs.copy.Reads as copy-reads
 
-abbrev Inv-loop : tie.InvT-loop
-Inv-loop page₀ at src j₀ page j = (page ≡ write at (take j src) page₀) × (j ≤ length src) × (length page ≡ length page₀)
+-- a run of src's length, all of it written over
+over : (s d : List ℕ) → length d ≡ length s → take (length s) s ++ drop (length s) d ≡ s
+over s d e = rw take-length (ap (λ (n : ℕ). s ++ drop n d) (sym e) ∙ rw (drop-length, append-nil))
 
-abbrev μ-loop : tie.MeasureT-loop
-μ-loop page₀ at src j₀ page j = length src - j
+add-e : tie.Need-add-e
+add-e c = search needs
 
-loop-holds : tie.Need-loop-holds Inv-loop μ-loop
-loop-holds c = (sym (write-none _ _), omega arith, refl)
+sub-copy : tie.Need-sub-copy
+sub-copy c = search needs
 
-shared-slice-read-page : tie.Need-shared-slice-read-page Inv-loop μ-loop
-shared-slice-read-page c = omega arith
+part-copy-start : tie.Need-part-copy-start
+part-copy-start c = search needs
 
-add-page : tie.Need-add-page Inv-loop μ-loop
-add-page c = omega arith
+part-copy-end : tie.Need-part-copy-end
+part-copy-end c = search needs
 
-slice-write-page : tie.Need-slice-write-page Inv-loop μ-loop
-slice-write-page c = omega arith
+copy-requires : tie.Need-copy-requires
+copy-requires c κs = search needs
 
-add-j : tie.Need-add-j Inv-loop μ-loop
-add-j c = omega arith
+same-length : tie.Need-same-length
+same-length c = search needs
 
-loop-less : tie.Need-loop-less Inv-loop μ-loop
-loop-less c = omega arith
-
-loop-again : tie.Need-loop-again Inv-loop μ-loop
-loop-again c = let b = c .before in (
-  rw (b .before .loop .inv .0) (write-take-more (b .before .before .args .at) (b .before .loop .j) (b .before .before .args .src .now) (b .before .before .args .page .now) (b .loop-test .taken)),
-  omega arith,
-  rw length-set (b .before .loop .inv .2),
-)
-
-same-length : tie.Need-same-length Inv-loop μ-loop
-same-length c = omega arith
-
-returns : tie.Need-returns Inv-loop μ-loop
+returns : tie.Need-returns
 returns c =
-    let e : c .before .loop .j ≡ length (c .before .before .args .src .now) = omega arith in
-    rw (e, take-length) at (c .before .loop .inv .0)
+    let z = c .before .before .before .before .before .before in
+    let q : List ℕ = z .args .page .now in
+    let s : List ℕ = z .args .src .now in
+    let a : ℕ = z .args .at in
+    let e : ℕ = a + length s in
+    let full : length (cut q a (e - a)) ≡ length s = length-take-le (e - a) (drop a q) (rw length-drop (omega (arith, z .pre))) ∙ omega arith in
+    ap (λ (r : List ℕ). putMid a (e - a) q r) (c .before .before .copy .ensures .1 ∙ over s (cut q a (e - a)) full)
+    ∙ lent q a e s (omega arith) (z .pre) (omega arith)
 
 pub copy-in-spec : {M : Type 1} → statement M
-copy-in-spec =
-    tie.close
-    (tie.spec
-    Inv-loop
-    μ-loop
-    loop-holds
-    shared-slice-read-page
-    add-page
-    slice-write-page
-    add-j
-    loop-less
-    loop-again
-    same-length
-    returns)
+copy-in-spec = tie.close (tie.spec add-e sub-copy part-copy-start part-copy-end copy-requires same-length returns)

@@ -1,12 +1,9 @@
 -- `layout::move_within` meets its contract. Assumes nothing.
 use mathlib.Core.Path.{_≡_, sym, ap, _∙_}
-use mathlib.Core.List.{List, _++_}
-use Prim.Native.Nat.{ℕ, _+_, _≤_}
-use native.Mathlib.Omega.{arith}
-use lib.ListN.{length, take, drop, length-drop, take-append-drop}
-use lib.Seq.{length-take-le, drop-drop}
+use mathlib.Core.List.{List}
+use Prim.Native.Nat.{ℕ}
 use Rattle.store.specs.Numbers.{cut, put}
-use Rattle.store.specs.Laws.Numbers.{put-parts}
+use Rattle.store.specs.Laws.Numbers.{put-own}
 use borrow.Author.Needs.{needs}
 use Rattle.layout.proofs.move_within.Statement.{statement}
 use Rattle.layout.proofs.move_within.Tie as tie
@@ -14,16 +11,6 @@ use Rattle.layout.proofs.move_within.Reads as reads
 use Rattle.layout.proofs.move_within.Lts as lts
 use Rattle.layout.proofs.move_down.Reads as move-down-reads
 use Rattle.layout.proofs.move_up.Reads as move-up-reads
-
--- what stands there, written again
-put-own : (q : List ℕ) (i n : ℕ) → i + n ≤ length q → put q i (cut q i n) ≡ q
-put-own q i n h =
-    let l : length (cut q i n) ≡ n = length-take-le n (drop i q) (rw length-drop (omega arith)) in
-    put-parts q i (cut q i n) (omega arith)
-    ∙ ap (λ (m : ℕ). take i q ++ (cut q i n ++ drop (i + m) q)) l
-    ∙ ap (λ (z : List ℕ). take i q ++ (cut q i n ++ z)) (sym (drop-drop n i q))
-    ∙ ap (λ (z : List ℕ). take i q ++ z) (take-append-drop n (drop i q))
-    ∙ take-append-drop i q
 
 returns : tie.Need-returns
 returns c =

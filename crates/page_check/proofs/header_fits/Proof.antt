@@ -4,7 +4,7 @@ use native.Mathlib.Omega.{arith}
 use Rattle.store.specs.Slots.{isFree}
 use Rattle.store.specs.Laws.Views.{is-free}
 use Rattle.page_check.proofs.SlotLaws.{tells-no, tells-yes}
-use Rattle.page_check.proofs.FitLaws.{past-free}
+use Rattle.store.specs.Laws.SoundPage.{past-free}
 use borrow.Author.Needs.{needs}
 use Rattle.page_check.proofs.header_fits.Statement.{statement}
 use Rattle.page_check.proofs.header_fits.Tie as tie

@@ -11,7 +11,7 @@ use Rattle.segment_scan.proofs.lies_well.Reads as reads
 use Rattle.segment_scan.proofs.lies_well.Lts as lts
 use Rattle.layout.proofs.slots.len_of.Reads as len-of-reads
 use Rattle.layout.proofs.slots.off_of.Reads as off-of-reads
-use Rattle.segment_scan.proofs.is_target.Reads as is-target-reads
+use Rattle.layout.proofs.slots.is_target.Reads as is-target-reads
 use Rattle.segment_scan.proofs.lies_at.Reads as lies-at-reads
 
 off-of-requires : tie.Need-off-of-requires

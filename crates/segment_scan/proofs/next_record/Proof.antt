@@ -12,7 +12,7 @@ use Rattle.segment_scan.proofs.next_record.Tie as tie
 use Rattle.segment_scan.proofs.next_record.Reads as reads
 use Rattle.segment_scan.proofs.next_record.Lts as lts
 use Rattle.lent_pages.proofs.slot_on.Reads as slot-on-reads
-use Rattle.segment_scan.proofs.is_record.Reads as is-record-reads
+use Rattle.layout.proofs.slots.is_record.Reads as is-record-reads
 
 abbrev Inv-loop : tie.InvT-loop
 Inv-loop segment p k n j₀ j = nextRecord (n - j) (segView segment .page p) j ≡ nextRecord (n - k) (segView segment .page p) k

@@ -5,8 +5,8 @@ use mathlib.Core.List.{List, [], _∷_, _++_, reverse-reverse}
 use native.Mathlib.Nat.{not-suc-le-zero, zero-add, suc-add, add-mul, mul-assoc, mul-comm, div-div-eq-div-mul, pow-suc, div-eq-of-lt}
 use native.Mathlib.Omega.{arith}
 use lib.ListN.{length, take, drop, set, getD, length-drop, length-reverse}
-use borrow.Rule.Slice.PartMut.{putMid}
-use lib.Seq.{drop-drop, take-append-le, drop-append-le, take-all, take-take, drop-cons}
+use borrow.Rule.Slice.PartMut.{putMid, put-same}
+use lib.Seq.{drop-drop, take-append-le, drop-append-le, take-all, take-take, drop-cons, length-take-le}
 use mathlib.Core.Logic.{_⊎_, inl, inr}
 use Rattle.store.specs.Numbers.{cut, put, be, toBE, le, toLE}
 
@@ -171,3 +171,29 @@ pub lent : (p : List ℕ) (a e : ℕ) (vs : List ℕ) → a ≤ e → e ≤ leng
 lent p a e vs h g n =
     let k : a + (e - a) ≡ a + length vs = omega arith in
     ap (λ (z : List ℕ). take a p ++ (vs ++ z)) (drop-drop (e - a) a p ∙ ap (λ (m : ℕ). drop m p) k) ∙ sym (put-parts p a vs (omega arith))
+
+-- what stands there, written again
+pub put-own : (p : List ℕ) (i n : ℕ) → i + n ≤ length p → put p i (cut p i n) ≡ p
+put-own p i n h =
+    let k : i + n - i ≡ n = omega arith in
+    let l : length (cut p i n) ≡ i + n - i = length-take-le n (drop i p) (rw length-drop (omega arith)) ∙ sym k in
+    sym (lent p i (i + n) (cut p i n) (omega arith) h l) ∙ ap (λ (m : ℕ). putMid i m p (cut p i n)) k ∙ put-same i n p
+
+-- ---- two writes
+
+-- the second covers the first
+pub put-over : (p : List ℕ) (i : ℕ) (a b : List ℕ) → length a ≤ length b → put (put p i a) i b ≡ put p i b
+put-over [] i a b h = refl
+put-over (x ∷ p) (suc i) a b h = ap {B = List ℕ} (λ r. x ∷ r) (put-over p i a b h)
+put-over (x ∷ p) zero [] b h = refl
+put-over (x ∷ p) zero (y ∷ a) [] h = absurd (omega arith)
+put-over (x ∷ p) zero (y ∷ a) (z ∷ b) h = ap {B = List ℕ} (λ r. z ∷ r) (put-over p zero a b (omega arith))
+
+-- one lies below the other: in either order
+pub put-swap : (p : List ℕ) (i j : ℕ) (a b : List ℕ) → i + length a ≤ j → put (put p j b) i a ≡ put (put p i a) j b
+put-swap [] i j a b h = refl
+put-swap (x ∷ p) (suc i) zero a b h = absurd (omega arith)
+put-swap (x ∷ p) (suc i) (suc j) a b h = ap {B = List ℕ} (λ r. x ∷ r) (put-swap p i j a b (omega arith))
+put-swap (x ∷ p) zero j [] b h = put-nil (put (x ∷ p) j b) 0
+put-swap (x ∷ p) zero zero (y ∷ a) b h = absurd (omega arith)
+put-swap (x ∷ p) zero (suc j) (y ∷ a) b h = ap {B = List ℕ} (λ r. y ∷ r) (put-swap p zero j a b (omega arith))

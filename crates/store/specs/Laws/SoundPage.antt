@@ -112,17 +112,19 @@ two-apart v i j n e a b = go (decLt (off (v .at j)) (off (v .at i) + len (v .at 
 
 -- ---- a page
 
+pub past-free : (p : List ℕ) (j : ℕ) → view p .slotCount ≤ j → view p .at j ≡ Free
+unfolding view
+past-free p j h = rw (le-ltb j (count p) h)
+
+pub page-codable : (p : List ℕ) (j : ℕ) → Codable (view p .at j)
+unfolding view
+page-codable p j = go (ltb j (count p))
+  where
+    go : (b : Bool) → Codable (cond b (slotOf (be (cut p (12 + 8 * j) 8))) Free)
+    go true = kind-codable (be (cut p (12 + 8 * j) 8) / 2 ^ 62) (be (cut p (12 + 8 * j) 8) % 2 ^ 62) (omega arith)
+    go false = tt
+
 module _ (p : List ℕ) (whole : length p ≡ 16384) where
-  free-past : (j : ℕ) → count p ≤ j → slotAt p j ≡ Free
-  free-past j h = rw (le-ltb j (count p) h)
-
-  page-codable : (j : ℕ) → Codable (slotAt p j)
-  page-codable j = go (ltb j (count p))
-    where
-      go : (b : Bool) → Codable (cond b (slotOf (be (cut p (12 + 8 * j) 8))) Free)
-      go true = kind-codable (be (cut p (12 + 8 * j) 8) / 2 ^ 62) (be (cut p (12 + 8 * j) 8) % 2 ^ 62) (omega arith)
-      go false = tt
-
   pub sound-page : fresh (view p) ≡ false → sound (view p) ≡ true → Sound (view p)
   unfolding sound view
   sound-page f e =
@@ -150,27 +152,27 @@ module _ (p : List ℕ) (whole : length p ≡ 16384) where
         apart = λ i j n. apart-by i j n (all-at (v .slotCount) (λ i. all (v .slotCount) (apart v i)) clear) (decLt i (v .slotCount)) (decLt j (v .slotCount));
         targets = λ j t. target-by j t good (decLt j (v .slotCount));
         sums = eqb-true (v .freeSpace + 8 * v .slotCount + sum (v .slotCount) (λ k. len (v .at k))) 16372 adds;
-        codable = page-codable;
-        past = free-past;
+        codable = page-codable p;
+        past = past-free p;
         lens = λ j. length-take (len (v .at j)) (drop (off (v .at j)) p) ∙ omega (arith, length-drop (off (v .at j)) p, high j);
       }
     where
       high-by : (j : ℕ) → ((i : ℕ) → i < count p → liesWell (view p) i ≡ true) → Dec (j < count p) → off (slotAt p j) + len (slotAt p j) ≤ 16384
       high-by j g (yes h) = in-page (view p) j (g j h)
-      high-by j g (no h) = let q : count p ≤ j = omega arith in rw (free-past j q) (omega arith)
+      high-by j g (no h) = let q : count p ≤ j = omega arith in rw (past-free p j q) (omega arith)
 
       low-by : (j : ℕ) → 0 < len (slotAt p j) → ((i : ℕ) → i < count p → liesWell (view p) i ≡ true) → Dec (j < count p) → view p .dataStart ≤ off (slotAt p j)
       low-by j l g (yes h) = above (view p) j (g j h) l
-      low-by j l g (no h) = let q : len (slotAt p j) ≡ 0 = ap len (free-past j (omega arith)) in absurd (omega arith)
+      low-by j l g (no h) = let q : len (slotAt p j) ≡ 0 = ap len (past-free p j (omega arith)) in absurd (omega arith)
 
       target-by : (j : ℕ) → isTarget (slotAt p j) ≡ true → ((i : ℕ) → i < count p → liesWell (view p) i ≡ true) → Dec (j < count p) → 8 ≤ len (slotAt p j)
       target-by j t g (yes h) = long (view p) j (g j h) t
-      target-by j t g (no h) = let q : isTarget (slotAt p j) ≡ false = ap isTarget (free-past j (omega arith)) in let z : _≡_ {A = ℕ} 0 1 = cc in absurd (omega arith)
+      target-by j t g (no h) = let q : isTarget (slotAt p j) ≡ false = ap isTarget (past-free p j (omega arith)) in let z : _≡_ {A = ℕ} 0 1 = cc in absurd (omega arith)
 
       apart-by : (i j : ℕ) → i ≢ j → ((m : ℕ) → m < count p → all (count p) (apart (view p) m) ≡ true) → Dec (i < count p) → Dec (j < count p) → Apart (slotAt p i) (slotAt p j)
       apart-by i j n g (yes a) (yes b) = two-apart (view p) i j n (all-at (count p) (apart (view p) i) (g i a) j b)
-      apart-by i j n g (yes a) (no b) = λ x y. let q : len (slotAt p j) ≡ 0 = ap len (free-past j (omega arith)) in absurd (omega arith)
-      apart-by i j n g (no a) b = λ x y. let q : len (slotAt p i) ≡ 0 = ap len (free-past i (omega arith)) in absurd (omega arith)
+      apart-by i j n g (yes a) (no b) = λ x y. let q : len (slotAt p j) ≡ 0 = ap len (past-free p j (omega arith)) in absurd (omega arith)
+      apart-by i j n g (no a) b = λ x y. let q : len (slotAt p i) ≡ 0 = ap len (past-free p i (omega arith)) in absurd (omega arith)
 
 -- a page just initialised
 pub sound-init : Sound initialised
