@@ -18,7 +18,7 @@ liesAt d o l = cond (eqb l 0) (leb o 16384) (leb d o && leb (o + l) 16384)
 unfoldable pub wellAt : ℕ → Slot → Bool
 wellAt d s = liesAt d (off s) (len s) && (not (isTarget s) || leb 8 (len s))
 
--- slot k's record, or 4 where it leaves its page
+-- slot k's record, or 4 where it does not lie as on a sound page
 unfoldable pub recordOr : View → ℕ → ℕ → Scanned
 recordOr v p k = cond (liesWell v k) (recordAt v p k) (without 4 overPage 0)
 

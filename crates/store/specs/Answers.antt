@@ -1,5 +1,6 @@
 -- Document 01, "Answers by number": each answer that is an enum of the code, with the paper's number and values. The promises use
--- these. Assumes nothing.
+-- these. What a page and the inventory answer, `Place` and `Named`, gets its number where a call meets it: `Segment.taken` says 8 of no
+-- room, `Segment.findOn` 7 of a full inventory. Assumes nothing.
 use Prim.Native.Nat.{ℕ}
 use mathlib.Core.Bool.{true, false}
 use mathlib.Core.List.{List, []}
@@ -15,6 +16,16 @@ use Rattle.store.specs.declared.Step.the-variants as scan
 
 -- ---- the calls that write
 
+-- "Given exactly when":
+-- 0 DONE "the call is carried out";
+-- 1 SIZE "segment not 0 to 32,527 whole pages, or, where the call is lent one, inventory not 16,384 bytes";
+-- 2 NOPAGE "the id's page is n or more";
+-- 3 LONG "new size above 16,364";
+-- 4 DAMAGED "a page to be touched is not sound, or a redirect to be followed lacks its target on another page pointing back";
+-- 5 NONE, here NoRecord, "slot at or past the count, or free";
+-- 6 FORWARDED "write, resize or erase by a target's own id";
+-- 7 FULL "need above 16,372, or the inventory entry read is n or more";
+-- 8 STALE "the page named is the root's or old target's, or allocate finds no room there"
 abbrev pub answerNo : Answer → ℕ
 answerNo (Done i) = 0
 answerNo Size = 1

@@ -74,10 +74,11 @@ withSlot v k s bs =
       bytes = upd (v .bytes) k bs;
     }
 
+-- another header; the slots as they are
 abbrev pub withHead : View → ℕ → ℕ → ℕ → ℕ → View
-withHead v c f d r = record { slotCount = c; firstFree = f; dataStart = d; freeSpace = r; at = v .at; bytes = v .bytes }
+withHead v count first start free = record { slotCount = count; firstFree = first; dataStart = start; freeSpace = free; at = v .at; bytes = v .bytes }
 
--- the view that a page step leaves in the end: as the step says
+-- the view that a page step leaves in the end: as the step says. A rule about what every step leaves would stand here
 abbrev pub finished : View → View
 finished v = v
 
@@ -218,7 +219,8 @@ shrunk v k n =
     (withSlot (withHead v (v .slotCount) (v .firstFree) (v .dataStart) (v .freeSpace + (len (v .at k) - n))) k
     (placed (v .at k) (off (v .at k)) n) (take n (v .bytes k)))
 
--- "a growing record's old place counts as free by then": its slot while it has no place, with data start as it was
+-- "a growing record's old place counts as free by then": its slot while it has no place, with data start as it was. A redirect is no
+-- record, so the page is sound meanwhile and compactify leaves the slot out
 abbrev pub parked : View → ℕ → View
 parked v k = withSlot (withHead v (v .slotCount) (v .firstFree) (v .dataStart) (v .freeSpace + len (v .at k))) k (Redirect 0) []
 

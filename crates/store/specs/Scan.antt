@@ -45,7 +45,7 @@ abbrev pub overPage : ℕ
 overPage = 32528
 
 -- "checks each page on reaching it", at slot 0: from slot k of page p on, over at most m pages. A place inside a page that no scan has
--- made may name a record that leaves its page, and is answered like damage
+-- made may name a record that does not lie as on a sound page, and is answered like damage
 abbrev pub scanFrom : ℕ → SegView → ℕ → ℕ → Scanned
 scanFrom zero s p k = without 0 p k
 scanFrom (suc m) s p k =

@@ -114,7 +114,7 @@ inserted s v bs (found p k a) = done (idOf p k) (on p (filled a k bs) ∷ []) (u
 unfoldable pub insertPlan : SegView → List ℕ → List ℕ → Out
 insertPlan s v bs = refuseIf (ltb 16364 (length bs)) v 3 (inserted s v bs (find foundIn s v (length bs) (λ p. false)))
 
--- ---- redirects
+-- ---- redirects: "A target's record begins with 8 bytes, the big-endian id of its root, and its length counts them."
 
 -- 4 unless "a redirect to be followed" has "its target on another page pointing back", and that page is sound
 abbrev pub pointsBack : SegView → ℕ → ℕ → Bool
@@ -122,7 +122,7 @@ pointsBack s i t =
     ltb (pageNo t) (s .pages) && not (eqb (pageNo t) (pageNo i)) && sound (s .page (pageNo t))
     && isTarget (s .page (pageNo t) .at (slotNo t)) && eqb (be (take 8 (s .page (pageNo t) .bytes (slotNo t)))) i
 
--- ---- write and resize: the record of id i becomes `new old`, of the given size
+-- ---- write and resize: the record of id i becomes `new old`, of the given size. "Updates of the inventory keep the Rust's order."
 
 module _ (s : SegView) (v : List ℕ) (i : ℕ) (size : ℕ) (new : List ℕ → List ℕ) where
   abbrev pub root : View
@@ -215,14 +215,16 @@ erasePlan s v i =
     (refuseIf (not (sound (s .page (pageNo i)))) v 4
     (eraseBy s v i (s .page (pageNo i) .at (slotNo i))))
 
--- ---- the steps: what each call answers and leaves. 1 comes first
+-- ---- the steps: what each call answers and leaves
 
+-- "Order: 1, 3, 2, 4 (root), 5, 6, 4 (target), 7, 4 (new page), 8."
 abbrev pub step : List ℕ → List ℕ → Out → Result
 step s v o = result s (refuseIf (not (sizeOk s && invOk v)) v 1 o)
 
 unfoldable pub insertStep : List ℕ → List ℕ → List ℕ → Result
 insertStep s v bs = step s v (insertPlan (segView s) v bs)
 
+-- of any number: 3 comes before a list of so many zeros is thought of
 unfoldable pub allocateStep : List ℕ → List ℕ → ℕ → Result
 allocateStep s v n = step s v (refuseIf (ltb 16364 n) v 3 (insertPlan (segView s) v (zeros n)))
 
