@@ -75,7 +75,7 @@ fn record_at(segment: &[u8], p: usize, k: usize, s: Slot) -> Step
     }
 }
 
-// The same where it may leave its page: only on a page that no scan has checked, at a place that no scan has made.
+// The same where it may lie otherwise: only on a page that no scan has checked, at a place that no scan has made.
 fn record_or_damage(segment: &[u8], p: usize, k: usize) -> Step
     requires { ⌜ (p * 16384 + 16384 ≤ length (now segment)) × (p ≤ 32527) × (k < 65536) ⌝ }
     requires { ⌜ isRecord (segView (now segment) .page p .at k) ≡ true ⌝ }
