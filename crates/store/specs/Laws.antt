@@ -20,6 +20,7 @@ pub mod Stays
 pub mod AlikeByKind
 pub mod Parts
 pub mod SoundSegment
+pub mod Refused
 pub mod Alike
 pub mod Scan
 pub mod ReadAfterWrite
