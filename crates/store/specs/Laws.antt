@@ -21,6 +21,7 @@ pub mod AlikeByKind
 pub mod Parts
 pub mod SoundSegment
 pub mod Refused
+pub mod Unused
 pub mod Alike
 pub mod Scan
 pub mod ReadAfterWrite

@@ -11,14 +11,14 @@ use Rattle.store.specs.PageSteps.{plan}
 use Rattle.store.specs.Numbers.{pageNo}
 use Rattle.store.specs.Laws.Slots.{tag}
 use Rattle.store.specs.Page.{sound}
-use Rattle.store.specs.Segment.{SegView, segView, Out, Result, result, carried, step, insertStep, Read, readBy, readPlan, readStep}
+use Rattle.store.specs.Segment.{SegView, segView, Out, Result, result, carried, step, Read, readBy, readPlan, readStep}
 use Rattle.store.specs.Laws.SoundPage.{sound-test}
 use Rattle.store.specs.Laws.Segments.{AllExact, settled}
 use Rattle.store.specs.Laws.AlikeByKind.{Exacting}
 use Rattle.store.specs.Calls.{Call, called}
 use Rattle.store.specs.SoundSegment.{slotOn, bytesOn, SoundSegment}
 use Rattle.store.specs.Laws.Pairs.{tagOn, look, Root}
-use Rattle.store.specs.Laws.Stays.{Stays, insert-new, points-back}
+use Rattle.store.specs.Laws.Stays.{Stays, points-back}
 use Rattle.store.specs.Laws.SoundSegment.{Seen, seen-sound, seen-pages, sized, stays-right, after-seen, page-count, Staying, planOf, rowOf, called-plan, call-exacting, call-staying}
 use Rattle.store.specs.declared.Slot.{Slot}
 use Rattle.store.specs.declared.Slot.the-variants.{Ordinary, Free, Redirect, Target}
@@ -83,10 +83,3 @@ plan-reads plan w s v x k h =
 -- root reads as before
 pub call-reads : (c : Call) (s v : List ℕ) → SoundSegment s v → Reads s (rowOf c (segView s)) (called c s v)
 call-reads c s v h = subst (Reads s (rowOf c (segView s))) (sym (called-plan c s v)) (plan-reads (planOf c v) (rowOf c) s v (call-exacting c v) (call-staying c v) h)
-
--- an id that insert hands out was not in use
-pub insert-unused : (s v bs : List ℕ) → SoundSegment s v → insertStep s v bs .answer ≡ 0 → tagOn (segView s) (insertStep s v bs .id) ≡ Free
-unfolding insertStep result
-insert-unused s v bs h =
-    let e = seen-sound s v h in
-    rw (h .whole, h .page) (insert-new (segView s) (e .sounds) (e .few) v (e .one) (e .pairs) (e .truth) bs)
