@@ -25,5 +25,6 @@ pub mod Unused
 pub mod Alike
 pub mod Scan
 pub mod ReadAfterWrite
+pub mod Grown
 pub mod Blank
 pub mod Marked
