@@ -25,3 +25,4 @@ pub mod Scan
 pub mod ReadAfterWrite
 pub mod Blank
 pub mod Marked
+pub mod Examples
