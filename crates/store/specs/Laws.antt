@@ -28,3 +28,4 @@ pub mod ReadAfterWrite
 pub mod Grown
 pub mod Blank
 pub mod Marked
+pub mod Examples

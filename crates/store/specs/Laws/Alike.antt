@@ -22,12 +22,12 @@ use Rattle.store.specs.Laws.Exact.{length-apply, length-run}
 use Rattle.store.specs.Laws.Segments.{AllExact, length-page, page-same, page-other, carried-on}
 use Rattle.store.specs.Laws.Calls.{by-test}
 use Rattle.store.specs.Laws.Changes.{Writes, Headed}
-use Rattle.store.specs.Laws.AlikeByKind.{Exacting, same-call, read-same, scan-same}
+use Rattle.store.specs.Laws.AlikeByKind.{Exacting, planOf, called-plan, call-exacting, same-call, read-same, scan-same}
 use Rattle.store.specs.Calls.{Call, called, results}
 use Rattle.store.specs.Alike.{AlikePage, both-fresh, both-used, Alike, AlikeToRead, AlikeByKind, Same, AllSame}
 use Rattle.store.specs.SoundSegment.{classes, Paired, SoundSegment}
 use Rattle.store.specs.Laws.Stays.{StepOk, AllSteps}
-use Rattle.store.specs.Laws.SoundSegment.{page-past, sound-closed, seen-sound, seen-page, Sized, sized, Staying, planOf, rowOf, called-plan, call-exacting, call-staying, call-right}
+use Rattle.store.specs.Laws.SoundSegment.{page-past, sound-closed, seen-sound, seen-page, Sized, sized, Staying, rowOf, call-staying, call-right}
 use Rattle.store.specs.declared.Slot.the-variants.{Free}
 
 -- ---- the same edits on two pages: a part that is equal stays equal, and one that is written becomes so

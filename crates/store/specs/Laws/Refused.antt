@@ -16,7 +16,7 @@ use Rattle.store.specs.Segment.{SegView, segView, sizeOk, invOk, OnPage,
 use Rattle.store.specs.Calls.{Call, insert, allocate as allocateCall, write, resize, erase, called}
 use Rattle.store.specs.Laws.Calls.{by-test}
 use Rattle.store.specs.Laws.Segments.{planned}
-use Rattle.store.specs.Laws.SoundSegment.{planOf, called-plan}
+use Rattle.store.specs.Laws.AlikeByKind.{planOf, called-plan}
 use Rattle.store.specs.declared.Named.{Named}
 use Rattle.store.specs.declared.Named.the-variants.{At, Full}
 use Rattle.store.specs.declared.Slot.{Slot}

@@ -10,7 +10,8 @@ use Rattle.store.specs.SoundSegment.{SoundSegment}
 use Rattle.store.specs.Laws.Calls.{by-test}
 use Rattle.store.specs.Laws.Pairs.{tagOn}
 use Rattle.store.specs.Laws.Stays.{insert-new}
-use Rattle.store.specs.Laws.SoundSegment.{Seen, seen-sound, planOf, called-plan}
+use Rattle.store.specs.Laws.AlikeByKind.{planOf, called-plan}
+use Rattle.store.specs.Laws.SoundSegment.{Seen, seen-sound}
 use Rattle.store.specs.declared.Slot.the-variants.{Free}
 
 -- the calls that make a record
