@@ -6,9 +6,10 @@ mod sweep;
 
 use sweep::Pass;
 ghost use mathlib.Core.Path.{_≡_};
-ghost use mathlib.Core.Bool.{true};
+ghost use mathlib.Core.Bool.{true, _&&_};
 ghost use Prim.Native.Nat.{_≤_, _<_};
 ghost use lib.ListN.{length};
+ghost use lib.Dec.{eqb};
 ghost use Rattle.store.specs.Page.{view, sound};
 ghost use Rattle.page_check.specs.Fit.{Tells, HeaderFits, RecordsFit, Total};
 
@@ -70,4 +71,14 @@ pub fn is_sound(page: &[u8]) -> bool
         return false;
     }
     layout::header::get_free_space(page) + 8 * n + records.total == 16372
+}
+
+// The same of any bytes: a page has 16,384.
+pub fn is_sound_page(bytes: &[u8]) -> bool
+    ensures { λ r. ⌜ r ≡ (eqb (length (now (bytes .entry))) 16384 && sound (view (now (bytes .entry)))) ⌝ }
+{
+    if bytes.len() != 16384 {
+        return false;
+    }
+    is_sound(bytes)
 }

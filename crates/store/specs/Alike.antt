@@ -5,7 +5,7 @@ use mathlib.Core.List.{List, [], _∷_}
 use lib.ListN.{length}
 use Rattle.store.specs.Numbers.{cut}
 use Rattle.store.specs.Page.{count, bytesAt}
-use Rattle.store.specs.Segment.{segView, pageOf, Result, readStep}
+use Rattle.store.specs.Segment.{segView, pageOf, Result, readStep, locateStep}
 use Rattle.store.specs.Scan.{scanStep}
 
 -- "equal slot entries and equal record bytes, with equal headers on pages in use": headers by their 12 bytes, entries below the count by
@@ -26,10 +26,11 @@ pub record AlikeByKind (s t : List ℕ) : Type 0 where
   pub long : length s ≡ length t
   pub seen : segView s ≡ segView t
 
--- alike, with equal "record bytes and scans": by any id, and from any place
+-- alike, with equal "record bytes and scans": by any id, and from any place; and each record lies at the same place
 pub record AlikeToRead (s t : List ℕ) : Type 0 where
   pub alike : Alike s t
   pub reads : (i : ℕ) → readStep s i ≡ readStep t i
+  pub places : (i : ℕ) → locateStep s i ≡ locateStep t i
   pub scans : (p k : ℕ) → scanStep s p k ≡ scanStep t p k
 
 -- "equal answers, ids, refusals .. and leave the two alike in the same sense"; with equal inventories

@@ -3,7 +3,7 @@
 -- Nothing here names a number of bytes or of pages: an inventory of any length that has `Room` will do.
 use Prim.Native.Nat.{ℕ, zero, suc, _+_, _-_, _*_, _/_, _%_, _≤_, _<_}
 use mathlib.Core.Path.{_≡_}
-use mathlib.Core.Bool.{cond}
+use mathlib.Core.Bool.{Bool, cond}
 use mathlib.Core.List.{List, [], _∷_}
 use lib.ListN.{length, getD, set}
 use lib.Dec.{eqb, ltb, leb}
@@ -68,19 +68,25 @@ foundIn s n need = cond (ltb 16372 need) Full (cond (ltb (entryAt s (entryFor ne
 
 -- ---- updates
 
--- the first of k pages from q on whose class is at most c, q + k if there is none
+-- page q suits class c; the first of k pages from q on that does, q + k if there is none
+abbrev pub suits : (ℕ → ℕ) → ℕ → ℕ → Bool
+suits f c q = leb (f q) c
+
 unfoldable pub firstFrom : (ℕ → ℕ) → ℕ → ℕ → ℕ → ℕ
 firstFrom f c q zero = q
-firstFrom f c q (suc k) = let r = firstFrom f c (suc q) k in cond (leb (f q) c) q r
+firstFrom f c q (suc k) = let r = firstFrom f c (suc q) k in cond (suits f c q) q r
 
 -- "the next page whose nibble suits .. n if none": after p and below n
 unfoldable pub nextPage : List ℕ → ℕ → ℕ → ℕ → ℕ
 nextPage s n p c = firstFrom (nibble s) c (p + 1) (n - (p + 1))
 
--- of the k entries from c on, where those that name page p end
+-- entry c names page p; of the k entries from c on, where those that do end
+abbrev pub names : List ℕ → ℕ → ℕ → Bool
+names s p c = eqb (entryAt s c) p
+
 unfoldable pub runEnd : List ℕ → ℕ → ℕ → ℕ → ℕ
 runEnd s p c zero = c
-runEnd s p c (suc k) = let r = runEnd s p (suc c) k in cond (eqb (entryAt s c) p) r c
+runEnd s p c (suc k) = let r = runEnd s p (suc c) k in cond (names s p c) r c
 
 -- the d entries from c on are set by f
 unfoldable pub setFrom : (ℕ → ℕ) → ℕ → ℕ → List ℕ → List ℕ
@@ -92,9 +98,12 @@ unfoldable pub movedOn : List ℕ → ℕ → ℕ → ℕ → ℕ → List ℕ
 movedOn s n p old new = setFrom (nextPage s n p) old (runEnd s p old (new - old) - old) s
 
 -- "entries from the new class up that name a later page are set to this one, stopping at the first that doesn't": k entries from c on
+abbrev pub namesNoLater : List ℕ → ℕ → ℕ → Bool
+namesNoLater s p c = leb (entryAt s c) p
+
 unfoldable pub pulledBack : ℕ → ℕ → ℕ → List ℕ → List ℕ
 pulledBack p c zero s = s
-pulledBack p c (suc k) s = let r = pulledBack p (suc c) k (setEntry s c p) in cond (leb (entryAt s c) p) s r
+pulledBack p c (suc k) s = let r = pulledBack p (suc c) k (setEntry s c p) in cond (namesNoLater s p c) s r
 
 -- "An update writes the nibble only if its class changes. If so, .. Then .."
 unfoldable pub updated : List ℕ → ℕ → ℕ → ℕ → List ℕ

@@ -20,8 +20,12 @@ pub mod Stays
 pub mod AlikeByKind
 pub mod Parts
 pub mod SoundSegment
+pub mod Refused
+pub mod Unused
 pub mod Alike
 pub mod Scan
 pub mod ReadAfterWrite
+pub mod Grown
 pub mod Blank
 pub mod Marked
+pub mod Examples

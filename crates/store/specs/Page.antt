@@ -50,8 +50,11 @@ abbrev pub firstIsLowest : View → Bool
 firstIsLowest v = leb (v .firstFree) (v .slotCount) && (isFree (v .at (v .firstFree)) && all (v .firstFree) (λ j. not (isFree (v .at j))))
 
 -- "12 + 8 × count ≤ data start ≤ 16,384"
+abbrev pub pastDirectory : View → Bool
+pastDirectory v = leb (12 + 8 * v .slotCount) (v .dataStart)
+
 abbrev pub startFits : View → Bool
-startFits v = leb (12 + 8 * v .slotCount) (v .dataStart) && leb (v .dataStart) 16384
+startFits v = pastDirectory v && leb (v .dataStart) 16384
 
 -- "every record of positive length lies between data start and 16,384 .. a record of length 0 has an offset of at most 16,384; a
 -- target has length 8 or more"

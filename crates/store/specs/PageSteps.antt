@@ -99,16 +99,23 @@ abbrev pub records : View → ℕ → List ℕ
 records v zero = []
 records v (suc k) = cond (isRecord (v .at k)) (inOrder v k (records v k)) (records v k)
 
--- "and packs them .. data start is the last place": the records of the list, down from d
+-- "all are kept, with their kind": the record of entry s where it ends at d; and slot k so
+abbrev pub packedTo : ℕ → Slot → Slot
+packedTo d s = placed s (d - len s) (len s)
+
+abbrev pub withPacked : View → ℕ → ℕ → View
+withPacked v k d = withSlot v k (packedTo d (v .at k)) (v .bytes k)
+
+-- "data start is the last place"
+abbrev pub startingAt : ℕ → View → View
+startingAt d v = withHead v (v .slotCount) (v .firstFree) d (v .freeSpace)
+
+-- "and packs them": the records of the list, down from d
 abbrev pub pack : List ℕ → ℕ → View → Plan
-pack [] d v =
-    let w = withHead v (v .slotCount) (v .firstFree) d (v .freeSpace) in
-    record { edits = head w ∷ []; after = w; compacted = true }
+pack [] d v = record { edits = head (startingAt d v) ∷ []; after = startingAt d v; compacted = true }
 pack (k ∷ ks) d v =
-    let e = d - len (v .at k) in
-    let w = withSlot v k (placed (v .at k) e (len (v .at k))) (v .bytes k) in
-    let r = pack ks e w in
-    record { edits = move k w ∷ r .edits; after = r .after; compacted = r .compacted }
+    let r = pack ks (d - len (v .at k)) (withPacked v k d) in
+    record { edits = move k (withPacked v k d) ∷ r .edits; after = r .after; compacted = r .compacted }
 
 -- "against 16,384"
 unfoldable pub compactify : View → Plan
@@ -155,11 +162,16 @@ pub data Alloc : Type 0 where
   noRoom : Alloc
   got : ℕ → Plan → Alloc
 
+-- "the gap must hold both": room for the record and its slot, and both put there
+abbrev pub roomFor : View → ℕ → Plan
+roomFor v n = makeRoom v (cost v n)
+
+abbrev pub allocating : View → ℕ → Plan
+allocating v n = andThen (roomFor v n) (λ w. plan (commit (w .firstFree) (allocated w n) ∷ []) (allocated w n))
+
 -- "No room if the free space is less than that sum."
 unfoldable pub allocate : View → ℕ → Alloc
-allocate v n =
-    cond (ltb (v .freeSpace) (cost v n)) noRoom
-    (got (v .firstFree) (andThen (makeRoom v (cost v n)) (λ w. plan (commit (w .firstFree) (allocated w n) ∷ []) (allocated w n))))
+allocate v n = cond (ltb (v .freeSpace) (cost v n)) noRoom (got (v .firstFree) (allocating v n))
 
 -- ---- erase, and erase for a redirect
 

@@ -99,9 +99,13 @@ findOn s m excluded (At p) =
     (cond (excluded p) (nowhere 8)
     (taken p (allocate (s .page p) m)))
 
--- "A request for m bytes needs m + 8"; `names` says which page the inventory's bytes name, of n pages, for a need
+-- "A request for m bytes needs m + 8"
+abbrev pub needFor : ℕ → ℕ
+needFor m = m + 8
+
+-- `names` says which page the inventory's bytes name, of n pages, for a need
 unfoldable pub find : (List ℕ → ℕ → ℕ → Named) → SegView → List ℕ → ℕ → (ℕ → Bool) → Found
-find names s v m excluded = findOn s m excluded (names v (s .pages) (m + 8))
+find names s v m excluded = findOn s m excluded (names v (s .pages) (needFor m))
 
 -- ---- insert and allocate
 
@@ -113,6 +117,10 @@ inserted s v bs (found p k a) = done (idOf p k) (on p (filled a k bs) ∷ []) (u
 -- a record with these bytes; `allocate` is the same with zeros
 unfoldable pub insertPlan : SegView → List ℕ → List ℕ → Out
 insertPlan s v bs = refuseIf (ltb 16364 (length bs)) v 3 (inserted s v bs (find foundIn s v (length bs) (λ p. false)))
+
+-- of any number: 3 comes before a list of so many zeros is thought of
+abbrev pub allocatePlan : SegView → List ℕ → ℕ → Out
+allocatePlan s v n = refuseIf (ltb 16364 n) v 3 (insertPlan s v (zeros n))
 
 -- ---- redirects: "A target's record begins with 8 bytes, the big-endian id of its root, and its length counts them."
 
@@ -194,6 +202,12 @@ module _ (s : SegView) (v : List ℕ) (i : ℕ) (size : ℕ) (new : List ℕ →
       (refuseIf (not (sound root)) v 4
       (storeBy (root .at (slotNo i)))))
 
+abbrev pub writePlan : SegView → List ℕ → ℕ → List ℕ → Out
+writePlan s v i bs = storePlan s v i (length bs) (λ old. bs)
+
+abbrev pub resizePlan : SegView → List ℕ → ℕ → ℕ → Out
+resizePlan s v i n = storePlan s v i n (fit n)
+
 -- ---- erase
 
 abbrev pub eraseBy : SegView → List ℕ → ℕ → Slot → Out
@@ -224,15 +238,14 @@ step s v o = result s (refuseIf (not (sizeOk s && invOk v)) v 1 o)
 unfoldable pub insertStep : List ℕ → List ℕ → List ℕ → Result
 insertStep s v bs = step s v (insertPlan (segView s) v bs)
 
--- of any number: 3 comes before a list of so many zeros is thought of
 unfoldable pub allocateStep : List ℕ → List ℕ → ℕ → Result
-allocateStep s v n = step s v (refuseIf (ltb 16364 n) v 3 (insertPlan (segView s) v (zeros n)))
+allocateStep s v n = step s v (allocatePlan (segView s) v n)
 
 unfoldable pub writeStep : List ℕ → List ℕ → ℕ → List ℕ → Result
-writeStep s v i bs = step s v (storePlan (segView s) v i (length bs) (λ old. bs))
+writeStep s v i bs = step s v (writePlan (segView s) v i bs)
 
 unfoldable pub resizeStep : List ℕ → List ℕ → ℕ → ℕ → Result
-resizeStep s v i n = step s v (storePlan (segView s) v i n (fit n))
+resizeStep s v i n = step s v (resizePlan (segView s) v i n)
 
 unfoldable pub eraseStep : List ℕ → List ℕ → ℕ → Result
 eraseStep s v i = step s v (erasePlan (segView s) v i)

@@ -10,24 +10,24 @@ use native.Mathlib.Decide.{ℕ-discrete, decLt}
 use lib.ListN.{length, getD}
 use lib.Dec.{eqb, ltb, leb}
 use borrow.Author.Tests.{eq-eqb, le-ltb, eqb-true}
-use Rattle.store.specs.Numbers.{cut, put, be}
+use Rattle.store.specs.Numbers.{cut, put, be, pageNo, slotNo}
 use Rattle.store.specs.Slots.{off, slotBytes, slotOf}
 use Rattle.store.specs.Page.{View, view, count, slotAt, bytesAt, fresh, sound}
 use Rattle.store.specs.PageSteps.{initialised, opened, Edit, head, move, commit, fill, apply, run, Plan, headBytes, putHead, putSlot, putBytes, plan}
 use Rattle.store.specs.Inventory.{Truth}
-use Rattle.store.specs.Segment.{SegView, segView, pageOf, OnPage, Out, result, carried, carriedOn, step, sizeOk, Read}
+use Rattle.store.specs.Segment.{SegView, segView, pageOf, OnPage, Out, result, carried, carriedOn, step, sizeOk, Read, noPart, partBy, locateStep}
 use Rattle.store.specs.Laws.Numbers.{length-put, cut-same, cut-take}
 use Rattle.store.specs.Laws.SoundPage.{sound-test}
 use Rattle.store.specs.Laws.Exact.{length-apply, length-run}
 use Rattle.store.specs.Laws.Segments.{AllExact, length-page, page-same, page-other, carried-on}
 use Rattle.store.specs.Laws.Calls.{by-test}
 use Rattle.store.specs.Laws.Changes.{Writes, Headed}
-use Rattle.store.specs.Laws.AlikeByKind.{Exacting, same-call, read-same, scan-same}
+use Rattle.store.specs.Laws.AlikeByKind.{Exacting, planOf, called-plan, call-exacting, same-call, read-same, scan-same}
 use Rattle.store.specs.Calls.{Call, called, results}
 use Rattle.store.specs.Alike.{AlikePage, both-fresh, both-used, Alike, AlikeToRead, AlikeByKind, Same, AllSame}
 use Rattle.store.specs.SoundSegment.{classes, Paired, SoundSegment}
 use Rattle.store.specs.Laws.Stays.{StepOk, AllSteps}
-use Rattle.store.specs.Laws.SoundSegment.{page-past, sound-closed, seen-sound, seen-page, Sized, sized, Staying, planOf, rowOf, called-plan, call-exacting, call-staying, call-right}
+use Rattle.store.specs.Laws.SoundSegment.{page-past, sound-closed, seen-sound, seen-page, Sized, sized, Staying, rowOf, call-staying, call-right}
 use Rattle.store.specs.declared.Slot.the-variants.{Free}
 
 -- ---- the same edits on two pages: a part that is equal stays equal, and one that is written becomes so
@@ -265,11 +265,17 @@ call-alike c s t v h l =
       seg = rw (called-plan c s v, called-plan c t v) (plan-like (planOf c v) (rowOf c) s t v (call-exacting c v) (call-staying c v) h l);
     }
 
--- reads and scans
+-- reads, the places of what they read, and scans
+locate-same : (s t v : List ℕ) → AlikeByKind s t → (i : ℕ) → locateStep s i ≡ locateStep t i
+unfolding locateStep
+locate-same s t v a i =
+    let r = read-same s t v a i in
+    λ x. record { answer = r x .answer; part = cond (eqb (r x .answer) 0) (partBy (a .seen x) i (a .seen x .page (pageNo i) .at (slotNo i))) noPart }
+
 pub read-alike : (s t v : List ℕ) → SoundSegment s v → Alike s t → AlikeToRead s t
 read-alike s t v h l =
     let a = alike-seen s t (sized s (h .whole)) l in
-    record { alike = l; reads = λ i. read-same s t v a i; scans = λ p k. scan-same s t v a p k }
+    record { alike = l; reads = λ i. read-same s t v a i; places = λ i. locate-same s t v a i; scans = λ p k. scan-same s t v a p k }
 
 -- any sequence of calls, and every read and scan between them
 pub demand-3 : (cs : List Call) (s t v w : List ℕ) → SoundSegment s v → Alike s t → v ≡ w → AllSame AlikeToRead (results cs s v) (results cs t w)

@@ -6,9 +6,9 @@ use mathlib.Core.List.{List, [], _∷_}
 use lib.ListN.{length}
 use lib.Dec.{ltb, leb, eqb}
 use borrow.Author.Tests.{leb-true}
-use Rattle.store.specs.Numbers.{zeros, fit}
+use Rattle.store.specs.Numbers.{fit}
 use Rattle.store.specs.PageSteps.{run}
-use Rattle.store.specs.Segment.{SegView, segView, sizeOk, invOk, pageOf, OnPage, Out, result, carried, carriedOn, step, refuse, refuseIf, insertPlan, storePlan, erasePlan, insertStep, allocateStep, writeStep, resizeStep, eraseStep, noRead, readPlan, readStep}
+use Rattle.store.specs.Segment.{SegView, segView, sizeOk, invOk, pageOf, OnPage, Out, result, carried, carriedOn, step, refuse, insertPlan, allocatePlan, writePlan, resizePlan, erasePlan, insertStep, allocateStep, writeStep, resizeStep, eraseStep, noRead, readPlan, readStep}
 use Rattle.store.specs.Laws.Numbers.{length-put}
 use Rattle.store.specs.Laws.Relocate.{length-fit}
 use Rattle.store.specs.Laws.SoundPage.{and-both}
@@ -48,29 +48,34 @@ same plan x s t v a =
       };
     }
 
+-- ---- the five writing calls: each is a plan, and exact everywhere
+
+abbrev pub planOf : Call → List ℕ → SegView → Out
+planOf (insert bs) v z = insertPlan z v bs
+planOf (allocate n) v z = allocatePlan z v n
+planOf (write i bs) v z = writePlan z v i bs
+planOf (resize i n) v z = resizePlan z v i n
+planOf (erase i) v z = erasePlan z v i
+
+pub called-plan : (c : Call) (s v : List ℕ) → called c s v ≡ step s v (planOf c v (segView s))
+unfolding insertStep allocateStep writeStep resizeStep eraseStep
+called-plan (insert bs) s v = refl
+called-plan (allocate n) s v = refl
+called-plan (write i bs) s v = refl
+called-plan (resize i n) s v = refl
+called-plan (erase i) s v = refl
+
+pub call-exacting : (c : Call) (v : List ℕ) → Exacting (planOf c v)
+call-exacting (insert bs) v z l = insert-exact z v bs
+call-exacting (allocate n) v z l = by-test (λ o. AllExact z (o .steps)) (ltb 16364 n) (refuse v 3) (insertPlan (segView z) v _) (λ e. tt) (λ e. insert-exact z v _)
+call-exacting (write i bs) v z l = store-exact z v i (length bs) (λ old. bs) (λ old. refl) l
+call-exacting (resize i n) v z l = store-exact z v i n (fit n) (length-fit n) l
+call-exacting (erase i) v z l = erase-call-exact z v i
+
+pub same-call : (c : Call) (s t v : List ℕ) → AlikeByKind s t → Same AlikeByKind (called c s v) (called c t v)
+same-call c s t v a = rw (called-plan c s v, called-plan c t v) (same (planOf c v) (call-exacting c v) s t v a)
+
 module _ (s t v : List ℕ) (alike : AlikeByKind s t) where
-  pub insert-same : (bs : List ℕ) → Same AlikeByKind (insertStep s v bs) (insertStep t v bs)
-  unfolding insertStep
-  insert-same bs = same (λ z. insertPlan z v bs) (λ z h. insert-exact z v bs) s t v alike
-
-  pub allocate-same : (n : ℕ) → Same AlikeByKind (allocateStep s v n) (allocateStep t v n)
-  unfolding allocateStep
-  allocate-same n =
-      same (λ z. refuseIf (ltb 16364 n) v 3 (insertPlan z v (zeros n)))
-      (λ z h. by-test (λ o. AllExact z (o .steps)) (ltb 16364 n) (refuse v 3) (insertPlan (segView z) v (zeros n)) (λ e. tt) (λ e. insert-exact z v (zeros n))) s t v alike
-
-  pub write-same : (i : ℕ) (bs : List ℕ) → Same AlikeByKind (writeStep s v i bs) (writeStep t v i bs)
-  unfolding writeStep
-  write-same i bs = same (λ z. storePlan z v i (length bs) (λ old. bs)) (λ z h. store-exact z v i (length bs) (λ old. bs) (λ old. refl) h) s t v alike
-
-  pub resize-same : (i n : ℕ) → Same AlikeByKind (resizeStep s v i n) (resizeStep t v i n)
-  unfolding resizeStep
-  resize-same i n = same (λ z. storePlan z v i n (fit n)) (λ z h. store-exact z v i n (fit n) (length-fit n) h) s t v alike
-
-  pub erase-same : (i : ℕ) → Same AlikeByKind (eraseStep s v i) (eraseStep t v i)
-  unfolding eraseStep
-  erase-same i = same (λ z. erasePlan z v i) (λ z h. erase-call-exact z v i) s t v alike
-
   -- reads and scans are equal outright
   pub read-same : (i : ℕ) → readStep s i ≡ readStep t i
   unfolding readStep
@@ -82,13 +87,6 @@ module _ (s t v : List ℕ) (alike : AlikeByKind s t) where
       (cond (eqb (alike .long x % 16384) 0 && leb (alike .long x / 16384) 32527) (scanPlan (alike .seen x) p k) (without 1 overPage 0))
 
 -- ---- any sequence of calls
-
-pub same-call : (c : Call) (s t v : List ℕ) → AlikeByKind s t → Same AlikeByKind (called c s v) (called c t v)
-same-call (insert bs) s t v a = insert-same s t v a bs
-same-call (allocate n) s t v a = allocate-same s t v a n
-same-call (write i bs) s t v a = write-same s t v a i bs
-same-call (resize i n) s t v a = resize-same s t v a i n
-same-call (erase i) s t v a = erase-same s t v a i
 
 pub demand-3-by-kind : (cs : List Call) (s t v w : List ℕ) → AlikeByKind s t → v ≡ w → AllSame AlikeByKind (results cs s v) (results cs t w)
 demand-3-by-kind [] s t v w a e = tt

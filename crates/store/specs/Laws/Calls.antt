@@ -12,13 +12,15 @@ use native.Mathlib.Decide.{decLt}
 use Rattle.store.specs.Numbers.{cut, be, toBE, pageNo, slotNo, idOf}
 use Rattle.store.specs.Slots.{off, len, isFree, isTarget}
 use Rattle.store.specs.Page.{View, view, count, slotAt, fresh, sound}
-use Rattle.store.specs.PageSteps.{initialised, opened, Plan, Alloc, noRoom, got, allocated, makeRoom, andThen, cost, gap, commit, filled, move, stay, withSlot, eraseForRedirect, relocate, Relocated, refused, moved, plan, allocate, erase}
+use Rattle.store.specs.PageSteps.{initialised, opened, Plan, Alloc, noRoom, got, allocated, roomFor, allocating, andThen, cost, gap, filled, move, stay, withSlot, eraseForRedirect, relocate, Relocated, refused, moved, plan, allocate, erase}
 use Rattle.store.specs.Inventory.{foundIn, entryFor, entryAt, update}
-use Rattle.store.specs.Segment.{segView, pageOf, on, done, refuse, refuseIf, Found, nowhere, found, taken, findOn, find, inserted, insertPlan, pointsBack, eraseBy, erasePlan, targeted, forwarded, fromOrdinary, forwardedAgain, atTarget, atHome, fromRedirect, storeBy, storePlan}
+use Rattle.store.specs.Segment.{segView, pageOf, on, done, refuse, refuseIf, Found, nowhere, found, taken, findOn, needFor, find, inserted, insertPlan, pointsBack, eraseBy, erasePlan, targeted, forwarded, fromOrdinary, forwardedAgain, atTarget, atHome, fromRedirect, storeBy, storePlan}
+pub use Rattle.store.specs.Laws.Cases.{by-test}
+use Rattle.store.specs.Laws.Cases.{tests}
 use Rattle.store.specs.Laws.Edits.{Shows, shows-view}
 use Rattle.store.specs.Laws.Views.{Sound, upd-same, numbers}
 use Rattle.store.specs.Laws.Exact.{Exact, erase-exact, exact-then}
-use Rattle.store.specs.Laws.OneSlot.{alloc-exact, made-roomy, redirect-exact}
+use Rattle.store.specs.Laws.OneSlot.{same-cost, roomed, alloc-exact, redirect-exact}
 use Rattle.store.specs.Laws.Relocate.{fill-exact, retype-exact, relocate-answer, Answered}
 use Rattle.store.specs.Laws.SoundPage.{sound-page, sound-init, not-true, and-both}
 use Rattle.store.specs.declared.Named.{Named}
@@ -26,11 +28,6 @@ use Rattle.store.specs.declared.Named.the-variants.{At, Full}
 use Rattle.store.specs.Laws.Segments.{ExactOn, AllExact, length-page, two-exact, three-exact}
 use Rattle.store.specs.declared.Slot.{Slot}
 use Rattle.store.specs.declared.Slot.the-variants.{Ordinary, Free, Redirect, Target}
-
--- a property of a choice, from each branch with its test
-pub by-test : {A : Type 0} (P : A → Type 0) (b : Bool) (x y : A) → (b ≡ true → P x) → (b ≡ false → P y) → P (cond b x y)
-by-test P true x y f g = f refl
-by-test P false x y f g = g refl
 
 pub not-false : (b : Bool) → not b ≡ false → b ≡ true
 not-false true e = refl
@@ -75,16 +72,13 @@ pub alloc-ok : (q : List ℕ) (n : ℕ) → length q ≡ 16384 → sound (opened
 unfolding allocate
 alloc-ok q n whole e =
     let v : View = opened (view q) in
+    let w : View = roomFor v n .after in
     let s = sound-seen q whole e in
-    by-test (AllocOk q n) (ltb (v .freeSpace) (cost v n)) noRoom
-    (got (v .firstFree) (andThen (makeRoom v (cost v n)) (λ w. plan (commit (w .firstFree) (allocated w n) ∷ []) (allocated w n))))
-    (λ f. tt)
+    by-test (AllocOk q n) (ltb (v .freeSpace) (cost v n)) noRoom (got (v .firstFree) (allocating v n)) (λ f. tt)
     (λ f.
-    let r : cost v n ≤ v .freeSpace = ltb-false (v .freeSpace) (cost v n) f in
-    let m = made-roomy q v (cost v n) (shows-opened q whole) (full-seen q whole n r) s r in
-    let w : View = makeRoom v (cost v n) .after in
-    let c : cost w n ≡ cost v n = λ i. cond (eqb (m .kept .firstFree i) (m .kept .slotCount i)) (n + 8) n in
-    let t = numbers w (m .right .sound) n (omega (arith, m .kept .freeSpace)) (omega (arith, m .gap)) in
+    let r : cost v n ≤ v .freeSpace = omega tests in
+    let m = roomed q v n (shows-opened q whole) (full-seen q whole n r) s r in
+    let t = numbers w (m .right .sound) n (omega (arith, m .kept .freeSpace, same-cost v w n (m .kept))) (m .gap) in
     let i : allocated w n .at (v .firstFree) ≡ Ordinary (w .dataStart - n) n = ap (λ (j : ℕ). allocated w n .at j) (sym (m .kept .firstFree)) ∙ upd-same (w .at) (w .firstFree) (Ordinary (w .dataStart - n) n) in
     (alloc-exact q v n (shows-opened q whole) (full-seen q whole n r) s r, omega (arith, t .inside, m .kept .firstFree), ap isFree i, ap len i))
 
@@ -111,7 +105,7 @@ named-ok v n need =
 
 pub find-ok : (s v : List ℕ) (n : ℕ) (excluded : ℕ → Bool) → FoundOk s n excluded (find foundIn (segView s) v n excluded)
 unfolding find segView
-find-ok s v n excluded = go (foundIn v (length s / 16384) (n + 8)) (named-ok v (length s / 16384) (n + 8))
+find-ok s v n excluded = go (foundIn v (length s / 16384) (needFor n)) (named-ok v (length s / 16384) (needFor n))
   where
     go : (m : Named) → NamedOk (length s / 16384) m → FoundOk s n excluded (findOn (segView s) n excluded m)
     go Full h = tt

@@ -14,11 +14,11 @@ use Rattle.store.specs.Numbers.{zeros, fit}
 use Rattle.store.specs.Laws.Slots.{tag}
 use Rattle.store.specs.Slots.{off, len, isFree, isRecord, placed}
 use Rattle.store.specs.Page.{View}
-use Rattle.store.specs.PageSteps.{Edit, head, move, commit, fill, Plan, stay, andThen, withSlot, withHead, compactify, gap, makeRoom, isNew, cost, allocated, Alloc, noRoom, got, startWithout, pruned, eraseForRedirect, Relocated, refused, moved, moveUnder, shrunk, parked, resized, relocateBy, relocate, filled, plan, allocate, erase}
+use Rattle.store.specs.PageSteps.{Edit, head, move, commit, fill, Plan, stay, andThen, withSlot, withHead, compactify, gap, makeRoom, isNew, cost, allocated, roomFor, allocating, Alloc, noRoom, got, erased, redirected, eraseForRedirect, Relocated, refused, moved, moveUnder, shrunk, parked, resized, relocateBy, relocate, filled, plan, allocate, erase}
 use Rattle.store.specs.Laws.Views.{Sound, upd-same, upd-other, erase-used}
 use Rattle.store.specs.Laws.Compactify.{Kept, compact-keeps}
 use Rattle.store.specs.Laws.OneSlot.{Suits, slot-sound}
-use Rattle.store.specs.Laws.Calls.{by-test}
+use Rattle.store.specs.Laws.Cases.{by-test, tests}
 use Rattle.store.specs.declared.Slot.{Slot}
 use Rattle.store.specs.declared.Slot.the-variants.{Ordinary, Free, Redirect, Target}
 
@@ -147,9 +147,6 @@ roomy-kept v need s = by-test (λ a. Kept v (a .after)) (ltb (gap v) need) (comp
 
 -- ---- allocate
 
-pub cost-most : (v : View) (n : ℕ) → (cost v n ≤ n + 8) × (n ≤ cost v n)
-cost-most v n = by-test (λ c. (c ≤ n + 8) × (n ≤ c)) (isNew v) (n + 8) n (λ e. (omega arith, omega arith)) (λ e. (omega arith, omega arith))
-
 module _ (v : View) (s : Sound v) (n : ℕ) where
   abbrev pub AllocChanges : Alloc → Type 0
   AllocChanges noRoom = v .freeSpace < cost v n
@@ -170,20 +167,17 @@ module _ (v : View) (s : Sound v) (n : ℕ) where
   pub alloc-changes : AllocChanges (allocate v n)
   unfolding allocate
   alloc-changes =
-      by-test AllocChanges (ltb (v .freeSpace) (cost v n)) noRoom
-      (got (v .firstFree) (andThen (makeRoom v (cost v n)) (λ w. plan (commit (w .firstFree) (allocated w n) ∷ []) (allocated w n))))
-      (λ e. ltb-true (v .freeSpace) (cost v n) e)
+      by-test AllocChanges (ltb (v .freeSpace) (cost v n)) noRoom (got (v .firstFree) (allocating v n)) (λ e. omega tests)
       (λ e.
-      let a : Plan = makeRoom v (cost v n) in
-      let w : View = a .after in
-      let k = roomy-kept v (cost v n) s in
+      let w : View = roomFor v n .after in
+      let k : Kept v w = roomy-kept v _ s in
       let low : w .firstFree ≤ w .slotCount = omega (arith, k .firstFree, k .slotCount, s .first≤) in
-      let c = committed v (w .firstFree) (omega (arith, low, k .slotCount, s .few)) a k (allocated w n .slotCount) (allocated w n .firstFree) (allocated w n .dataStart) (allocated w n .freeSpace)
+      let c : Changes v (w .firstFree) (Ordinary 0 n) (zeros n) (allocating v n) =
+      committed v (w .firstFree) (omega (arith, low, k .slotCount, s .few)) (roomFor v n) k (allocated w n .slotCount) (allocated w n .firstFree) (allocated w n .dataStart) (allocated w n .freeSpace)
       (Ordinary (w .dataStart - n) n) (zeros n) (new-used w low)
-      (λ j h. ⊎-elim (λ l. inl (omega (arith, k .slotCount))) (λ q. inr q) (new-inside w low j h)) in
-      let p : Plan = andThen a (λ x. plan (commit (x .firstFree) (allocated x n) ∷ []) (allocated x n)) in (
+      (λ j h. ⊎-elim (λ l. inl (omega (arith, k .slotCount))) (λ q. inr q) (new-inside w low j h)) in (
         s .first-free,
-        subst (λ (i : ℕ). Changes v i (Ordinary 0 n) (zeros n) p) (k .firstFree) c,
+        subst (λ (i : ℕ). Changes v i (Ordinary 0 n) (zeros n) (allocating v n)) (k .firstFree) c,
         subst (λ (i : ℕ). len (allocated w n .at i) ≡ n) (k .firstFree) (ap len (upd-same (w .at) (w .firstFree) (Ordinary (w .dataStart - n) n))),
       ))
 
@@ -196,13 +190,13 @@ module _ (v : View) (s : Sound v) (k : ℕ) (inside : k < v .slotCount) (taken :
   pub erase-changes : Changes v k Free [] (erase v k)
   unfolding erase
   erase-changes =
-      committed v k few-slots (stay v) (self-kept v) (v .slotCount - pruned v k) (min (v .firstFree) k) (startWithout v k) (v .freeSpace + len (v .at k) + 8 * pruned v k) Free []
+      committed v k few-slots (stay v) (self-kept v) (erased v k .slotCount) (erased v k .firstFree) (erased v k .dataStart) (erased v k .freeSpace) Free []
       (erase-used v s k inside taken) (λ j h. inl (omega arith))
 
   pub redirect-changes : (id : ℕ) → Changes v k (Redirect id) [] (eraseForRedirect v k id)
   unfolding eraseForRedirect
   redirect-changes id =
-      committed v k few-slots (stay v) (self-kept v) (v .slotCount) (v .firstFree) (startWithout v k) (v .freeSpace + len (v .at k)) (Redirect id) [] (omega arith) (λ j h. inl h)
+      committed v k few-slots (stay v) (self-kept v) (redirected v k id .slotCount) (redirected v k id .firstFree) (redirected v k id .dataStart) (redirected v k id .freeSpace) (Redirect id) [] (omega arith) (λ j h. inl h)
 
   -- the entry alone
   pub entry-changes : (y : Slot) (bs : List ℕ) (e : Edit) → Changes v k (tag y) bs (plan (e ∷ []) (withSlot v k y bs))
@@ -234,7 +228,7 @@ module _ (v : View) (s : Sound v) (k : ℕ) (inside : k < v .slotCount) (taken :
       subst (λ (y : Slot). Changes u k y b (moveUnder u k x n b)) (placed-zero x (w .dataStart - n) n)
       (committed u k few-slots a q (w .slotCount) (w .firstFree) (w .dataStart - n) (w .freeSpace - n) (placed x (w .dataStart - n) n) b (omega (arith, q .slotCount)) (λ j h. inl (omega (arith, q .slotCount))))
 
-  parks : Suits v k (Redirect 0) (v .dataStart) (v .freeSpace + len (v .at k))
+  parks : Suits v k (Redirect 0) (parked v k .dataStart) (parked v k .freeSpace)
   parks =
       record {
         inside = inside;
@@ -262,7 +256,7 @@ module _ (v : View) (s : Sound v) (k : ℕ) (inside : k < v .slotCount) (taken :
       (λ l bs.
       fill-changes v k (placed (v .at k) 0 n) (take n (v .bytes k)) (plan (commit k (shrunk v k n) ∷ []) (shrunk v k n))
       (subst (λ (y : Slot). Changes v k y (take n (v .bytes k)) (plan (commit k (shrunk v k n) ∷ []) (shrunk v k n))) (placed-zero (v .at k) (off (v .at k)) n)
-      (committed v k few-slots (stay v) (self-kept v) (v .slotCount) (v .firstFree) (v .dataStart) (v .freeSpace + (len (v .at k) - n)) (placed (v .at k) (off (v .at k)) n) (take n (v .bytes k)) (omega arith) (λ j h. inl h))) bs)
+      (committed v k few-slots (stay v) (self-kept v) (shrunk v k n .slotCount) (shrunk v k n .firstFree) (shrunk v k n .dataStart) (shrunk v k n .freeSpace) (placed (v .at k) (off (v .at k)) n) (take n (v .bytes k)) (omega arith) (λ j h. inl h))) bs)
       (λ l. by-test (Relocates n) (ltb (v .freeSpace) (n - len (v .at k))) refused (moved growing) (λ f. omega (arith, ltb-true (v .freeSpace) (n - len (v .at k)) f))
       (λ f bs. fill-changes v k (placed (v .at k) 0 n) (fit n (v .bytes k)) growing grown bs)))
     where
@@ -278,9 +272,9 @@ module _ (v : View) (s : Sound v) (k : ℕ) (inside : k < v .slotCount) (taken :
       grown : Changes v k (placed (v .at k) 0 n) (fit n (v .bytes k)) growing
       grown =
           changes-then v k (Redirect 0) [] p0
-          (committed v k few-slots (stay v) (self-kept v) (v .slotCount) (v .firstFree) (v .dataStart) (v .freeSpace + len (v .at k)) (Redirect 0) [] (omega arith) (λ j h. inl h))
+          (committed v k few-slots (stay v) (self-kept v) (parked v k .slotCount) (parked v k .firstFree) (parked v k .dataStart) (parked v k .freeSpace) (Redirect 0) [] (omega arith) (λ j h. inl h))
           (placed (v .at k) 0 n) (fit n (v .bytes k)) (moveUnder (parked v k) k (v .at k) n (fit n (v .bytes k)))
-          (under-changes (parked v k) (slot-sound v s k (Redirect 0) (v .dataStart) (v .freeSpace + len (v .at k)) parks [] refl) refl (v .at k) n (fit n (v .bytes k)))
+          (under-changes (parked v k) (slot-sound v s k (Redirect 0) (parked v k .dataStart) (parked v k .freeSpace) parks [] refl) refl (v .at k) n (fit n (v .bytes k)))
 
   pub relocate-changes : (n : ℕ) → Relocates n (relocate v k n)
   unfolding relocate

@@ -12,7 +12,7 @@ use borrow.Author.Tests.{ltb-false, ltb-true, eqb-true}
 use Rattle.store.specs.Numbers.{cut, upd, sum}
 use Rattle.store.specs.Slots.{off, len, isFree, isTarget, isRecord, placed}
 use Rattle.store.specs.Page.{View, view}
-use Rattle.store.specs.PageSteps.{withSlot, withHead, before, inOrder, records, pack, compactify, gap, apply, move}
+use Rattle.store.specs.PageSteps.{before, inOrder, records, packedTo, withPacked, startingAt, pack, compactify, gap, apply, move}
 use Rattle.store.specs.Laws.Slots.{Codable, tag}
 use Rattle.store.specs.Laws.Edits.{Apart, Clear, Only, shows-view, move-view, head-view, under-view, entry-of}
 use Rattle.store.specs.Laws.Views.{Sound, sound-fits, upd-elim, upd-other, upd-apart, upd-lens, sum-ext}
@@ -85,11 +85,12 @@ pub record Packing (ks : List ℕ) (d : ℕ) (v : View) : Type 0 where
   pub top : d ≤ 16384
   pub sums : d + sum (v .slotCount) (λ j. len (v .at j)) ≡ 16384 + lensOf v ks
 
-placed-tag : (s : Slot) (d : ℕ) → isRecord s ≡ true → tag (placed s d (len s)) ≡ tag s
-placed-tag (Ordinary o l) d e = refl
-placed-tag Free d e = refl
-placed-tag (Redirect i) d e = let z : _≡_ {A = ℕ} 0 1 = cc in absurd (omega arith)
-placed-tag (Target o l) d e = refl
+-- kind and length stay
+packed-tag : (s : Slot) (d : ℕ) → isRecord s ≡ true → tag (packedTo d s) ≡ tag s
+packed-tag (Ordinary o l) d e = refl
+packed-tag Free d e = let z : _≡_ {A = ℕ} 0 1 = cc in absurd (omega arith)
+packed-tag (Redirect i) d e = let z : _≡_ {A = ℕ} 0 1 = cc in absurd (omega arith)
+packed-tag (Target o l) d e = refl
 
 -- one move
 module _ (k : ℕ) (ks : List ℕ) (d : ℕ) (v : View) (p : Packing (k ∷ ks) d v) where
@@ -109,7 +110,7 @@ module _ (k : ℕ) (ks : List ℕ) (d : ℕ) (v : View) (p : Packing (k ∷ ks) 
       go (no a) (yes b) = omega (arith, p .under .0)
       go (yes a) (yes b) = side b (p .sound .apart j k n a b)
 
-  new-apart : (j : ℕ) → j ≢ k → Apart (placed (v .at k) (d - len (v .at k)) (len (v .at k))) (v .at j)
+  new-apart : (j : ℕ) → j ≢ k → Apart (packedTo d (v .at k)) (v .at j)
   new-apart j n a b =
       rw (is .off, is .len)
       (go (all-or (λ i. off (v .at i) + len (v .at i) ≤ d - len (v .at k)) j ks
@@ -121,26 +122,26 @@ module _ (k : ℕ) (ks : List ℕ) (d : ℕ) (v : View) (p : Packing (k ∷ ks) 
       go (inl h) = inr h
       go (inr h) = inl (omega (arith, p .above j (n, h) b, p .under .0))
 
-  same-lens : (j : ℕ) → len (upd (v .at) k (placed (v .at k) (d - len (v .at k)) (len (v .at k))) j) ≡ len (v .at j)
-  same-lens = upd-elim (v .at) k (placed (v .at k) (d - len (v .at k)) (len (v .at k))) (λ j y. len y ≡ len (v .at j)) (is .len) (λ j n. refl)
+  same-lens : (j : ℕ) → len (upd (v .at) k (packedTo d (v .at k)) j) ≡ len (v .at j)
+  same-lens = upd-elim (v .at) k (packedTo d (v .at k)) (λ j y. len y ≡ len (v .at j)) (is .len) (λ j n. refl)
 
-  same-free : (j : ℕ) → isFree (upd (v .at) k (placed (v .at k) (d - len (v .at k)) (len (v .at k))) j) ≡ isFree (v .at j)
+  same-free : (j : ℕ) → isFree (upd (v .at) k (packedTo d (v .at k)) j) ≡ isFree (v .at j)
   same-free =
-      upd-elim (v .at) k (placed (v .at k) (d - len (v .at k)) (len (v .at k))) (λ j y. isFree y ≡ isFree (v .at j))
+      upd-elim (v .at) k (packedTo d (v .at k)) (λ j y. isFree y ≡ isFree (v .at j))
       (is .free ∙ sym (record-taken (v .at k) (p .recs .0))) (λ j n. refl)
 
-  same-tag : (j : ℕ) → tag (upd (v .at) k (placed (v .at k) (d - len (v .at k)) (len (v .at k))) j) ≡ tag (v .at j)
+  same-tag : (j : ℕ) → tag (upd (v .at) k (packedTo d (v .at k)) j) ≡ tag (v .at j)
   same-tag =
-      upd-elim (v .at) k (placed (v .at k) (d - len (v .at k)) (len (v .at k))) (λ j y. tag y ≡ tag (v .at j))
-      (placed-tag (v .at k) (d - len (v .at k)) (p .recs .0)) (λ j n. refl)
+      upd-elim (v .at) k (packedTo d (v .at k)) (λ j y. tag y ≡ tag (v .at j))
+      (packed-tag (v .at k) d (p .recs .0)) (λ j n. refl)
 
-  same-sum : sum (v .slotCount) (λ j. len (upd (v .at) k (placed (v .at k) (d - len (v .at k)) (len (v .at k))) j)) ≡ sum (v .slotCount) (λ j. len (v .at j))
-  same-sum = sum-ext (v .slotCount) (λ j. len (upd (v .at) k (placed (v .at k) (d - len (v .at k)) (len (v .at k))) j)) (λ j. len (v .at j)) (λ j h. same-lens j)
+  same-sum : sum (v .slotCount) (λ j. len (upd (v .at) k (packedTo d (v .at k)) j)) ≡ sum (v .slotCount) (λ j. len (v .at j))
+  same-sum = sum-ext (v .slotCount) (λ j. len (upd (v .at) k (packedTo d (v .at k)) j)) (λ j. len (v .at j)) (λ j h. same-lens j)
 
-  move-sound : Sound (withSlot v k (placed (v .at k) (d - len (v .at k)) (len (v .at k))) (v .bytes k))
+  move-sound : Sound (withPacked v k d)
   move-sound =
       let s = p .sound in
-      let y : Slot = placed (v .at k) (d - len (v .at k)) (len (v .at k)) in
+      let y : Slot = packedTo d (v .at k) in
       record {
         few = s .few;
         first≤ = s .first≤;
@@ -162,34 +163,34 @@ module _ (k : ℕ) (ks : List ℕ) (d : ℕ) (v : View) (p : Packing (k ∷ ks) 
   not-k = all-map (λ j. (j ≢ k) × (off (v .at j) ≤ off (v .at k))) (λ j. j ≢ k) ks (λ j h. h .0) (p .desc .0)
 
   -- the slots of the list are as they were
-  kept : (j : ℕ) → j ≢ k → upd (v .at) k (placed (v .at k) (d - len (v .at k)) (len (v .at k))) j ≡ v .at j
-  kept = upd-other (v .at) k (placed (v .at k) (d - len (v .at k)) (len (v .at k)))
+  kept : (j : ℕ) → j ≢ k → upd (v .at) k (packedTo d (v .at k)) j ≡ v .at j
+  kept = upd-other (v .at) k (packedTo d (v .at k))
 
-  desc-kept : (js : List ℕ) → All (λ j. j ≢ k) js → Desc v js → Desc (withSlot v k (placed (v .at k) (d - len (v .at k)) (len (v .at k))) (v .bytes k)) js
+  desc-kept : (js : List ℕ) → All (λ j. j ≢ k) js → Desc v js → Desc (withPacked v k d) js
   desc-kept [] a h = tt
   desc-kept (j ∷ js) a h = (
     all-two (λ i. i ≢ k) (λ i. (i ≢ j) × (off (v .at i) ≤ off (v .at j)))
-        (λ i. (i ≢ j) × (off (upd (v .at) k (placed (v .at k) (d - len (v .at k)) (len (v .at k))) i) ≤ off (upd (v .at) k (placed (v .at k) (d - len (v .at k)) (len (v .at k))) j)))
+        (λ i. (i ≢ j) × (off (upd (v .at) k (packedTo d (v .at k)) i) ≤ off (upd (v .at) k (packedTo d (v .at k)) j)))
         js (λ i n q. (q .0, rw (kept i n, kept j (a .0)) (q .1))) (a .1) (h .0),
     desc-kept js (a .1) (h .1),
   )
 
-  lens-kept : (js : List ℕ) → All (λ j. j ≢ k) js → lensOf (withSlot v k (placed (v .at k) (d - len (v .at k)) (len (v .at k))) (v .bytes k)) js ≡ lensOf v js
+  lens-kept : (js : List ℕ) → All (λ j. j ≢ k) js → lensOf (withPacked v k d) js ≡ lensOf v js
   lens-kept [] a = refl
   lens-kept (j ∷ js) a = omega (arith, same-lens j, lens-kept js (a .1))
 
-  packing-next : Packing ks (d - len (v .at k)) (withSlot v k (placed (v .at k) (d - len (v .at k)) (len (v .at k))) (v .bytes k))
+  packing-next : Packing ks (d - len (v .at k)) (withPacked v k d)
   packing-next =
       record {
         sound = move-sound;
-        recs = all-two (λ j. j ≢ k) (λ j. isRecord (v .at j) ≡ true) (λ j. isRecord (upd (v .at) k (placed (v .at k) (d - len (v .at k)) (len (v .at k))) j) ≡ true) ks (λ j n h. ap isRecord (kept j n) ∙ h) not-k (p .recs .1);
+        recs = all-two (λ j. j ≢ k) (λ j. isRecord (v .at j) ≡ true) (λ j. isRecord (upd (v .at) k (packedTo d (v .at k)) j) ≡ true) ks (λ j n h. ap isRecord (kept j n) ∙ h) not-k (p .recs .1);
         desc = desc-kept ks not-k (p .desc .1);
         under =
             all-two (λ j. (j ≢ k) × (off (v .at j) ≤ off (v .at k))) (λ j. off (v .at j) + len (v .at j) ≤ d)
-            (λ j. off (upd (v .at) k (placed (v .at k) (d - len (v .at k)) (len (v .at k))) j) + len (upd (v .at) k (placed (v .at k) (d - len (v .at k)) (len (v .at k))) j) ≤ d - len (v .at k))
+            (λ j. off (upd (v .at) k (packedTo d (v .at k)) j) + len (upd (v .at) k (packedTo d (v .at k)) j) ≤ d - len (v .at k))
             ks (λ j h u. rw (kept j (h .0)) (below j (h .0) (h .1) u)) (p .desc .0) (p .under .1);
         above =
-            upd-elim (v .at) k (placed (v .at k) (d - len (v .at k)) (len (v .at k))) (λ j z. All (λ i. j ≢ i) ks → 0 < len z → d - len (v .at k) ≤ off z)
+            upd-elim (v .at) k (packedTo d (v .at k)) (λ j z. All (λ i. j ≢ i) ks → 0 < len z → d - len (v .at k) ≤ off z)
             (λ a h. rw (is .off) (omega arith)) (λ j n a h. omega (arith, p .above j (n, a) h));
         top = omega (arith, p .top);
         sums = rw (same-sum, lens-kept ks not-k) (omega (arith, p .sums, p .under .0));
@@ -209,12 +210,12 @@ pub record Move (k : ℕ) (ks : List ℕ) (d : ℕ) (v : View) (p : List ℕ) : 
   pub under : off (v .at k) + len (v .at k) ≤ d
   pub top : d ≤ 16384
   pub others : All (λ j. j ≢ k) ks
-  pub seen : view (apply (move k (withSlot v k (placed (v .at k) (d - len (v .at k)) (len (v .at k))) (v .bytes k))) p) ≡ withSlot v k (placed (v .at k) (d - len (v .at k)) (len (v .at k))) (v .bytes k)
-  pub next : Packing ks (d - len (v .at k)) (withSlot v k (placed (v .at k) (d - len (v .at k)) (len (v .at k))) (v .bytes k))
+  pub seen : view (apply (move k (withPacked v k d)) p) ≡ withPacked v k d
+  pub next : Packing ks (d - len (v .at k)) (withPacked v k d)
 
 pub one-move : (k : ℕ) (ks : List ℕ) (d : ℕ) (v : View) → Packing (k ∷ ks) d v → (p : List ℕ) → length p ≡ 16384 → view p ≡ v → Move k ks d v p
 one-move k ks d v q p whole e =
-    let w : View = withSlot v k (placed (v .at k) (d - len (v .at k)) (len (v .at k))) (v .bytes k) in
+    let w : View = withPacked v k d in
     let t = move-sound k ks d v q in
     let only : Only v k w = record { at = kept k ks d v q; bytes = upd-other (v .bytes) k (v .bytes k); below = λ j n h. h } in
     let clear : Clear k w = λ j h. omega (arith, t .low j h, t .dir, counted k ks d v q) in
@@ -230,7 +231,7 @@ one-move k ks d v q p whole e =
 
 -- ---- all moves
 
-end-sound : (d : ℕ) (v : View) → Packing [] d v → Sound (withHead v (v .slotCount) (v .firstFree) d (v .freeSpace))
+end-sound : (d : ℕ) (v : View) → Packing [] d v → Sound (startingAt d v)
 end-sound d v k =
     let s = k .sound in
     record {
@@ -239,8 +240,8 @@ end-sound d v k =
       first-free = s .first-free;
       lower = s .lower;
       dir = omega (arith, k .sums, s .sums);
-      start≤ = k .top;
-      low = λ j. k .above j tt;
+      start≤ = omega (arith, k .top, s .start≤);
+      low = λ j h. omega (arith, k .above j tt h, s .low j h);
       high = s .high;
       apart = s .apart;
       targets = s .targets;
@@ -252,7 +253,7 @@ end-sound d v k =
 
 packed : (ks : List ℕ) (d : ℕ) (v : View) → Packing ks d v → (p : List ℕ) → length p ≡ 16384 → view p ≡ v → Exact p (pack ks d v)
 packed [] d v k p whole e =
-    let w : View = withHead v (v .slotCount) (v .firstFree) d (v .freeSpace) in
+    let w : View = startingAt d v in
     let t = end-sound d v k in
     let shows = shows-view p v whole e in
     let only : Only v (v .slotCount) w = record { at = λ j n. refl; bytes = λ j n. refl; below = λ j n h. h } in
@@ -262,7 +263,7 @@ packed [] d v k p whole e =
       sound = t;
     }
 packed (k ∷ ks) d v q p whole e =
-    let w : View = withSlot v k (placed (v .at k) (d - len (v .at k)) (len (v .at k))) (v .bytes k) in
+    let w : View = withPacked v k d in
     let m = one-move k ks d v q p whole e in
     let r = packed ks (d - len (v .at k)) w (m .next) (apply (move k w) p) (length-apply (move k w) p ∙ whole) (m .seen) in
     record { seen = r .seen; sound = r .sound }
@@ -400,7 +401,7 @@ pub record Kept (v w : View) : Type 0 where
 pack-keeps : (ks : List ℕ) (d : ℕ) (v : View) → Packing ks d v → Kept v (pack ks d v .after)
 pack-keeps [] d v p = record { slotCount = refl; firstFree = refl; freeSpace = refl; bytes = λ j. refl; lens = λ j. refl; kinds = λ j. refl; tags = λ j. refl }
 pack-keeps (k ∷ ks) d v p =
-    let h = pack-keeps ks (d - len (v .at k)) (withSlot v k (placed (v .at k) (d - len (v .at k)) (len (v .at k))) (v .bytes k)) (packing-next k ks d v p) in
+    let h = pack-keeps ks (d - len (v .at k)) (withPacked v k d) (packing-next k ks d v p) in
     record {
       slotCount = h .slotCount;
       firstFree = h .firstFree;
@@ -415,7 +416,7 @@ pack-keeps (k ∷ ks) d v p =
 pack-start : (ks : List ℕ) (d : ℕ) (v : View) → Packing ks d v → pack ks d v .after .dataStart + sum (v .slotCount) (λ j. len (v .at j)) ≡ 16384
 pack-start [] d v p = omega (arith, p .sums)
 pack-start (k ∷ ks) d v p =
-    omega (arith, same-sum k ks d v p, pack-start ks (d - len (v .at k)) (withSlot v k (placed (v .at k) (d - len (v .at k)) (len (v .at k))) (v .bytes k)) (packing-next k ks d v p))
+    omega (arith, same-sum k ks d v p, pack-start ks (d - len (v .at k)) (withPacked v k d) (packing-next k ks d v p))
 
 -- ---- compactify
 

@@ -1,7 +1,6 @@
 -- Laws of the inventory's bytes: what is read after a write, there and elsewhere. Assumes nothing.
 use Prim.Native.Nat.{ℕ, _+_, _*_, _/_, _%_, _^_, _≤_, _<_}
 use mathlib.Core.Path.{_≡_, _∙_, sym, ap}
-use mathlib.Core.Bool.{Bool, true, false, cond}
 use mathlib.Core.List.{List, [], _∷_}
 use mathlib.Core.Logic.{inl, inr, ⊎-elim}
 use native.Mathlib.Omega.{arith}
@@ -42,11 +41,7 @@ module _ (s : List ℕ) (c v : ℕ) where
 -- ---- nibbles
 
 half-same : (b h v : ℕ) → v < 16 → halfOf (withHalf b h v) h ≡ v
-half-same b h v l = go (eqb h 0)
-  where
-    go : (t : Bool) → cond t (cond t (b / 16 * 16 + v) (v * 16 + b % 16) % 16) (cond t (b / 16 * 16 + v) (v * 16 + b % 16) / 16) ≡ v
-    go true = omega arith
-    go false = omega arith
+half-same b h v l = ⊎-elim (λ z. rw (eq-eqb h 0 z) (omega arith)) (λ n. rw (ne-eqb h 0 n) (omega arith)) (eq-or-ne h 0)
 
 half-other : (b h i v : ℕ) → v < 16 → h < 2 → i < 2 → (i ≡ h → ⊥) → halfOf (withHalf b h v) i ≡ halfOf b i
 half-other b h i v l p q ne = ⊎-elim low high (eq-or-ne h 0)

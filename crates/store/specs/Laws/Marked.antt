@@ -11,9 +11,9 @@ use Rattle.store.specs.Inventory.{classOf, nibbleAt, nibble, setNibble, 
 use Rattle.store.specs.Segment.{Result, segView, result, find, insertPlan, storePlan, insertStep, resizeStep}
 use Rattle.store.specs.declared.Slot.the-variants.{Redirect, Target}
 
-record Row : Type 0 where
-  got : List ℕ
-  want : List ℕ
+pub record Row : Type 0 where
+  pub got : List ℕ
+  pub want : List ℕ
 
 -- a fresh page, or an inventory all zero
 blank : List ℕ

@@ -12,7 +12,8 @@ use borrow.Author.Tests.{le-ltb, lt-ltb}
 use Rattle.store.specs.Numbers.{upd, sum}
 use Rattle.store.specs.Slots.{off, len, isFree, isTarget, isRecord, placed}
 use Rattle.store.specs.Page.{View, view}
-use Rattle.store.specs.PageSteps.{withSlot, withHead, commit, Plan, andThen, run, makeRoom, gap, cost, compactify, allocated, startWithout, eraseForRedirect, movedUnder, moveUnder, plan}
+use Rattle.store.specs.PageSteps.{withSlot, withHead, commit, Plan, run, makeRoom, gap, isNew, cost, compactify, allocated, roomFor, allocating, redirected, eraseForRedirect, movedUnder, moveUnder, plan}
+use Rattle.store.specs.Laws.Cases.{by-test}
 use Rattle.store.specs.Laws.Slots.{Codable}
 use Rattle.store.specs.Laws.Edits.{Apart, Shows, shows-view}
 use Rattle.store.specs.Laws.Views.{Sound, upd-elim, upd-other, upd-same, upd-apart, upd-lens, sum-swap, start-up, start-end, start-low}
@@ -79,7 +80,7 @@ module _ (v : View) (s : Sound v) (k : ℕ) (x : Slot) (d r : ℕ) (h : Suits v 
 -- ---- erase for a redirect
 
 module _ (v : View) (s : Sound v) (k : ℕ) (inside : k < v .slotCount) (was : isFree (v .at k) ≡ false) (id : ℕ) (small : id < 2 ^ 62) where
-  redirect-suits : Suits v k (Redirect id) (startWithout v k) (v .freeSpace + len (v .at k))
+  redirect-suits : Suits v k (Redirect id) (redirected v k id .dataStart) (redirected v k id .freeSpace)
   redirect-suits =
       record {
         inside = inside;
@@ -98,7 +99,7 @@ module _ (v : View) (s : Sound v) (k : ℕ) (inside : k < v .slotCount) (was : i
 
   pub redirect-exact : (p : List ℕ) → Shows p v → Exact p (eraseForRedirect v k id)
   unfolding eraseForRedirect
-  redirect-exact p shows = slot-exact v s k (Redirect id) (startWithout v k) (v .freeSpace + len (v .at k)) redirect-suits [] refl p shows
+  redirect-exact p shows = slot-exact v s k (Redirect id) (redirected v k id .dataStart) (redirected v k id .freeSpace) redirect-suits [] refl p shows
 
 -- ---- room is made, if it has to be
 
@@ -121,23 +122,32 @@ made-roomy p v need shows full s r = go (decLt (gap v) need)
 
 -- ---- allocate
 
-same-cost : (v w : View) (n : ℕ) → Kept v w → cost w n ≡ cost v n
+pub cost-most : (v : View) (n : ℕ) → (cost v n ≤ n + 8) × (n ≤ cost v n)
+cost-most v n = by-test (λ c. (c ≤ n + 8) × (n ≤ c)) (isNew v) (n + 8) n (λ e. (omega arith, omega arith)) (λ e. (omega arith, omega arith))
+
+pub same-cost : (v w : View) (n : ℕ) → Kept v w → cost w n ≡ cost v n
 same-cost v w n k = λ i. cond (eqb (k .firstFree i) (k .slotCount i)) (n + 8) n
 
-pub alloc-exact : (p : List ℕ) (v : View) (n : ℕ) → Shows p v → (gap v < cost v n → view p ≡ v) → Sound v → cost v n ≤ v .freeSpace
-    → Exact p (andThen (makeRoom v (cost v n)) (λ w. plan (commit (w .firstFree) (allocated w n) ∷ []) (allocated w n)))
-alloc-exact p v n shows full s r =
-    let m = made-roomy p v (cost v n) shows full s r in
-    let w : View = makeRoom v (cost v n) .after in
-    let c = same-cost v w n (m .kept) in
-    exact-then p (makeRoom v (cost v n)) (λ u. plan (commit (u .firstFree) (allocated u n) ∷ []) (allocated u n))
-    (place-exact (run (makeRoom v (cost v n) .edits) p) w (m .right .shown) (m .right .sound) n (omega (arith, m .kept .freeSpace)) (omega (arith, m .gap)))
+-- the room that is made holds the record and its slot
+module _ (p : List ℕ) (v : View) (n : ℕ) (shows : Shows p v) (full : gap v < cost v n → view p ≡ v) (s : Sound v) (r : cost v n ≤ v .freeSpace) where
+  pub roomed : MakesRoom p v (cost (roomFor v n .after) n) (roomFor v n)
+  roomed =
+      let most = cost-most v n in
+      let m : MakesRoom p v _ (roomFor v n) = made-roomy p v _ shows (λ l. full (omega arith)) s (omega arith) in
+      record { right = m .right; kept = m .kept; gap = omega (arith, same-cost v (roomFor v n .after) n (m .kept), m .gap) }
+
+  pub alloc-exact : Exact p (allocating v n)
+  alloc-exact =
+      let w : View = roomFor v n .after in
+      exact-then p (roomFor v n) (λ u. plan (commit (u .firstFree) (allocated u n) ∷ []) (allocated u n))
+      (place-exact (run (roomFor v n .edits) p) w (roomed .right .shown) (roomed .right .sound) n
+      (omega (arith, roomed .kept .freeSpace, same-cost v w n (roomed .kept))) (roomed .gap))
 
 -- ---- a record moved under data start, into a slot that holds none
 
 module _ (v : View) (s : Sound v) (k : ℕ) (inside : k < v .slotCount) (was : isFree (v .at k) ≡ false) (none : len (v .at k) ≡ 0)
     (k0 : Slot) (kind : isRecord k0 ≡ true) (n : ℕ) (target : isTarget k0 ≡ true → 8 ≤ n) (room : n ≤ v .freeSpace) (fits : n ≤ gap v) where
-  drop-suits : Suits v k (placed k0 (v .dataStart - n) n) (v .dataStart - n) (v .freeSpace - n)
+  drop-suits : Suits v k (placed k0 (v .dataStart - n) n) (movedUnder v k k0 n [] .dataStart) (movedUnder v k k0 n [] .freeSpace)
   drop-suits =
       let i = placed-is k0 (v .dataStart - n) n kind in
       let le : n ≤ v .dataStart = omega arith in
@@ -165,6 +175,6 @@ module _ (p : List ℕ) (v : View) (whole : length p ≡ 16384) (seen : view p �
       let w : View = makeRoom v n .after in
       let i = placed-is k0 (w .dataStart - n) n kind in
       exact-then p (makeRoom v n) (λ u. plan (commit k (movedUnder u k k0 n bs) ∷ []) (movedUnder u k k0 n bs))
-      (slot-exact w (m .right .sound) k (placed k0 (w .dataStart - n) n) (w .dataStart - n) (w .freeSpace - n)
+      (slot-exact w (m .right .sound) k (placed k0 (w .dataStart - n) n) (movedUnder w k k0 n bs .dataStart) (movedUnder w k k0 n bs .freeSpace)
       (drop-suits w (m .right .sound) k (omega (arith, m .kept .slotCount)) (m .kept .kinds k ∙ was) (m .kept .lens k ∙ none) k0 kind n target (omega (arith, m .kept .freeSpace)) (m .gap))
       bs (size ∙ sym (i .len)) (run (makeRoom v n .edits) p) (m .right .shown))

@@ -1,25 +1,27 @@
 -- Read after write: from a sound segment, what a read gives after a call that is carried out, by the answer's id and by every other root. Assumes nothing.
-use Prim.Native.Nat.{ℕ, _/_, _<_}
+use Prim.Native.Nat.{ℕ, _/_, _≤_, _<_}
 use mathlib.Core.Path.{_≡_, refl, sym, ap, _∙_, subst}
 use mathlib.Core.Bool.{false, not}
 use mathlib.Core.List.{List}
 use mathlib.Core.Logic.{_≢_}
-use lib.ListN.{length}
+use lib.ListN.{length, getD}
 use lib.Dec.{leb}
 use borrow.Author.Tests.{lt-leb}
 use Rattle.store.specs.PageSteps.{plan}
-use Rattle.store.specs.Numbers.{pageNo}
+use Rattle.store.specs.Numbers.{fit, pageNo}
+use Rattle.store.specs.Laws.Numbers.{fit-kept, fit-added}
+use Rattle.store.specs.Laws.Relocate.{length-fit}
 use Rattle.store.specs.Laws.Slots.{tag}
 use Rattle.store.specs.Page.{sound}
-use Rattle.store.specs.Segment.{SegView, segView, Out, Result, result, carried, step, insertStep, Read, readBy, readPlan, readStep}
+use Rattle.store.specs.Segment.{SegView, segView, Out, Result, result, carried, step, resizeStep, Read, readBy, readPlan, readStep}
 use Rattle.store.specs.Laws.SoundPage.{sound-test}
 use Rattle.store.specs.Laws.Segments.{AllExact, settled}
-use Rattle.store.specs.Laws.AlikeByKind.{Exacting}
-use Rattle.store.specs.Calls.{Call, called}
+use Rattle.store.specs.Laws.AlikeByKind.{Exacting, planOf, called-plan, call-exacting}
+use Rattle.store.specs.Calls.{Call, resize, called}
 use Rattle.store.specs.SoundSegment.{slotOn, bytesOn, SoundSegment}
 use Rattle.store.specs.Laws.Pairs.{tagOn, look, Root}
-use Rattle.store.specs.Laws.Stays.{Stays, insert-new, points-back}
-use Rattle.store.specs.Laws.SoundSegment.{Seen, seen-sound, seen-pages, sized, stays-right, after-seen, page-count, Staying, planOf, rowOf, called-plan, call-exacting, call-staying}
+use Rattle.store.specs.Laws.Stays.{Stays, oldBytes, points-back}
+use Rattle.store.specs.Laws.SoundSegment.{Seen, seen-sound, seen-pages, sized, stays-right, after-seen, page-count, Staying, rowOf, call-staying}
 use Rattle.store.specs.declared.Slot.{Slot}
 use Rattle.store.specs.declared.Slot.the-variants.{Ordinary, Free, Redirect, Target}
 
@@ -84,9 +86,16 @@ plan-reads plan w s v x k h =
 pub call-reads : (c : Call) (s v : List ℕ) → SoundSegment s v → Reads s (rowOf c (segView s)) (called c s v)
 call-reads c s v h = subst (Reads s (rowOf c (segView s))) (sym (called-plan c s v)) (plan-reads (planOf c v) (rowOf c) s v (call-exacting c v) (call-staying c v) h)
 
--- an id that insert hands out was not in use
-pub insert-unused : (s v bs : List ℕ) → SoundSegment s v → insertStep s v bs .answer ≡ 0 → tagOn (segView s) (insertStep s v bs .id) ≡ Free
-unfolding insertStep result
-insert-unused s v bs h =
-    let e = seen-sound s v h in
-    rw (h .whole, h .page) (insert-new (segView s) (e .sounds) (e .few) v (e .one) (e .pairs) (e .truth) bs)
+-- a record at another size, byte by byte: the old bytes as far as both go, and zeros behind
+pub record Refit (n : ℕ) (old new : List ℕ) : Type 0 where
+  pub long : length new ≡ n
+  pub kept : (k : ℕ) → k < n → k < length old → getD new k 0 ≡ getD old k 0
+  pub added : (k : ℕ) → length old ≤ k → getD new k 0 ≡ 0
+
+-- a read after a resize beside a read before it
+pub resize-reads : (s v : List ℕ) (i n : ℕ) → SoundSegment s v → Rooted s i → resizeStep s v i n .answer ≡ 0
+    → Refit n (readStep s i .bytes) (readStep (resizeStep s v i n .seg) (resizeStep s v i n .id) .bytes)
+resize-reads s v i n h x e =
+    let old : readStep s i .bytes ≡ oldBytes (segView s) i = ap (λ (r : Read). r .bytes) (read-look s v h i (x .below)) in
+    let new : readStep (resizeStep s v i n .seg) (resizeStep s v i n .id) .bytes ≡ fit n (oldBytes (segView s) i) = ap (λ (r : Read). r .bytes) (call-reads (resize i n) s v h .own e) in
+    rw (old, new) (record { long = length-fit n _; kept = fit-kept n _; added = fit-added n _ })

@@ -39,7 +39,7 @@ Answered p v k n (moved a) = Moved p v k n a
 module _ (p : List ℕ) (v : View) (whole : length p ≡ 16384) (seen : view p ≡ v) (s : Sound v) (k : ℕ) (inside : k < v .slotCount) where
   -- smaller: the length only
   module _ (n : ℕ) (kind : isRecord (v .at k) ≡ true) (free : isFree (v .at k) ≡ false) (less : n < len (v .at k)) (target : isTarget (v .at k) ≡ true → 8 ≤ n) where
-    shrink-suits : Suits v k (placed (v .at k) (off (v .at k)) n) (v .dataStart) (v .freeSpace + (len (v .at k) - n))
+    shrink-suits : Suits v k (placed (v .at k) (off (v .at k)) n) (shrunk v k n .dataStart) (shrunk v k n .freeSpace)
     shrink-suits =
         let i = placed-is (v .at k) (off (v .at k)) n kind in
         record {
@@ -66,7 +66,7 @@ module _ (p : List ℕ) (v : View) (whole : length p ≡ 16384) (seen : view p �
         let i = placed-is (v .at k) (off (v .at k)) n kind in
         let e : length (take n (v .bytes k)) ≡ n = length-take n (v .bytes k) ∙ omega (arith, s .lens k) in
         record {
-          exact = slot-exact v s k (placed (v .at k) (off (v .at k)) n) (v .dataStart) (v .freeSpace + (len (v .at k) - n)) shrink-suits (take n (v .bytes k)) (e ∙ sym (i .len)) p (shows-view p v whole seen);
+          exact = slot-exact v s k (placed (v .at k) (off (v .at k)) n) (shrunk v k n .dataStart) (shrunk v k n .freeSpace) shrink-suits (take n (v .bytes k)) (e ∙ sym (i .len)) p (shows-view p v whole seen);
           size = ap len (upd-same (v .at) k (placed (v .at k) (off (v .at k)) n)) ∙ i .len;
           inside = inside;
           free = ap isFree (upd-same (v .at) k (placed (v .at k) (off (v .at k)) n)) ∙ i .free;
@@ -74,7 +74,7 @@ module _ (p : List ℕ) (v : View) (whole : length p ≡ 16384) (seen : view p �
 
   -- parked: the page that room is made on
   module _ (free : isFree (v .at k) ≡ false) where
-    park-suits : Suits v k (Redirect 0) (v .dataStart) (v .freeSpace + len (v .at k))
+    park-suits : Suits v k (Redirect 0) (parked v k .dataStart) (parked v k .freeSpace)
     park-suits =
         record {
           inside = inside;
@@ -92,7 +92,7 @@ module _ (p : List ℕ) (v : View) (whole : length p ≡ 16384) (seen : view p �
         }
 
     pub park-exact : Exact p (plan (commit k (parked v k) ∷ []) (parked v k))
-    park-exact = slot-exact v s k (Redirect 0) (v .dataStart) (v .freeSpace + len (v .at k)) park-suits [] refl p (shows-view p v whole seen)
+    park-exact = slot-exact v s k (Redirect 0) (parked v k .dataStart) (parked v k .freeSpace) park-suits [] refl p (shows-view p v whole seen)
 
   -- larger: parked, and put under data start
   module _ (n : ℕ) (kind : isRecord (v .at k) ≡ true) (free : isFree (v .at k) ≡ false) (more : len (v .at k) < n) (room : n - len (v .at k) ≤ v .freeSpace) where

@@ -9,11 +9,12 @@ use native.Mathlib.Nat.{not-suc-le-zero}
 use native.Mathlib.Decide.{ℕ-discrete, decLt}
 use lib.ListN.{length, drop, length-take, length-drop}
 use lib.Dec.{ltb, leb, eqb}
-use borrow.Author.Tests.{le-ltb, lt-leb, le-leb, leb-true, eqb-true, eq-eqb, ne-eqb}
+use borrow.Author.Tests.{le-ltb, lt-leb, le-leb, leb-true, eq-eqb, ne-eqb}
 use Rattle.store.specs.Numbers.{cut, be, all, sum}
 use Rattle.store.specs.Slots.{off, len, isFree, isTarget, slotOf, ofKind}
-use Rattle.store.specs.Page.{View, view, count, slotAt, fresh, liesWell, apart, soundTests, passes, sound}
+use Rattle.store.specs.Page.{View, view, count, slotAt, fresh, pastDirectory, liesWell, apart, soundTests, passes, sound}
 use Rattle.store.specs.PageSteps.{initialised, opened}
+use Rattle.store.specs.Laws.Cases.{tests}
 use Rattle.store.specs.Laws.Slots.{Codable}
 use Rattle.store.specs.Laws.Edits.{Apart}
 use Rattle.store.specs.Laws.Views.{Sound, is-free}
@@ -137,21 +138,21 @@ module _ (p : List ℕ) (whole : length p ≡ 16384) where
       let adds = t .1 .1 .1 .1 .1 .0 in
       let first = and-both (leb (v .firstFree) (v .slotCount)) (isFree (v .at (v .firstFree)) && all (v .firstFree) (λ j. not (isFree (v .at j)))) low in
       let lowest = and-both (isFree (v .at (v .firstFree))) (all (v .firstFree) (λ j. not (isFree (v .at j)))) (first .1) in
-      let starts = and-both (leb (12 + 8 * v .slotCount) (v .dataStart)) (leb (v .dataStart) 16384) begin in
+      let starts = and-both (pastDirectory v) (leb (v .dataStart) 16384) begin in
       let good : (j : ℕ) → j < v .slotCount → liesWell v j ≡ true = all-at (v .slotCount) (liesWell v) lie in
       let high : (j : ℕ) → off (v .at j) + len (v .at j) ≤ 16384 = λ j. high-by j good (decLt j (v .slotCount)) in
       record {
-        few = leb-true (v .slotCount) 2046 (t .0);
+        few = let few = t .0 in omega tests;
         first≤ = leb-true (v .firstFree) (v .slotCount) (first .0);
         first-free = is-free (v .at (v .firstFree)) (lowest .0);
         lower = λ j h. not-true (isFree (v .at j)) (all-at (v .firstFree) (λ i. not (isFree (v .at i))) (lowest .1) j h);
-        dir = leb-true (12 + 8 * v .slotCount) (v .dataStart) (starts .0);
+        dir = let below = starts .0 in omega tests;
         start≤ = leb-true (v .dataStart) 16384 (starts .1);
         low = λ j h. low-by j h good (decLt j (v .slotCount));
         high = high;
         apart = λ i j n. apart-by i j n (all-at (v .slotCount) (λ i. all (v .slotCount) (apart v i)) clear) (decLt i (v .slotCount)) (decLt j (v .slotCount));
         targets = λ j t. target-by j t good (decLt j (v .slotCount));
-        sums = eqb-true (v .freeSpace + 8 * v .slotCount + sum (v .slotCount) (λ k. len (v .at k))) 16372 adds;
+        sums = let exactly = adds in omega tests;
         codable = page-codable p;
         past = past-free p;
         lens = λ j. length-take (len (v .at j)) (drop (off (v .at j)) p) ∙ omega (arith, length-drop (off (v .at j)) p, high j);
@@ -266,18 +267,18 @@ module _ (v : View) (s : Sound v) where
   sound-test =
       or-out (fresh v) (passes soundTests v)
       (pass soundTests v (
-        le-leb (v .slotCount) 2046 (s .few),
+        omega (arith, le-leb, s .few),
         (
           and-in (leb (v .firstFree) (v .slotCount)) (isFree (v .at (v .firstFree)) && all (v .firstFree) (λ j. not (isFree (v .at j)))) (le-leb (v .firstFree) (v .slotCount) (s .first≤))
               (and-in (isFree (v .at (v .firstFree))) (all (v .firstFree) (λ j. not (isFree (v .at j)))) (ap isFree (s .first-free))
               (all-in (v .firstFree) (λ j. not (isFree (v .at j))) (λ j h. not-in (isFree (v .at j)) (s .lower j h)))),
           (
-            and-in (leb (12 + 8 * v .slotCount) (v .dataStart)) (leb (v .dataStart) 16384) (le-leb (12 + 8 * v .slotCount) (v .dataStart) (s .dir)) (le-leb (v .dataStart) 16384 (s .start≤)),
+            and-in (pastDirectory v) (leb (v .dataStart) 16384) (omega (arith, le-leb, s .dir)) (le-leb (v .dataStart) 16384 (s .start≤)),
             (
               all-in (v .slotCount) (liesWell v) (λ j h. good-in j),
               (
                 all-in (v .slotCount) (λ i. all (v .slotCount) (apart v i)) (λ i h. all-in (v .slotCount) (apart v i) (λ j l. apart-in i j)),
-                (eq-eqb (v .freeSpace + 8 * v .slotCount + sum (v .slotCount) (λ k. len (v .at k))) 16372 (s .sums), tt),
+                (omega (arith, eq-eqb, s .sums), tt),
               ),
             ),
           ),

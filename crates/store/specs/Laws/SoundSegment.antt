@@ -13,14 +13,13 @@ use Rattle.store.specs.Numbers.{zeros, fit, pageNo, slotNo}
 use Rattle.store.specs.Page.{View, view, fresh, soundTests, passes, sound, liesWell}
 use Rattle.store.specs.PageSteps.{initialised, opened, plan}
 use Rattle.store.specs.Inventory.{Truth}
-use Rattle.store.specs.Segment.{SegView, segView, pageOf, sizeOk, OnPage, Out, Result, result, carried, step, refuse, refuseIf, insertPlan, storePlan, erasePlan, insertStep, allocateStep, writeStep, resizeStep, eraseStep, Read, noRead, readBy, readPlan, readStep}
+use Rattle.store.specs.Segment.{SegView, segView, pageOf, sizeOk, OnPage, Out, Result, result, carried, step, refuse, insertPlan, Read, noRead, readBy, readPlan, readStep}
 use Rattle.store.specs.Laws.Views.{Sound}
 use Rattle.store.specs.Laws.SoundPage.{and-both, sound-init, sound-opened, sound-test, good-in}
-use Rattle.store.specs.Laws.Relocate.{length-fit}
 use Rattle.store.specs.Scan.{Scanned, without, overPage, recordAt, nextRecord, scanFrom, scanPlan, scanStep}
 use Rattle.store.specs.Laws.Segments.{AllExact, AllSound, length-page, settled, settledOn, carried-seen, settled-sound}
-use Rattle.store.specs.Laws.Calls.{by-test, insert-exact, store-exact, erase-call-exact}
-use Rattle.store.specs.Laws.AlikeByKind.{length-carried, Exacting}
+use Rattle.store.specs.Laws.Calls.{by-test}
+use Rattle.store.specs.Laws.AlikeByKind.{length-carried, Exacting, planOf, called-plan, call-exacting}
 use Rattle.store.specs.Calls.{Call, insert, allocate, write, resize, erase, called, results}
 use Rattle.store.specs.SoundSegment.{bytesOn, classes, SoundSegment}
 use Rattle.store.specs.Laws.Pairs.{Pairs, tagOn, paired-pairs, pairs-paired}
@@ -149,30 +148,6 @@ plan-right plan w s v x k h =
 insert-keeps : (s v bs : List ℕ) → Seen s v → Stays (segView s) v (wrote bs) (insertPlan (segView s) v bs)
 insert-keeps s v bs e = insert-stays (segView s) (e .sounds) (e .few) v (e .one) (e .pairs) (e .truth) bs
 
--- each call is a plan that is exact everywhere and stays
-abbrev pub planOf : Call → List ℕ → SegView → Out
-planOf (insert bs) v z = insertPlan z v bs
-planOf (allocate n) v z = refuseIf (ltb 16364 n) v 3 (insertPlan z v (zeros n))
-planOf (write i bs) v z = storePlan z v i (length bs) (λ old. bs)
-planOf (resize i n) v z = storePlan z v i n (fit n)
-planOf (erase i) v z = erasePlan z v i
-
-pub called-plan : (c : Call) (s v : List ℕ) → called c s v ≡ step s v (planOf c v (segView s))
-unfolding insertStep allocateStep writeStep resizeStep eraseStep
-called-plan (insert bs) s v = refl
-called-plan (allocate n) s v = refl
-called-plan (write i bs) s v = refl
-called-plan (resize i n) s v = refl
-called-plan (erase i) s v = refl
-
-pub call-exacting : (c : Call) (v : List ℕ) → Exacting (planOf c v)
-call-exacting (insert bs) v z l = insert-exact z v bs
-call-exacting (allocate n) v z l =
-    by-test (λ o. AllExact z (o .steps)) (ltb 16364 n) (refuse v 3) (insertPlan (segView z) v (zeros n)) (λ e. tt) (λ e. insert-exact z v (zeros n))
-call-exacting (write i bs) v z l = store-exact z v i (length bs) (λ old. bs) (λ old. refl) l
-call-exacting (resize i n) v z l = store-exact z v i n (fit n) (length-fit n) l
-call-exacting (erase i) v z l = erase-call-exact z v i
-
 -- what the answer's id reads as, after a call that is carried out
 abbrev pub rowOf : Call → SegView → Read
 rowOf (insert bs) u = wrote bs
@@ -184,11 +159,11 @@ rowOf (erase i) u = noRead 5
 pub call-staying : (c : Call) (v : List ℕ) → Staying (planOf c v) (rowOf c) v
 call-staying (insert bs) v z e = insert-keeps z v bs e
 call-staying (allocate n) v z e =
-    by-test (Stays (segView z) v (wrote (zeros n))) (ltb 16364 n) (refuse v 3) (insertPlan (segView z) v (zeros n))
+    by-test (Stays (segView z) v (wrote (zeros n))) (ltb 16364 n) (refuse v 3) (insertPlan (segView z) v _)
     (λ f. refusal (segView z) (e .sounds) (e .few) v (e .one) (e .pairs) (e .truth) (wrote (zeros n)) 3 (λ x. omega arith) (λ x. omega arith) (λ x. omega arith))
-    (λ f. insert-keeps z v (zeros n) e)
-call-staying (write i bs) v z e = store-stays (segView z) (e .sounds) (e .few) v (e .one) (e .pairs) (e .truth) i (length bs) (λ old. bs)
-call-staying (resize i n) v z e = store-stays (segView z) (e .sounds) (e .few) v (e .one) (e .pairs) (e .truth) i n (fit n)
+    (λ f. insert-keeps z v _ e)
+call-staying (write i bs) v z e = store-stays (segView z) (e .sounds) (e .few) v (e .one) (e .pairs) (e .truth) i _ _
+call-staying (resize i n) v z e = store-stays (segView z) (e .sounds) (e .few) v (e .one) (e .pairs) (e .truth) i _ _
 call-staying (erase i) v z e = erase-stays (segView z) (e .sounds) (e .few) v (e .one) (e .pairs) (e .truth) i
 
 -- a sound segment stays sound, and the answer is neither 4 nor 8

@@ -16,7 +16,7 @@ use Rattle.store.specs.Slots.{off, len, isFree, isTarget, placed}
 use Rattle.store.specs.Page.{View, sound}
 use Rattle.store.specs.PageSteps.{move, Plan, withSlot, Alloc, noRoom, got, eraseForRedirect, Relocated, refused, moved, relocate, filled, plan, allocate, erase}
 use Rattle.store.specs.Inventory.{classOf, entryFor, entryAt, Truth, update, foundIn}
-use Rattle.store.specs.Segment.{SegView, OnPage, on, Out, done, refuse, refuseIf, Found, nowhere, found, taken, findOn, find, inserted, insertPlan, pointsBack, targeted, forwarded, fromOrdinary, forwardedAgain, atTarget, atHome, fromRedirect, storeBy, storePlan, eraseBy, erasePlan, Read, noRead}
+use Rattle.store.specs.Segment.{SegView, OnPage, on, Out, done, refuse, refuseIf, Found, nowhere, found, taken, findOn, needFor, find, inserted, insertPlan, pointsBack, targeted, forwarded, fromOrdinary, forwardedAgain, atTarget, atHome, fromRedirect, storeBy, storePlan, eraseBy, erasePlan, Read, noRead}
 use Rattle.store.specs.Laws.Numbers.{be-toBE}
 use Rattle.store.specs.Laws.Classes.{class-low, class-top, class-mono}
 use Rattle.store.specs.Laws.Truth.{truth-by}
@@ -24,7 +24,8 @@ use Rattle.store.specs.Laws.Views.{Sound}
 use Rattle.store.specs.Laws.SoundPage.{sound-test}
 use Rattle.store.specs.Laws.Segments.{settledOn, settled}
 use Rattle.store.specs.Laws.Calls.{by-test}
-use Rattle.store.specs.Laws.Changes.{Writes, Headed, Changes, retag, fill-changes, cost-most, alloc-changes, AllocChanges, erase-changes, redirect-changes, entry-changes, Relocates, relocate-changes}
+use Rattle.store.specs.Laws.OneSlot.{cost-most}
+use Rattle.store.specs.Laws.Changes.{Writes, Headed, Changes, retag, fill-changes, alloc-changes, AllocChanges, erase-changes, redirect-changes, entry-changes, Relocates, relocate-changes}
 use Rattle.store.specs.SoundSegment.{slotOn, bytesOn, nibbleOf, classes}
 use Rattle.store.specs.Laws.Pairs.{PairOk, Pairs, tagOn, tag-target, moves-by, Moves, look, rowAt, Root, Plain, pairs-one, pairs-target, pairs-home, pairs-again, pairs-forward}
 use Rattle.store.specs.Laws.Settled.{page-else, tags-step, bytes-step, classes-step, classes-same, classes-bounded, changed-bounded, changed-swap, update-true, length-update}
@@ -274,15 +275,15 @@ module _ (u : SegView) (sounds : (p : ℕ) → Sound (u .page p)) (few : u .page
   FoundFits m ex (found q j a) =
       (q < u .pages) × (ex q ≡ false) × (u .page q .at j ≡ Free) × Changes (u .page q) j (Ordinary 0 m) (zeros m) a × (len (a .after .at j) ≡ m)
 
-  find-fits : (m : ℕ) (ex : ℕ → Bool) → ((q : ℕ) → ex q ≡ true → (0 < u .page q .slotCount) × (u .page q .freeSpace ≤ m + 8)) → FoundFits m ex (find foundIn u v m ex)
+  find-fits : (m : ℕ) (ex : ℕ → Bool) → ((q : ℕ) → ex q ≡ true → (0 < u .page q .slotCount) × (u .page q .freeSpace ≤ needFor m)) → FoundFits m ex (find foundIn u v m ex)
   unfolding find
-  find-fits m ex out = go (foundIn v (u .pages) (m + 8)) (named-fits (m + 8))
+  find-fits m ex out = go (foundIn v (u .pages) (needFor m)) (named-fits (needFor m))
     where
-      placed-in : (p : ℕ) → p < u .pages → ex p ≡ false → m + 8 ≤ u .page p .freeSpace → (a : Alloc) → AllocChanges (u .page p) (sounds p) m a → FoundFits m ex (taken p a)
+      placed-in : (p : ℕ) → p < u .pages → ex p ≡ false → needFor m ≤ u .page p .freeSpace → (a : Alloc) → AllocChanges (u .page p) (sounds p) m a → FoundFits m ex (taken p a)
       placed-in p l x r noRoom h = absurd (omega (arith, cost-most (u .page p) m .0))
       placed-in p l x r (got k a) h = (l, x, h .0, h .1, h .2)
 
-      go : (n : Named) → NamedFits (m + 8) n → FoundFits m ex (findOn u m ex n)
+      go : (n : Named) → NamedFits (needFor m) n → FoundFits m ex (findOn u m ex n)
       go Full h = refl
       go (At p) h =
           by-test (FoundFits m ex) (not (sound (u .page p))) (nowhere 4) (cond (ex p) (nowhere 8) (taken p (allocate (u .page p) m)))

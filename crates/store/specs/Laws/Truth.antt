@@ -10,8 +10,8 @@ use lib.Dec.{leb, eqb}
 use lib.ListN.{length}
 use borrow.Author.Tests.{eq-eqb, ne-eqb, leb-true, leb-false, eqb-true, eqb-false}
 use Rattle.store.specs.Numbers.{upd}
-use Rattle.store.specs.Inventory.{setNibble, entryAt, setEntry, Room, nibble, firstFrom, nextPage, runEnd, setFrom, pulledBack, movedOn, updated, Lowest, Truth}
-use Rattle.store.specs.Laws.Cases.{lt-or-le, eq-or-ne}
+use Rattle.store.specs.Inventory.{setNibble, entryAt, setEntry, Room, nibble, suits, firstFrom, nextPage, names, runEnd, setFrom, namesNoLater, pulledBack, movedOn, updated, Lowest, Truth}
+use Rattle.store.specs.Laws.Cases.{lt-or-le, eq-or-ne, by-test, tests}
 use Rattle.store.specs.Laws.Inventory.{length-setEntry, entry-same, entry-other, nibble-entry, length-setNibble, nibble-same, nibble-other, entry-nibble}
 
 -- ---- the search: the first of k pages from q on that suits
@@ -25,16 +25,24 @@ pub record First (f : ℕ → ℕ) (c q k e : ℕ) : Type 0 where
 pub first-is : (f : ℕ → ℕ) (c q k : ℕ) → First f c q k (firstFrom f c q k)
 unfolding firstFrom
 first-is f c q zero = record { low = omega arith; high = omega arith; before = λ j l m. omega arith; here = λ l. omega arith }
-first-is f c q (suc k) = go (leb (f q) c) refl (first-is f c (suc q) k)
-  where
-    go : (t : Bool) → leb (f q) c ≡ t → First f c (suc q) k (firstFrom f c (suc q) k) → First f c q (suc k) (cond t q (firstFrom f c (suc q) k))
-    go true e h = record { low = omega arith; high = omega arith; before = λ j l m. omega arith; here = λ l. leb-true (f q) c e }
-    go false e h = record {
+first-is f c q (suc k) =
+    let h = first-is f c (suc q) k in
+    by-test (First f c q (suc k)) (suits f c q) q (firstFrom f c (suc q) k)
+    (λ e. record { low = omega arith; high = omega arith; before = λ j l m. omega arith; here = λ l. omega tests })
+    (λ e.
+    let over : c < f q = omega tests in
+    record {
       low = omega (arith, h .low);
       high = omega (arith, h .high);
-      before = λ j l m. ⊎-elim (λ x. rw x (leb-false (f q) c e)) (λ x. h .before j (omega arith) m) (eq-or-ne j q);
+      before = λ j l m. ⊎-elim (λ x. rw x over) (λ x. h .before j (omega arith) m) (eq-or-ne j q);
       here = λ l. h .here (omega arith);
-    }
+    })
+
+-- the next page after p and below n that suits, n if there is none
+record Next (f : ℕ → ℕ) (n p c e : ℕ) : Type 0 where
+  within : e ≤ n
+  before : (j : ℕ) → p < j → j < e → c < f j
+  here : e < n → f e ≤ c
 
 first-agree : (f g : ℕ → ℕ) (c q k e : ℕ) → ((j : ℕ) → q ≤ j → j < q + k → f j ≡ g j) → First f c q k e → First g c q k e
 first-agree f g c q k e a h = record {
@@ -102,17 +110,18 @@ record Run (s : List ℕ) (p c k r : ℕ) : Type 0 where
 run-is : (s : List ℕ) (p c k : ℕ) → Run s p c k (runEnd s p c k)
 unfolding runEnd
 run-is s p c zero = record { low = omega arith; high = omega arith; all = λ j l m. omega arith; stop = λ l. omega arith }
-run-is s p c (suc k) = go (eqb (entryAt s c) p) refl (run-is s p (suc c) k)
-  where
-    go : (t : Bool) → eqb (entryAt s c) p ≡ t → Run s p (suc c) k (runEnd s p (suc c) k) → Run s p c (suc k) (cond t (runEnd s p (suc c) k) c)
-    go true e h = record {
+run-is s p c (suc k) =
+    let h = run-is s p (suc c) k in
+    by-test (Run s p c (suc k)) (names s p c) (runEnd s p (suc c) k) c
+    (λ e.
+    let here : entryAt s c ≡ p = omega tests in
+    record {
       low = omega (arith, h .low);
       high = omega (arith, h .high);
-      all = λ j l m. ⊎-elim (λ x. rw x (eqb-true (entryAt s c) p e)) (λ x. h .all j (omega arith) m) (eq-or-ne j c);
+      all = λ j l m. ⊎-elim (λ x. rw x here) (λ x. h .all j (omega arith) m) (eq-or-ne j c);
       stop = λ l. h .stop (omega arith);
-    }
-    go false e h = record
-        { low = omega arith; high = omega arith; all = λ j l m. omega arith; stop = λ l. eqb-false (entryAt s c) p e }
+    })
+    (λ e. record { low = omega arith; high = omega arith; all = λ j l m. omega arith; stop = λ l q. omega tests })
 
 -- where the entries fall, each of those from c on that names a page after p comes to p, and no other changes
 record Pulled (s : List ℕ) (p c k : ℕ) (t : List ℕ) : Type 0 where
@@ -128,25 +137,22 @@ unfolding pulledBack
 pulled s p c zero r h b falls = record
     { len = refl; nibs = λ j. refl; out = λ j l. refl; later = λ j l m. omega arith; other = λ j l m. omega arith }
 pulled s p c (suc k) r h b falls =
-    go (leb (entryAt s c) p) refl
-    (pulled s′ p (suc c) k (rw length-setEntry r) (omega arith) b
-    (λ i j l m q. omega (arith, kept i (omega arith), kept j (omega arith), falls i j (omega arith) m (omega arith))))
-  where
-    s′ : List ℕ
-    s′ = setEntry s c p
-
-    kept : (j : ℕ) → (j ≡ c → ⊥) → entryAt s′ j ≡ entryAt s j
-    kept j ne = entry-other s c p j ne
-
-    go : (t : Bool) → leb (entryAt s c) p ≡ t → Pulled s′ p (suc c) k (pulledBack p (suc c) k s′) → Pulled s p c (suc k) (cond t s (pulledBack p (suc c) k s′))
-    go true e q = record {
+    let kept : (j : ℕ) → (j ≡ c → ⊥) → entryAt (setEntry s c p) j ≡ entryAt s j = entry-other s c p in
+    let q = pulled (setEntry s c p) p (suc c) k (rw length-setEntry r) (omega arith) b
+    (λ i j l m q. omega (arith, kept i (omega arith), kept j (omega arith), falls i j (omega arith) m (omega arith))) in
+    by-test (Pulled s p c (suc k)) (namesNoLater s p c) s (pulledBack p (suc c) k (setEntry s c p))
+    (λ e.
+    let stop : entryAt s c ≤ p = omega tests in
+    record {
       len = refl;
       nibs = λ j. refl;
       out = λ j l. refl;
-      later = λ j l m x. omega (arith, falls c j (omega arith) l m, leb-true (entryAt s c) p e);
+      later = λ j l m x. omega (arith, stop, falls c j (omega arith) l m);
       other = λ j l m x. refl;
-    }
-    go false e q = record {
+    })
+    (λ e.
+    let goes : p < entryAt s c = omega tests in
+    record {
       len = q .len ∙ length-setEntry s c p;
       nibs = λ j. q .nibs j ∙ nibble-entry s c p (j + 240) (omega arith);
       out = λ j l. q .out j (omega arith) ∙ kept j (omega arith);
@@ -154,9 +160,9 @@ pulled s p c (suc k) r h b falls =
           ⊎-elim (λ y. rw y (q .out c (omega arith) ∙ entry-same s c p (omega arith) b))
           (λ y. q .later j (omega arith) (omega arith) (omega (arith, kept j y))) (eq-or-ne j c);
       other = λ j l m x.
-          ⊎-elim (λ y. omega (arith, leb-false (entryAt s c) p e, ap (entryAt s) y))
+          ⊎-elim (λ y. omega (arith, goes, ap (entryAt s) y))
           (λ y. q .other j (omega arith) (omega arith) (omega (arith, kept j y)) ∙ kept j y) (eq-or-ne j c);
-    }
+    })
 
 -- ---- the lowest pages after the class of page p changes
 
@@ -186,13 +192,13 @@ module _ (f : ℕ → ℕ) (n p v : ℕ) where
   }
 
   -- an entry that leaves p
-  leaves : (c e : ℕ) → Lowest f n c p → c < v → p < n → First (upd f p v) c (p + 1) (n - (p + 1)) e → Lowest (upd f p v) n c e
+  leaves : (c e : ℕ) → Lowest f n c p → c < v → p < n → Next (upd f p v) n p c e → Lowest (upd f p v) n c e
   leaves c e h l m q = record {
-    within = omega (arith, q .high);
+    within = q .within;
     before = λ k x.
         ⊎-elim (λ y. omega (arith, changed-other k (omega arith), h .before k y))
         (λ y. ⊎-elim (λ z. omega (arith, changed-here, ap (upd f p v) z)) (λ z. q .before k (omega arith) x) (eq-or-ne k p)) (lt-or-le k p);
-    here = λ x. q .here (omega arith);
+    here = q .here;
   }
 
 -- ---- an update keeps the inventory true
@@ -234,11 +240,12 @@ module _ (f : ℕ → ℕ) (n p v : ℕ) (s : List ℕ) (true₀ : Truth f n s) 
   unfolding s₁
   length₁ = length-setNibble s (p + 240) v
 
-  next : (c : ℕ) → First (upd f p v) c (p + 1) (n - (p + 1)) (nextPage s₁ n p c)
+  next : (c : ℕ) → Next (upd f p v) n p c (nextPage s₁ n p c)
   unfolding nextPage
   next c =
-      first-agree (nibble s₁) (upd f p v) c (p + 1) (n - (p + 1)) _
-      (λ j l m. nibbles₁ j (omega (arith, room .pages))) (first-is (nibble s₁) c (p + 1) (n - (p + 1)))
+      let h : First (upd f p v) c _ _ (nextPage s₁ n p c) =
+      first-agree (nibble s₁) (upd f p v) c _ _ _ (λ j l m. nibbles₁ j (omega (arith, room .pages))) (first-is (nibble s₁) c _ _) in
+      record { within = omega (arith, h .high); before = λ j l m. h .before j (omega arith) m; here = λ l. h .here (omega arith) }
 
   -- an entry below the new class is right once those that name p have movedOn
   moves : (c : ℕ) → c < 15 → c < v → Lowest (upd f p v) n c (entryAt s₂ c)
@@ -249,7 +256,7 @@ module _ (f : ℕ → ℕ) (n p v : ℕ) (s : List ℕ) (true₀ : Truth f n s) 
       goes a b =
           rw
           (down-in (nextPage s₁ n p) old (r - old) s₁ c (omega (arith, length₁, room .entries))
-          (omega (arith, run .low, run .high, old-is)) (omega (arith, next c .high)) a (omega arith))
+          (omega (arith, run .low, run .high, old-is)) (omega (arith, next c .within)) a (omega arith))
           (leaves f n p v c (nextPage s₁ n p c) (rw (← run .all c a b, entries₁ c l) (true₀ .entries c l)) m lt (next c))
 
       apart : (c < old) ⊎ (r ≤ c) → entryAt s c ≡ p → v ≤ c
@@ -333,11 +340,8 @@ module _ (f : ℕ → ℕ) (n p v : ℕ) (s : List ℕ) (true₀ : Truth f n s) 
 pull-length : (p c k : ℕ) (s : List ℕ) → length (pulledBack p c k s) ≡ length s
 unfolding pulledBack
 pull-length p c zero s = refl
-pull-length p c (suc k) s = go (leb (entryAt s c) p) (pull-length p (suc c) k (setEntry s c p))
-  where
-    go : (t : Bool) → length (pulledBack p (suc c) k (setEntry s c p)) ≡ length (setEntry s c p) → length (cond t s (pulledBack p (suc c) k (setEntry s c p))) ≡ length s
-    go true h = refl
-    go false h = h ∙ length-setEntry s c p
+pull-length p c (suc k) s =
+    by-test (λ t. length t ≡ length s) (namesNoLater s p c) s (pulledBack p (suc c) k (setEntry s c p)) (λ e. refl) (λ e. pull-length p (suc c) k (setEntry s c p) ∙ length-setEntry s c p)
 
 pub length-updated : (s : List ℕ) (n p v : ℕ) → length (updated s n p v) ≡ length s
 unfolding updated movedOn
