@@ -2,7 +2,7 @@
 
 use crate::making::{erase, insert, page, plan, read, resize, scan, segment, write, Session, Start};
 use judge::random::Random;
-use workload::{Call, Plan};
+use workload::{Call, Plan, PAGE_SIZE};
 
 /// The usual segment.
 const PAGES: usize = 64;
@@ -142,14 +142,39 @@ fn search_by_insert(pages: usize) -> Plan {
     plan(&lonely(pages), 1, two(unit), 2 * PAIRS as u64)
 }
 
-/// A page alone, of so many records of one byte; in order, each lies under the one of the slot before.
-fn slots(count: usize, in_order: bool) -> Start {
+/// The slots of a page, in an order of this name.
+fn ordered(count: usize, name: &str) -> Option<Vec<usize>> {
     let mut order: Vec<usize> = (0..count).collect();
     let mut random = Random::new(7);
-    if !in_order {
-        (1..count).for_each(|k| order.swap(k, random.below(k as u64 + 1) as usize));
+    match name {
+        "order" => (),
+        "reversed" => order.reverse(),
+        "shuffled" => (1..count).for_each(|k| order.swap(k, random.below(k as u64 + 1) as usize)),
+        _ => return None,
     }
+    Some(order)
+}
+
+/// A page alone, of so many records of one byte, each of which lies under the one before it in this order.
+fn slots(order: Vec<usize>) -> Start {
+    let count = order.len();
     Start::by_hand(&[page(&vec![1; count], &order)], (0..count as u64).collect())
+}
+
+/// The last record of a page is written with so many bytes. The page has records of no bytes, so that it
+/// may have 2,046; each has the offset below that of the one before it in this order, and the gap is of
+/// one byte: a write of two compactifies the page, a write of one does not.
+fn write_last(order: Vec<usize>, length: u64) -> Plan {
+    const SEGMENTS: usize = 10;
+    let count = order.len();
+    let mut page = page(&vec![0; count], &order);
+    for (place, &k) in order.iter().enumerate() {
+        page[12 + 8 * k..16 + 8 * k].copy_from_slice(&((PAGE_SIZE - place) as u32).to_be_bytes());
+    }
+    page[4..8].copy_from_slice(&((13 + 8 * count) as u32).to_be_bytes());
+    let last = count as u64 - 1;
+    let unit = |first: u64| (first..first + SEGMENTS as u64).flat_map(|number| [segment(number), write(last, length, number)]).collect();
+    plan(&Start::by_hand(&[page], vec![last]), 2 * SEGMENTS, [unit(0), unit(SEGMENTS as u64)], SEGMENTS as u64)
 }
 
 /// So many pages, each of a hundred rows of 64 bytes.
@@ -187,10 +212,12 @@ pub fn named(name: &str) -> Option<Plan> {
         ["forward", "once"] => forward_once(),
         ["search", "resize"] => search_by_resize(WIDEST),
         ["search", "insert"] => search_by_insert(WIDEST),
-        ["slots", "read", _] => reads(&slots(number as usize, true)),
-        ["slots", "shuffled", _] => reads(&slots(number as usize, false)),
-        ["slots", "scan", _] => scans(&slots(number as usize, true)),
-        ["slots", "churn", _] => churn(slots(number as usize, true), |_| 1),
+        ["slots", "read", _] => reads(&slots(ordered(number as usize, "order")?)),
+        ["slots", "shuffled", _] => reads(&slots(ordered(number as usize, "shuffled")?)),
+        ["slots", "scan", _] => scans(&slots(ordered(number as usize, "order")?)),
+        ["slots", "churn", _] => churn(slots(ordered(number as usize, "order")?), |_| 1),
+        ["gap", order, _] => write_last(ordered(number as usize, order)?, 1),
+        ["compactify", order, _] => write_last(ordered(number as usize, order)?, 2),
         ["pages", "read", _] => reads(&wide(number as usize)),
         ["pages", "churn", _] => churn_first_page(number as usize),
         ["pages", "search", _] => search_by_resize(number as usize),

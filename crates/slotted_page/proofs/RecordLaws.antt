@@ -116,8 +116,8 @@ module _ (p : List ℕ) (k n : ℕ) (whole : length p ≡ 16384) (s : Sound (vie
 
   -- ---- the cases of relocate
 
-  relocate-cases : (P : Relocated → Type 0) → P refused → (n ≡ len (v .at k) → P (moved (stay v))) → (n < len (v .at k) → P (moved (shrinkPlan v k n))) → (len (v .at k) < n → P (moved (growPlan v k n)))
-      → ((i : ℕ) → v .at k ≡ Redirect i → P (moved (moveUnder v k (Ordinary 0 0) n (zeros n)))) → P (relocate v k n)
+  relocate-cases : (P : Relocated → Type 0) → P refused → (n ≡ len (v .at k) → P (moved (stay v))) → (n < len (v .at k) → P (moved (shrinkPlan v k n))) → (len (v .at k) < n → n - len (v .at k) ≤ v .freeSpace → P (moved (growPlan v k n)))
+      → ((i : ℕ) → v .at k ≡ Redirect i → n ≤ v .freeSpace → P (moved (moveUnder v k (Ordinary 0 0) n (zeros n)))) → P (relocate v k n)
   unfolding relocate
   relocate-cases P none same less more home = go (v .at k) refl
     where
@@ -126,17 +126,22 @@ module _ (p : List ℕ) (k n : ℕ) (whole : length p ≡ 16384) (s : Sound (vie
           by-test P (eqb n (len (v .at k))) (moved (stay v)) _ (λ e. same (eqb-true n (len (v .at k)) e))
           (λ e. by-test P (ltb n (len (v .at k))) (moved (shrinkPlan v k n)) _ (λ l. less (ltb-true n (len (v .at k)) l))
           (λ l. by-test P (ltb (v .freeSpace) (n - len (v .at k))) refused (moved (growPlan v k n)) (λ r. none)
-          (λ r. more (omega (arith, eqb-false n (len (v .at k)) e, ltb-false n (len (v .at k)) l)))))
+          (λ r. more (omega (arith, eqb-false n (len (v .at k)) e, ltb-false n (len (v .at k)) l)) (ltb-false (v .freeSpace) (n - len (v .at k)) r))))
 
       go : (x : Slot) → v .at k ≡ x → P (relocateBy x v k n)
       go (Ordinary o l) e = sized
       go Free e = none
-      go (Redirect i) e = by-test P (ltb (v .freeSpace) n) refused (moved (moveUnder v k (Ordinary 0 0) n (zeros n))) (λ r. none) (λ r. home i e)
+      go (Redirect i) e = by-test P (ltb (v .freeSpace) n) refused (moved (moveUnder v k (Ordinary 0 0) n (zeros n))) (λ r. none) (λ r. home i e (ltb-false (v .freeSpace) n r))
       go (Target o l) e = sized
 
   pub relocate-ended : Ended p (fit n (view p .bytes k)) (allocOf k (relocate (view p) k n))
   unfolding v old
-  relocate-ended = relocate-cases (λ r. Ended p old (allocOf k r)) tt same-ended less-ended (λ h. more-ended) home-ended
+  relocate-ended = relocate-cases (λ r. Ended p old (allocOf k r)) tt same-ended less-ended (λ h r. more-ended) (λ i e r. home-ended i e)
+
+  -- "refused if growth exceeds free space"
+  pub relocate-refused : len (view p .at k) < n → view p .freeSpace < n - len (view p .at k) → relocate (view p) k n ≡ refused
+  unfolding v
+  relocate-refused h g = relocate-cases (λ r. r ≡ refused) refl (λ e. absurd (omega arith)) (λ l. absurd (omega arith)) (λ l r. absurd (omega arith)) (λ i e r. absurd (omega (arith, ap len e)))
 
   -- a size that is not larger: the record's bytes stand there
   stands-less : n < len (v .at k) → run (unfilled (shrinkPlan v k n .edits)) p ≡ run (shrinkPlan v k n .edits) p
@@ -164,7 +169,7 @@ module _ (p : List ℕ) (k n : ℕ) (whole : length p ≡ 16384) (s : Sound (vie
 
   pub stands : n ≤ len (view p .at k) → pageBare (allocOf k (relocate (view p) k n)) p ≡ pageAfter (allocOf k (relocate (view p) k n)) p
   unfolding v
-  stands h = relocate-cases (λ r. pageBare (allocOf k r) p ≡ pageAfter (allocOf k r) p) refl (λ e. refl) stands-less (λ l. absurd (omega arith)) (λ i e. stands-home i e h)
+  stands h = relocate-cases (λ r. pageBare (allocOf k r) p ≡ pageAfter (allocOf k r) p) refl (λ e. refl) stands-less (λ l r. absurd (omega arith)) (λ i e r. stands-home i e h)
 
   -- a larger size that the gap holds: the old bytes stand where they stood
   stays-more : n ≤ gap v → len (v .at k) < n → cut (run (unfilled (growPlan v k n .edits)) p) (off (v .at k)) (len (v .at k)) ≡ v .bytes k
@@ -186,8 +191,8 @@ module _ (p : List ℕ) (k n : ℕ) (whole : length p ≡ 16384) (s : Sound (vie
   pub stays : n ≤ gap (view p) → len (view p .at k) ≤ n → cut (pageBare (allocOf k (relocate (view p) k n)) p) (off (view p .at k)) (len (view p .at k)) ≡ view p .bytes k
   unfolding v
   stays g h =
-      relocate-cases (λ r. cut (pageBare (allocOf k r) p) (off (v .at k)) (len (v .at k)) ≡ v .bytes k) (shown-bytes p k) (λ e. shown-bytes p k) (λ l. absurd (omega arith)) (stays-more g)
-      (λ i e. ap (λ (x : Slot). cut (pageBare (got k (moveUnder v k (Ordinary 0 0) n (zeros n))) p) (off x) (len x)) e ∙ sym (no-bytes i e))
+      relocate-cases (λ r. cut (pageBare (allocOf k r) p) (off (v .at k)) (len (v .at k)) ≡ v .bytes k) (shown-bytes p k) (λ e. shown-bytes p k) (λ l. absurd (omega arith)) (λ l r. stays-more g l)
+      (λ i e r. ap (λ (x : Slot). cut (pageBare (got k (moveUnder v k (Ordinary 0 0) n (zeros n))) p) (off x) (len x)) e ∙ sym (no-bytes i e))
 
   -- ---- what the code leaves, once it has the place: slot j, offset d, and the page q₁ without the bytes
 

@@ -71,14 +71,20 @@ fn settle(page: &mut [u8], k: usize, size: usize) -> bool
     }
 }
 
+// "Larger: refused if growth exceeds free space": before any byte is saved.
 pub fn relocate(page: &mut [u8], k: usize, size: usize) -> bool
     requires { ⌜ (length (now page) ≡ 16384) × Sound (view (now page)) × (k < view (now page) .slotCount) ⌝ }
     ensures { λ r. ⌜ (now (page .exit) ≡ pageMoved (relocate (view (now (page .entry))) k size) (now (page .entry)))
         × (r ≡ wasMoved (relocate (view (now (page .entry))) k size)) ⌝ }
 {
     let s = layout::slots::get_slot(page, k);
-    if size <= layout::slots::len_of(s) {
+    let n = layout::slots::len_of(s);
+    if size <= n {
         return settle(page, k, size);
+    }
+    let room = layout::header::get_free_space(page);
+    if room < size - n {
+        return false;
     }
     let c = layout::header::get_slot_count(page);
     let d = layout::header::get_data_start(page);

@@ -1,13 +1,16 @@
 -- `slotted_page::relocate::relocate` meets its contract. Assumes nothing.
-use mathlib.Core.Path.{ap}
+use mathlib.Core.Path.{_≡_, refl, ap, _∙_}
 use native.Mathlib.Omega.{arith}
 use Rattle.store.specs.Slots.{len}
+use Rattle.store.specs.Page.{view}
+use Rattle.slotted_page.proofs.RecordLaws.{relocate-refused}
 use borrow.Author.Needs.{needs}
 use Rattle.slotted_page.proofs.relocate.relocate.Statement.{statement}
 use Rattle.slotted_page.proofs.relocate.relocate.Tie as tie
 use Rattle.slotted_page.proofs.relocate.relocate.Reads as reads
 use Rattle.slotted_page.proofs.relocate.relocate.Lts as lts
 use Rattle.layout.proofs.header.get_data_start.Reads as get-data-start-reads
+use Rattle.layout.proofs.header.get_free_space.Reads as get-free-space-reads
 use Rattle.layout.proofs.header.get_slot_count.Reads as get-slot-count-reads
 use Rattle.layout.proofs.slots.get_slot.Reads as get-slot-reads
 use Rattle.layout.proofs.slots.len_of.Reads as len-of-reads
@@ -35,38 +38,58 @@ same-length c = search needs
 returns : tie.Need-returns
 returns c = search needs
 
+get-free-space-requires : tie.Need-get-free-space-requires
+get-free-space-requires c κs = search needs
+
+sub-if2 : tie.Need-sub-if2
+sub-if2 c = search needs
+
+same-length-2 : tie.Need-same-length-2
+same-length-2 c = search needs
+
+returns-2 : tie.Need-returns-2
+returns-2 c =
+    let f = c .before in
+    let i = f .before .before in
+    let l = i .before in
+    let g = l .before in
+    let b = g .before .before .before in
+    let a = b .args in
+    let e : l .len-of .result ≡ len (view (a .page .now) .at (a .k)) = l .len-of .ensures ∙ ap len (g .get-slot .ensures .0) in
+    rw (relocate-refused (a .page .now) (a .k) (a .size) (b .pre .0) (b .pre .1) (b .pre .2) (omega arith) (omega arith)) (refl, refl)
+
 get-slot-count-requires : tie.Need-get-slot-count-requires
 get-slot-count-requires c κs = search needs
 
 get-data-start-requires : tie.Need-get-data-start-requires
 get-data-start-requires c κs = search needs
 
-mul-if2 : tie.Need-mul-if2
-mul-if2 c = search needs
+mul-if3 : tie.Need-mul-if3
+mul-if3 c = search needs
 
-add-if2 : tie.Need-add-if2
-add-if2 c = search needs
+add-if3 : tie.Need-add-if3
+add-if3 c = search needs
 
-sub-if2 : tie.Need-sub-if2
-sub-if2 c = search needs
+sub-if3 : tie.Need-sub-if3
+sub-if3 c = search needs
 
 grow-packed-requires : tie.Need-grow-packed-requires
 grow-packed-requires c κs = search needs
-
-same-length-2 : tie.Need-same-length-2
-same-length-2 c = search needs
-
-returns-2 : tie.Need-returns-2
-returns-2 c = search needs
-
-grow-requires : tie.Need-grow-requires
-grow-requires c κs = search needs
 
 same-length-3 : tie.Need-same-length-3
 same-length-3 c = search needs
 
 returns-3 : tie.Need-returns-3
 returns-3 c = search needs
+
+grow-requires : tie.Need-grow-requires
+grow-requires c κs = search needs
+
+same-length-4 : tie.Need-same-length-4
+same-length-4 c = search needs
+
+returns-4 : tie.Need-returns-4
+returns-4 c = search needs
 
 pub relocate-spec : {M : Type 1} → statement M
 relocate-spec =
@@ -77,14 +100,18 @@ relocate-spec =
     settle-requires
     same-length
     returns
-    get-slot-count-requires
-    get-data-start-requires
-    mul-if2
-    add-if2
+    get-free-space-requires
     sub-if2
-    grow-packed-requires
     same-length-2
     returns-2
-    grow-requires
+    get-slot-count-requires
+    get-data-start-requires
+    mul-if3
+    add-if3
+    sub-if3
+    grow-packed-requires
     same-length-3
-    returns-3)
+    returns-3
+    grow-requires
+    same-length-4
+    returns-4)
