@@ -71,7 +71,7 @@ pub use segment::{SlottedPageSegment, SlottedPages};
 /// The bytes of a page, and of the inventory.
 pub const PAGE_SIZE: usize = 16384;
 
-/// The most pages of a segment: as many as one inventory page has nibbles for.
+/// The most pages of a segment.
 pub const MAX_PAGES: usize = 32527;
 
 /// The longest record, in bytes.
