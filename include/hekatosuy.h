@@ -2,8 +2,9 @@
  * Hekatosuy: records in pages of 16,384 bytes.
  *
  * A segment is a run of 0 to 32,527 whole pages and its inventory is one page more. Both are lent to each call and hold everything
- * between calls. A segment of zeros with an inventory of zeros is empty and ready for use. The library keeps nothing itself, allocates
- * nothing, and of the C library it calls memcpy and memset alone.
+ * between calls. A segment of zeros with an inventory of zeros is empty and ready for use, and a segment grows by being lent with more
+ * pages of zeros at its end and the same inventory. The library keeps nothing itself, allocates nothing, and of the C library it calls
+ * memcpy and memset alone.
  *
  * A record has 0 to 16,364 bytes and an id, page * 65,536 + slot, which stays the same until the record is erased.
  *
@@ -13,7 +14,28 @@
  * The pointer before a length points to so many bytes, and no pointer is null, also where the length is 0. What one call is lent to
  * write (segment, inventory and the single numbers) overlaps nothing else that it is lent.
  *
- * Link with libhekatosuy.a, which `rt staticlib hekatosuy` writes for x86-64 Linux.
+ * A program, whole:
+ *
+ *     #include "hekatosuy.h"
+ *     #include <stdio.h>
+ *     #include <stdlib.h>
+ *
+ *     int main(void) {
+ *         size_t length = 4 * HK_PAGE_SIZE;
+ *         uint8_t *segment = (uint8_t *)calloc(4, HK_PAGE_SIZE), *inventory = (uint8_t *)calloc(1, HK_PAGE_SIZE);
+ *         const uint8_t row[] = {3, 1, 4};
+ *         uint64_t id, offset, size, found, place = 0;
+ *         if (segment == NULL || inventory == NULL) return 1;
+ *         if (hk_insert_record(segment, length, inventory, HK_PAGE_SIZE, row, sizeof row, &id) != HK_DONE) return 1;
+ *         if (hk_get_record(segment, length, id, &offset, &size) != HK_DONE) return 1;
+ *         printf("the last of %d bytes is %d\n", (int)size, segment[offset + size - 1]);
+ *         while (hk_scan_step(segment, length, &place, &found, &id, &offset, &size) == HK_DONE && found)
+ *             printf("page %d slot %d: %d bytes\n", (int)(id / 65536), (int)(id % 65536), (int)size);
+ *         return 0;
+ *     }
+ *
+ * `rt staticlib hekatosuy` writes the archive, x86-64 code for Linux, to target/staticlib/libhekatosuy.a, and
+ * `cc -Iinclude prog.c target/staticlib/libhekatosuy.a` links with it. examples/store_in_file.c keeps a store in a file.
  */
 #ifndef HEKATOSUY_H
 #define HEKATOSUY_H
@@ -24,6 +46,12 @@
 #ifdef __cplusplus
 extern "C" {
 #endif
+
+enum {
+    HK_PAGE_SIZE = 16384,       /* bytes of a page, and of the inventory */
+    HK_MAX_PAGES = 32527,       /* pages of a segment, at most */
+    HK_MAX_RECORD_SIZE = 16364  /* bytes of a record, at most */
+};
 
 /*
  * What a call answers. Where several refusals hold, this is their order: 1, 3, 2, 4 for the id's own page, 5, 6, 4 for a target, 7,
@@ -67,10 +95,15 @@ uint64_t hk_resize_record(uint8_t *segment, size_t segment_length, uint8_t *inve
 uint64_t hk_erase_record(uint8_t *segment, size_t segment_length, uint8_t *inventory, size_t inventory_length, uint64_t id);
 
 /*
- * The next record of a scan. `place` is 0 at first and afterwards what the last step left there: its number means nothing else. With a
- * record `found` is 1, and id, offset and length are those of the record, as hk_get_record tells them. Without one all four are 0: the
- * scan is over, at the end if the answer is 0, and every further step answers 0 without a record. A step that meets a damaged page
- * answers 4.
+ * The next record of a scan. `place` is 0 at first and afterwards what the last step left there. With a record `found` is 1, and id,
+ * offset and length are those of the record, as hk_get_record tells them. Without one all four are 0 and the scan is over: at the end if
+ * the answer is 0; a segment of wrong size answers 1, and a damaged page 4 when the scan reaches it. Every further step over the same
+ * segment answers 0 without a record, and after 1 or 4 over any segment.
+ *
+ * A place is a page and a slot of it and nothing more. Who writes between two steps lets the scan go on from there over what stands then: a
+ * record that has moved meanwhile, by being forwarded or coming home, may come twice or not at all, a new one comes if it lies ahead, and
+ * a scan that has reached the end goes on if it is lent more pages. The page it stands in is not checked again; a record that would leave
+ * its page answers 4.
  */
 uint64_t hk_scan_step(const uint8_t *segment, size_t segment_length, uint64_t *place, uint64_t *found, uint64_t *id,
                       uint64_t *offset, uint64_t *length);

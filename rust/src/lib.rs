@@ -30,6 +30,9 @@
 //! # Ok::<(), Refusal>(())
 //! ```
 //!
+//! A store grows by being lent with more pages of zeros at its end and the same inventory;
+//! `examples/store_in_file.rs` keeps one in a file.
+//!
 //! # For callers of the published Rust
 //!
 //! The calls have the names that they have in OxidSQL, from which the store was carried over, with
@@ -65,5 +68,11 @@ pub use rid::Rid;
 pub use scan::SlottedPageScan;
 pub use segment::{SlottedPageSegment, SlottedPages};
 
-/// The bytes of a page.
+/// The bytes of a page, and of the inventory.
 pub const PAGE_SIZE: usize = 16384;
+
+/// The most pages of a segment.
+pub const MAX_PAGES: usize = 32527;
+
+/// The longest record, in bytes.
+pub const MAX_RECORD_SIZE: usize = 16364;

@@ -7,8 +7,9 @@ use std::fmt;
 /// DONE, is no refusal.) A refused call has changed nothing.
 ///
 /// Where several hold, the one given is the first in this order: 1, 3, 2, 4 (the id's page), 5, 6,
-/// 4 (the page it is forwarded to), 7, 4 (the new page), 8.
+/// 4 (the page it is forwarded to), 7, 4 (the new page), 8. Further numbers may be added.
 #[derive(Debug, Clone, Copy, PartialEq, Eq, Hash)]
+#[non_exhaustive]
 pub enum Refusal {
     /// The segment is not 0 to 32,527 whole pages, or the inventory is not one page.
     Size = 1,
@@ -30,7 +31,7 @@ pub enum Refusal {
 
 impl Refusal {
     /// All refusals, by their number.
-    pub const ALL: [Refusal; 8] = [
+    pub const ALL: &'static [Refusal] = &[
         Refusal::Size,
         Refusal::NoPage,
         Refusal::Long,
@@ -41,17 +42,17 @@ impl Refusal {
         Refusal::Stale,
     ];
 
-    /// The number in the table of answers, 1 to 8.
+    /// The number in the table of answers, from 1 on.
     pub const fn number(self) -> u64 {
         self as u64
     }
 
     /// The refusal of a number, if there is one.
     pub const fn from_number(number: u64) -> Option<Refusal> {
-        match number {
-            1..=8 => Some(Refusal::ALL[number as usize - 1]),
-            _ => None,
+        if number == 0 || number > Refusal::ALL.len() as u64 {
+            return None;
         }
+        Some(Refusal::ALL[number as usize - 1])
     }
 
     /// The name in the table of answers.

@@ -8,7 +8,7 @@ const LAST_PAGE: u64 = u64::MAX >> SLOT_BITS;
 /// The id of a record: page × 65,536 + slot. A record keeps its id for as long as it is there,
 /// wherever it is moved; once it is erased the id may be given to another.
 #[doc(alias = "RelationTID")]
-#[derive(Debug, Clone, Copy, PartialEq, Eq, Hash, PartialOrd, Ord)]
+#[derive(Clone, Copy, PartialEq, Eq, Hash, PartialOrd, Ord)]
 pub struct Rid(u64);
 
 impl Rid {
@@ -52,5 +52,12 @@ impl From<&Rid> for u64 {
 impl fmt::Display for Rid {
     fn fmt(&self, out: &mut fmt::Formatter<'_>) -> fmt::Result {
         write!(out, "({},{})", self.page_id(), self.slot_id())
+    }
+}
+
+/// Page and slot: `Rid(2,5)`.
+impl fmt::Debug for Rid {
+    fn fmt(&self, out: &mut fmt::Formatter<'_>) -> fmt::Result {
+        write!(out, "Rid{self}")
     }
 }

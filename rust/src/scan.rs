@@ -1,7 +1,8 @@
 //! The scan.
 
-use crate::segment::part;
+use crate::segment::{part, Bytes};
 use crate::{archive, Refusal, Rid};
+use std::fmt;
 use std::iter::FusedIterator;
 
 /// All records of a segment with their ids, by page and slot. A record that was forwarded comes
@@ -9,7 +10,7 @@ use std::iter::FusedIterator;
 ///
 /// Each page is checked when the scan reaches it. A damaged page, or a segment of a wrong size, is
 /// given as the last item.
-#[derive(Debug, Clone)]
+#[derive(Clone)]
 pub struct SlottedPageScan<'a> {
     segment: &'a [u8],
     place: u64,
@@ -36,3 +37,13 @@ impl<'a> Iterator for SlottedPageScan<'a> {
 
 /// A scan that is over stays over.
 impl FusedIterator for SlottedPageScan<'_> {}
+
+/// How many bytes are lent, and the place that the next step starts from.
+impl fmt::Debug for SlottedPageScan<'_> {
+    fn fmt(&self, out: &mut fmt::Formatter<'_>) -> fmt::Result {
+        out.debug_struct("SlottedPageScan")
+            .field("segment", &Bytes(self.segment))
+            .field("place", &Rid::from(self.place))
+            .finish()
+    }
+}

@@ -1,15 +1,25 @@
 //! The calls.
 
 use crate::archive::{self, Place};
-use crate::{Refusal, Rid, SlottedPageScan, PAGE_SIZE};
+use crate::{Refusal, Rid, SlottedPageScan, MAX_RECORD_SIZE, PAGE_SIZE};
+use std::fmt;
 
 /// The part of the segment that is a record.
 pub(crate) fn part(segment: &[u8], place: Place) -> &[u8] {
     &segment[place.offset as usize..][..place.length as usize]
 }
 
+/// Lent bytes, for `Debug`: how many there are.
+pub(crate) struct Bytes<'a>(pub &'a [u8]);
+
+impl fmt::Debug for Bytes<'_> {
+    fn fmt(&self, out: &mut fmt::Formatter<'_>) -> fmt::Result {
+        write!(out, "{} bytes", self.0.len())
+    }
+}
+
 /// A run of pages lent to be read: no inventory is needed, and nothing can be changed.
-#[derive(Debug, Clone, Copy)]
+#[derive(Clone, Copy)]
 pub struct SlottedPages<'a> {
     segment: &'a [u8],
 }
@@ -40,11 +50,27 @@ impl<'a> SlottedPages<'a> {
     }
 }
 
+/// The scan.
+impl<'a> IntoIterator for &SlottedPages<'a> {
+    type Item = Result<(Rid, &'a [u8]), Refusal>;
+    type IntoIter = SlottedPageScan<'a>;
+
+    fn into_iter(self) -> SlottedPageScan<'a> {
+        self.scan()
+    }
+}
+
+/// How many bytes are lent, and not the bytes.
+impl fmt::Debug for SlottedPages<'_> {
+    fn fmt(&self, out: &mut fmt::Formatter<'_>) -> fmt::Result {
+        out.debug_struct("SlottedPages").field("segment", &Bytes(self.segment)).finish()
+    }
+}
+
 /// A segment and its inventory, lent for as long as this is held.
 ///
 /// The bytes are the caller's: pages all zero and an inventory all zero are an empty store, and
 /// what the calls leave there can be kept in a file and lent again.
-#[derive(Debug)]
 pub struct SlottedPageSegment<'a> {
     segment: &'a mut [u8],
     inventory: &'a mut [u8],
@@ -59,7 +85,7 @@ impl<'a> SlottedPageSegment<'a> {
 
     /// The longest record, 16,364 bytes.
     pub const fn get_max_record_size() -> usize {
-        PAGE_SIZE - 12 - 8
+        MAX_RECORD_SIZE
     }
 
     /// The number of pages.
@@ -115,6 +141,26 @@ impl<'a> SlottedPageSegment<'a> {
     /// All records with their ids; see [`SlottedPages::scan`].
     pub fn scan(&self) -> SlottedPageScan<'_> {
         self.pages().scan()
+    }
+}
+
+/// The scan.
+impl<'a> IntoIterator for &'a SlottedPageSegment<'_> {
+    type Item = Result<(Rid, &'a [u8]), Refusal>;
+    type IntoIter = SlottedPageScan<'a>;
+
+    fn into_iter(self) -> SlottedPageScan<'a> {
+        self.scan()
+    }
+}
+
+/// How many bytes are lent, and not the bytes.
+impl fmt::Debug for SlottedPageSegment<'_> {
+    fn fmt(&self, out: &mut fmt::Formatter<'_>) -> fmt::Result {
+        out.debug_struct("SlottedPageSegment")
+            .field("segment", &Bytes(self.segment))
+            .field("inventory", &Bytes(self.inventory))
+            .finish()
     }
 }
 

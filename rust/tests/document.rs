@@ -1,9 +1,7 @@
 //! The segment's cases of document 01, through the public calls: its numbers to meet, its answers
 //! and their order, and what the scan gives.
 
-use hekatosuy::{Refusal, Rid, SlottedPageSegment, SlottedPages, PAGE_SIZE};
-
-const MOST: usize = SlottedPageSegment::get_max_record_size();
+use hekatosuy::{Refusal, Rid, SlottedPageSegment, SlottedPages, MAX_PAGES, MAX_RECORD_SIZE as MOST, PAGE_SIZE};
 
 /// Pages and an inventory, all zero at first.
 struct Lent {
@@ -198,6 +196,42 @@ fn the_scan_lists_what_document_01_lists() {
     assert_eq!(lengths, [(id(0, 0), 16000), (id(1, 1), 12000), (id(1, 0), 5000)]);
     let rows: Vec<_> = calls.scan().map(|step| step.unwrap().1).collect();
     assert_eq!(rows, [row(16000, 1), row(12000, 1), row(5000, 2)]);
+    let mut looped = vec![];
+    for step in &calls {
+        looped.push(step.unwrap().1);
+    }
+    assert_eq!(looped, rows);
+    assert!((&calls.pages()).into_iter().eq(calls.scan()));
+}
+
+/// Grown by a page of zeros, with the inventory as it is.
+#[test]
+fn a_store_grows_by_pages() {
+    let mut lent = Lent::with(1, &[16000]);
+    lent.refused(Refusal::Full, |calls| calls.insert_record(&row(5000, 2)));
+    lent.pages.resize(2 * PAGE_SIZE, 0);
+    assert_eq!(lent.calls().insert_record(&row(5000, 2)), Ok(id(1, 0)));
+    assert_eq!(lent.calls().get_record(id(0, 0)), Ok(&row(16000, 1)[..]));
+    assert_eq!(lent.calls().get_record(id(1, 0)), Ok(&row(5000, 2)[..]));
+}
+
+/// An insert into so many pages, with an inventory of so many bytes, and whether any byte was changed.
+fn widest(pages: usize, inventory: usize) -> (Result<Rid, Refusal>, bool) {
+    let (mut pages, mut inventory) = (vec![0; pages * PAGE_SIZE], vec![0; inventory]);
+    let answer = SlottedPageSegment::new(&mut pages, &mut inventory).insert_record(&row(3, 1));
+    let zeros = [0; PAGE_SIZE];
+    let changed = pages.chunks(PAGE_SIZE).any(|page| page != zeros) || inventory.iter().any(|&byte| byte != 0);
+    (answer, changed)
+}
+
+#[test]
+fn the_most_pages_and_one_more() {
+    assert_eq!(widest(MAX_PAGES, PAGE_SIZE), (Ok(id(0, 0)), true));
+    assert_eq!(widest(MAX_PAGES + 1, PAGE_SIZE), (Err(Refusal::Size), false));
+    assert_eq!(widest(MAX_PAGES, PAGE_SIZE - 1), (Err(Refusal::Size), false));
+    assert_eq!(widest(MAX_PAGES, PAGE_SIZE + 1), (Err(Refusal::Size), false));
+    assert_eq!((MAX_PAGES, MOST, PAGE_SIZE), (32527, 16364, 16384));
+    assert_eq!(SlottedPageSegment::get_max_record_size(), MOST);
 }
 
 #[test]
@@ -298,10 +332,16 @@ fn ids_and_refusals_as_numbers_and_words() {
     assert_eq!((id(2, 5).page_id(), id(2, 5).slot_id(), id(2, 5).to_string()), (2, 5, "(2,5)".to_string()));
     assert_eq!(id(u64::MAX, 1).page_id(), (1 << 48) - 1);
     let names = ["SIZE", "NOPAGE", "LONG", "DAMAGED", "NONE", "FORWARDED", "FULL", "STALE"];
-    for (refusal, (number, name)) in Refusal::ALL.into_iter().zip((1..).zip(names)) {
+    for (&refusal, (number, name)) in Refusal::ALL.iter().zip((1..).zip(names)) {
         assert_eq!((refusal.number(), refusal.name()), (number, name));
         assert_eq!(Refusal::from_number(number), Some(refusal));
         assert!(refusal.to_string().starts_with(&format!("{number} {name}: ")));
     }
-    assert_eq!((Refusal::from_number(0), Refusal::from_number(9)), (None, None));
+    assert_eq!((Refusal::ALL.len(), Refusal::from_number(0), Refusal::from_number(9)), (names.len(), None, None));
+    assert_eq!((format!("{:?}", id(2, 5)), format!("{:?}", Refusal::None)), ("Rid(2,5)".to_string(), "None".to_string()));
+    let mut lent = Lent::with(1, &[3]);
+    assert_eq!(format!("{:?}", lent.calls()), "SlottedPageSegment { segment: 16384 bytes, inventory: 16384 bytes }");
+    let mut scan = SlottedPages::new(&lent.pages).scan();
+    scan.next();
+    assert_eq!(format!("{scan:?}"), "SlottedPageScan { segment: 16384 bytes, place: Rid(0,1) }");
 }

@@ -4,13 +4,14 @@
 #include "hekatosuy.h"
 
 #include <stdio.h>
+#include <stdlib.h>
 #include <string.h>
 
-enum { PAGE = 16384, PAGES = 3, LONGEST = 16365 };
+enum { PAGE = HK_PAGE_SIZE, PAGES = 3, TOO_LONG = HK_MAX_RECORD_SIZE + 1 };
 
 static uint8_t segment[PAGES * PAGE];
 static uint8_t inventory[PAGE];
-static uint8_t record[LONGEST];
+static uint8_t record[TOO_LONG];
 static size_t segment_length;
 static int faults;
 static int faults_before;
@@ -111,8 +112,8 @@ static void three_bytes(void) {
 
 static void largest(void) {
     begin(1);
-    insert(16365, 1, HK_LONG, 0);
-    insert(16364, 1, HK_DONE, 0);
+    insert(TOO_LONG, 1, HK_LONG, 0);
+    insert(HK_MAX_RECORD_SIZE, 1, HK_DONE, 0);
     header(0, 1, 1, 20, 0);
     end("16,365 and 16,364 bytes");
 }
@@ -228,7 +229,7 @@ static void allocated(void) {
     expect("allocate's id", id, 0);
     read_back(0, 16334, 50, 0, 0);
     id = 77;
-    expect("allocate", hk_allocate(segment, segment_length, inventory, PAGE, 16365, &id), HK_LONG);
+    expect("allocate", hk_allocate(segment, segment_length, inventory, PAGE, TOO_LONG, &id), HK_LONG);
     expect("allocate's id", id, 77);
     end("allocated bytes are zeros");
 }
@@ -239,7 +240,7 @@ static void refused(void) {
     read_refused(id_of(2, 0), HK_NOPAGE);
     read_refused(id_of(0, 1), HK_NONE);
     erase(UINT64_MAX, HK_NOPAGE);
-    resize(0, 16365, HK_LONG);
+    resize(0, TOO_LONG, HK_LONG);
     segment[11]++;
     read_refused(0, HK_DAMAGED);
     write_to(0, 10, 2, HK_DAMAGED);
@@ -249,9 +250,46 @@ static void refused(void) {
     insert(16000, 3, HK_DONE, id_of(1, 0));
     insert(16000, 4, HK_FULL, 0);
     memset(inventory, 0, 8 * 15);
-    insert(16364, 4, HK_STALE, 0);
+    insert(HK_MAX_RECORD_SIZE, 4, HK_STALE, 0);
     read_back(0, 16374, 10, 1, 10);
     end("refusals");
+}
+
+/* A scan goes on from its place over what stands then: past a record that was erased, and on into pages lent since it ended. */
+static void written_between_steps(void) {
+    uint64_t place = 0;
+    begin(1);
+    insert(16, 1, HK_DONE, id_of(0, 0));
+    insert(17, 2, HK_DONE, id_of(0, 1));
+    insert(18, 3, HK_DONE, id_of(0, 2));
+    scanned(&place, HK_DONE, 1, id_of(0, 0), 16368, 16);
+    erase(id_of(0, 1), HK_DONE);
+    scanned(&place, HK_DONE, 1, id_of(0, 2), 16333, 18);
+    scanned(&place, HK_DONE, 0, 0, 0, 0);
+    segment_length = 2 * PAGE;
+    insert(16000, 4, HK_DONE, id_of(1, 0));
+    scanned(&place, HK_DONE, 1, id_of(1, 0), PAGE + 384, 16000);
+    scanned(&place, HK_DONE, 0, 0, 0, 0);
+    end("a scan with writes between its steps");
+}
+
+static void widest(void) {
+    size_t whole = (size_t)HK_MAX_PAGES * PAGE;
+    uint8_t *pages = calloc(HK_MAX_PAGES + 1, PAGE);
+    uint64_t id = 77;
+    begin(0);
+    if (pages == NULL) {
+        puts("the most pages: left out, no memory");
+        return;
+    }
+    expect("one page too many", hk_insert_record(pages, whole + PAGE, inventory, PAGE, record, 3, &id), HK_SIZE);
+    expect("one byte too many", hk_insert_record(pages, whole + 1, inventory, PAGE, record, 3, &id), HK_SIZE);
+    expect("a short inventory", hk_insert_record(pages, whole, inventory, PAGE - 1, record, 3, &id), HK_SIZE);
+    expect("no id", id, 77);
+    expect("the most pages", hk_insert_record(pages, whole, inventory, PAGE, record, 3, &id), HK_DONE);
+    expect("the first id", id, 0);
+    free(pages);
+    end("the most pages, and one more");
 }
 
 static void nothing_lent(void) {
@@ -274,6 +312,8 @@ int main(void) {
     scan();
     allocated();
     refused();
+    written_between_steps();
+    widest();
     nothing_lent();
     return faults != 0;
 }

@@ -2,8 +2,8 @@
 mod map;
 
 use libc::STDOUT_FILENO;
-use store::Answer;
-use store::Step;
+use slotted_page_segment::Answer;
+use slotted_page_segment::Step;
 
 fn say(text: &[u8]) {
     io::write_all(STDOUT_FILENO, text);
@@ -25,7 +25,7 @@ fn say_id(id: usize) {
 fn insert_row(segment: &mut [u8], inventory: &mut [u8], y: usize) {
     let mut row = [0u8; 41];
     map::draw(&mut row, y);
-    let answer = segment_insert::insert_record(segment, inventory, &row);
+    let answer = slotted_page_segment::insert_record(segment, inventory, &row);
     let Answer::Done { id } = answer else {
         say(b"  the row was refused\n");
         return;
@@ -53,7 +53,7 @@ struct Place {
 }
 
 fn list_one(segment: &[u8], p: Place) -> Place {
-    let step = segment_scan::scan_step(segment, p.page, p.slot);
+    let step = slotted_page_segment::scan_step(segment, p.page, p.slot);
     let Step::Record {
         id,
         offset: _,
@@ -95,7 +95,7 @@ fn list(segment: &[u8]) {
 
 fn read(segment: &[u8], id: usize) {
     let mut answer: usize = 0;
-    let row = segment_read::get_record(segment, id, &mut answer);
+    let row = slotted_page_segment::get_record(segment, id, &mut answer);
     say(b"  answer ");
     number(answer);
     if 0 < row.len() {
@@ -106,7 +106,7 @@ fn read(segment: &[u8], id: usize) {
 }
 
 fn erase(segment: &mut [u8], inventory: &mut [u8], id: usize) {
-    let answer = segment_erase::erase_record(segment, inventory, id);
+    let answer = slotted_page_segment::erase_record(segment, inventory, id);
     if let Answer::Done { id: _ } = answer {
         say(b"  erased\n");
     } else {

@@ -88,6 +88,7 @@ pub fn faults() -> Vec<Case> {
         case(11, "write by a target's own id", 2, forwarded(&[write(id(1, 0), 3)])),
         case(11, "erase by a target's own id", 2, forwarded(&[erase(id(1, 0))])),
         case(12, "an allocated record where another was", 1, vec![insert(3), erase(id(0, 0)), allocate(3)]),
+        case(12, "10,000 bytes grow to 12,000", 1, vec![insert(10000), resize(id(0, 0), 12000)]),
         case(13, "no page is left", 1, vec![insert(16364), insert(1)]),
         case(13, "read of page n", 1, vec![read(id(1, 0))]),
         case(13, "a full page is named, and its nibble suits that: the Rust sets both right and tries again", 2, vec![
