@@ -6,7 +6,7 @@ use native.Mathlib.Nat.{add-zero, add-suc}
 use native.Mathlib.Numerals.{add-one}
 use native.Mathlib.Omega.{arith}
 use lib.ListN.{length, getD, take, drop, set, replicate, length-set, length-drop, length-replicate, length-append, replicate-append-replicate}
-use lib.Seq.{getD-set-same, getD-set-other, set-comm, take-suc, drop-cons, getD-take, getD-drop, length-take-le, take-at, drop-at, take-add, take-all}
+use lib.Seq.{getD-set-same, getD-set-other, set-comm, take-suc, drop-cons, getD-take, getD-drop, length-take-le, take-at, take-all}
 use Rattle.store.specs.Numbers.{cut, put, zeros, fit}
 use Rattle.store.specs.Laws.Numbers.{length-put, put-set, put-nil, put-parts}
 
@@ -19,9 +19,6 @@ write at v p = put p at v
 
 abbrev pub cleared : ℕ → ℕ → List ℕ → List ℕ
 cleared at n p = put p at (replicate n 0)
-
-abbrev pub moved : ℕ → ℕ → ℕ → List ℕ → List ℕ
-moved from n to p = put p to (cut p from n)
 
 pub length-write : (at : ℕ) (v p : List ℕ) → length (write at v p) ≡ length p
 length-write at v p = length-put p at v
@@ -124,12 +121,6 @@ pub take-write : (at n : ℕ) (v p : List ℕ) → at + length v ≡ n → n ≤
 take-write at n v p e h =
     rw (put-parts p at v (omega arith), ← append-assoc (take at p) v (drop (at + length v) p))
     (take-at (take at p ++ v) (drop (at + length v) p) n (simp (length-append, length-take-le at p (omega arith)) (omega arith)))
-
--- a run at the end of a front part
-pub part-front : (at n : ℕ) (p : List ℕ) → at ≤ n → n ≤ length p → drop at (take n p) ≡ part at (n - at) p
-part-front at n p h k =
-    let e : n ≡ at + (n - at) = omega arith in
-    ap (λ (m : ℕ). drop at (take m p)) e ∙ rw (take-add at (n - at) p) (drop-at (take at p) (part at (n - at) p) at (length-take-le at p (omega arith)))
 
 -- bytes at another size
 pub fit-cut : (n : ℕ) (bs : List ℕ) → n ≤ length bs → fit n bs ≡ take n bs
