@@ -15,11 +15,14 @@ use Rattle.lent_steps.proofs.allocate_on.Reads as reads
 use Rattle.lent_steps.proofs.allocate_on.Lts as lts
 use Rattle.slotted_page.proofs.open.allocate_opened.Reads as allocate-opened-reads
 
-mul-a : tie.Need-mul-a
-mul-a c = search needs
+mul-allocate-opened : tie.Need-mul-allocate-opened
+mul-allocate-opened c = search needs
 
-add-e : tie.Need-add-e
-add-e c = search needs
+add-allocate-opened : tie.Need-add-allocate-opened
+add-allocate-opened c = search needs
+
+mul-allocate-opened-2 : tie.Need-mul-allocate-opened-2
+mul-allocate-opened-2 c = search needs
 
 sub-allocate-opened : tie.Need-sub-allocate-opened
 sub-allocate-opened c = search needs
@@ -56,8 +59,9 @@ pub allocate-on-spec : {M : Type 1} → statement M
 allocate-on-spec =
     tie.close
     (tie.spec
-    mul-a
-    add-e
+    mul-allocate-opened
+    add-allocate-opened
+    mul-allocate-opened-2
     sub-allocate-opened
     part-allocate-opened-start
     part-allocate-opened-end

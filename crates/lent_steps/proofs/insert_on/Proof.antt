@@ -16,11 +16,14 @@ use Rattle.lent_steps.proofs.insert_on.Reads as reads
 use Rattle.lent_steps.proofs.insert_on.Lts as lts
 use Rattle.slotted_page.proofs.insert.insert_bytes.Reads as insert-bytes-reads
 
-mul-a : tie.Need-mul-a
-mul-a c = search needs
+mul-insert-bytes : tie.Need-mul-insert-bytes
+mul-insert-bytes c = search needs
 
-add-e : tie.Need-add-e
-add-e c = search needs
+add-insert-bytes : tie.Need-add-insert-bytes
+add-insert-bytes c = search needs
+
+mul-insert-bytes-2 : tie.Need-mul-insert-bytes-2
+mul-insert-bytes-2 c = search needs
 
 sub-insert-bytes : tie.Need-sub-insert-bytes
 sub-insert-bytes c = search needs
@@ -57,8 +60,9 @@ pub insert-on-spec : {M : Type 1} → statement M
 insert-on-spec =
     tie.close
     (tie.spec
-    mul-a
-    add-e
+    mul-insert-bytes
+    add-insert-bytes
+    mul-insert-bytes-2
     sub-insert-bytes
     part-insert-bytes-start
     part-insert-bytes-end

@@ -16,11 +16,14 @@ use Rattle.lent_steps.proofs.insert_target_on.Reads as reads
 use Rattle.lent_steps.proofs.insert_target_on.Lts as lts
 use Rattle.slotted_page.proofs.insert.insert_target.Reads as insert-target-reads
 
-mul-a : tie.Need-mul-a
-mul-a c = search needs
+mul-insert-target : tie.Need-mul-insert-target
+mul-insert-target c = search needs
 
-add-e : tie.Need-add-e
-add-e c = search needs
+add-insert-target : tie.Need-add-insert-target
+add-insert-target c = search needs
+
+mul-insert-target-2 : tie.Need-mul-insert-target-2
+mul-insert-target-2 c = search needs
 
 sub-insert-target : tie.Need-sub-insert-target
 sub-insert-target c = search needs
@@ -58,8 +61,9 @@ pub insert-target-on-spec : {M : Type 1} → statement M
 insert-target-on-spec =
     tie.close
     (tie.spec
-    mul-a
-    add-e
+    mul-insert-target
+    add-insert-target
+    mul-insert-target-2
     sub-insert-target
     part-insert-target-start
     part-insert-target-end
