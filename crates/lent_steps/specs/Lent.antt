@@ -17,16 +17,16 @@ use Rattle.store.specs.Laws.Exact.{length-run}
 use Rattle.store.specs.Laws.Segments.{length-page, lent-part, lent-page}
 use Rattle.store.specs.Laws.Calls.{page-ok}
 use Rattle.store.specs.Laws.SoundSegment.{seen-page, sound-closed}
-use Rattle.slotted_page.specs.Words.{pageAfter, pageMoved, wasMoved, refilled}
+use Rattle.slotted_page.specs.Words.{unfilled, pageBare, pageMoved, wasMoved, refilled}
 
 -- page p as the code lends it
 abbrev pub lentPart : List ℕ → ℕ → List ℕ
 lentPart s p = cut s (p * 16384) ((p + 1) * 16384 - p * 16384)
 
--- an allocation's page is as long as it was
-pub length-after : (a : Alloc) (q : List ℕ) → length (pageAfter a q) ≡ length q
-length-after noRoom q = refl
-length-after (got k a) q = length-run (a .edits) q
+-- a page with a place made on it is as long as it was
+pub length-bare : (a : Alloc) (q : List ℕ) → length (pageBare a q) ≡ length q
+length-bare noRoom q = refl
+length-bare (got k a) q = length-run (unfilled (a .edits)) q
 
 -- and so is a relocate's
 pub length-moved : (r : Relocated) (q : List ℕ) → length (pageMoved r q) ≡ length q

@@ -11,33 +11,15 @@ ghost use Rattle.store.specs.Page.{view, sound};
 ghost use Rattle.store.specs.PageSteps.{allocate, erase, eraseForRedirect, relocate};
 ghost use Rattle.store.specs.Inventory.{Room, update};
 ghost use Rattle.store.specs.Segment.{pageOf, segView, on, carriedOn};
-ghost use Rattle.slotted_page.specs.Words.{pageAfter, placeOf, filledAt, targetAt, redirectPlan, pageMoved, wasMoved, refilled};
+ghost use Rattle.slotted_page.specs.Words.{pageBare, placeOf, Inside, PastEntry, redirectPlan, pageMoved, wasMoved, refilled};
 
-// A record of these bytes on page p, fresh or in use.
-pub fn insert_on(segment: &mut [u8], p: usize, bytes: &[u8]) -> Place
-    requires { ⌜ (p * 16384 + 16384 ≤ length (now segment)) × (sound (segView (now segment) .page p) ≡ true) × (length (now bytes) ≤ 16364) ⌝ }
-    ensures { λ r. ⌜ (now (segment .exit) ≡ put (now (segment .entry)) (p * 16384) (pageAfter (filledAt (allocate (segView (now (segment .entry)) .page p) (length (now (bytes .entry)))) (now (bytes .entry))) (pageOf (now (segment .entry)) p)))
-        × (r ≡ placeOf (allocate (segView (now (segment .entry)) .page p) (length (now (bytes .entry))))) ⌝ }
-{
-    slotted_page::insert::insert_bytes(&mut segment[p * 16384..(p + 1) * 16384], bytes)
-}
-
-// A place of `size` bytes, all zero.
-pub fn allocate_on(segment: &mut [u8], p: usize, size: usize) -> Place
+// A place for a record of `size` bytes on page p, fresh or in use; its bytes are left to be written there.
+pub fn reserve_on(segment: &mut [u8], p: usize, size: usize) -> Place
     requires { ⌜ (p * 16384 + 16384 ≤ length (now segment)) × (sound (segView (now segment) .page p) ≡ true) × (size ≤ 16364) ⌝ }
-    ensures { λ r. ⌜ (now (segment .exit) ≡ put (now (segment .entry)) (p * 16384) (pageAfter (allocate (segView (now (segment .entry)) .page p) size) (pageOf (now (segment .entry)) p)))
-        × (r ≡ placeOf (allocate (segView (now (segment .entry)) .page p) size)) ⌝ }
+    ensures { λ r. ⌜ (now (segment .exit) ≡ put (now (segment .entry)) (p * 16384) (pageBare (allocate (segView (now (segment .entry)) .page p) size) (pageOf (now (segment .entry)) p)))
+        × (r ≡ placeOf (allocate (segView (now (segment .entry)) .page p) size)) × Inside r size × PastEntry r ⌝ }
 {
-    slotted_page::open::allocate_opened(&mut segment[p * 16384..(p + 1) * 16384], size)
-}
-
-// "A new target of size + 8" on page p, fresh or in use: the id of its root, then the bytes, cut off or filled up with zeros to `size`.
-pub fn insert_target_on(segment: &mut [u8], p: usize, id: usize, bytes: &[u8], size: usize) -> Place
-    requires { ⌜ (p * 16384 + 16384 ≤ length (now segment)) × (sound (segView (now segment) .page p) ≡ true) × (size ≤ 16356) ⌝ }
-    ensures { λ r. ⌜ (now (segment .exit) ≡ put (now (segment .entry)) (p * 16384) (pageAfter (targetAt (allocate (segView (now (segment .entry)) .page p) (size + 8)) (toBE 8 id ++ fit size (now (bytes .entry)))) (pageOf (now (segment .entry)) p)))
-        × (r ≡ placeOf (allocate (segView (now (segment .entry)) .page p) (size + 8))) ⌝ }
-{
-    slotted_page::insert::insert_target(&mut segment[p * 16384..(p + 1) * 16384], id, bytes, size)
+    slotted_page::open::reserve_opened(&mut segment[p * 16384..(p + 1) * 16384], size)
 }
 
 // Slot k's record, of page p, becomes these bytes, cut off or filled up with zeros to `size`; from a redirect too. A refusal changes nothing.
