@@ -1,9 +1,8 @@
 -- What is seen of a page of the segment, against what stands on it. Assumes nothing.
-use Prim.Native.Nat.{ℕ, _+_, _-_, _*_, _≤_}
+use Prim.Native.Nat.{ℕ, _+_, _*_, _≤_}
 use mathlib.Core.Path.{_≡_, sym, ap, subst, _∙_}
 use mathlib.Core.Bool.{true}
 use mathlib.Core.List.{List}
-use native.Mathlib.Omega.{arith}
 use lib.ListN.{length, take, drop}
 use lib.Seq.{take-take}
 use Rattle.store.specs.Numbers.{cut}
@@ -17,10 +16,6 @@ use Rattle.store.specs.Laws.SoundSegment.{open-sound, seen-page}
 use Rattle.store.specs.Laws.Parts.{seen-bytes}
 use Rattle.store.specs.declared.Slot.{Slot}
 use Rattle.store.specs.declared.Slot.the-variants.{Target}
-
--- a page as the code lends it
-pub lent-part : (s : List ℕ) (p : ℕ) → cut s (p * 16384) (p * 16384 + 16384 - p * 16384) ≡ pageOf s p
-lent-part s p = let e : p * 16384 + 16384 - p * 16384 ≡ 16384 = omega arith in ap (cut s (p * 16384)) e
 
 module _ (s : List ℕ) (p : ℕ) where
   pub seen-sound : sound (segView s .page p) ≡ sound (view (pageOf s p))

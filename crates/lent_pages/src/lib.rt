@@ -34,36 +34,28 @@ pub fn page_sound(segment: &[u8], p: usize) -> bool
     requires { ⌜ p * 16384 + 16384 ≤ length (now segment) ⌝ }
     ensures { λ r. ⌜ (r ≡ sound (segView (now (segment .entry)) .page p)) × (r ≡ sound (view (pageOf (now (segment .entry)) p))) ⌝ }
 {
-    let a = p * 16384;
-    let e = a + 16384;
-    page_check::is_sound(&segment[a..e])
+    page_check::is_sound(&segment[p * 16384..(p + 1) * 16384])
 }
 
 pub fn slot_count_on(segment: &[u8], p: usize) -> usize
     requires { ⌜ p * 16384 + 16384 ≤ length (now segment) ⌝ }
     ensures { λ r. ⌜ (r ≡ segView (now (segment .entry)) .page p .slotCount) × (r < 65536) ⌝ }
 {
-    let a = p * 16384;
-    let e = a + 16384;
-    layout::header::get_slot_count(&segment[a..e])
+    layout::header::get_slot_count(&segment[p * 16384..(p + 1) * 16384])
 }
 
 pub fn data_start_on(segment: &[u8], p: usize) -> usize
     requires { ⌜ p * 16384 + 16384 ≤ length (now segment) ⌝ }
     ensures { λ r. ⌜ r ≡ view (pageOf (now (segment .entry)) p) .dataStart ⌝ }
 {
-    let a = p * 16384;
-    let e = a + 16384;
-    layout::header::get_data_start(&segment[a..e])
+    layout::header::get_data_start(&segment[p * 16384..(p + 1) * 16384])
 }
 
 pub fn free_space_on(segment: &[u8], p: usize) -> usize
     requires { ⌜ p * 16384 + 16384 ≤ length (now segment) ⌝ }
     ensures { λ r. ⌜ r ≡ view (pageOf (now (segment .entry)) p) .freeSpace ⌝ }
 {
-    let a = p * 16384;
-    let e = a + 16384;
-    layout::header::get_free_space(&segment[a..e])
+    layout::header::get_free_space(&segment[p * 16384..(p + 1) * 16384])
 }
 
 // Slot k of any page, also of a damaged one. A slot at or past the count is free. A count above 2,046 counts slots that the page has
@@ -95,9 +87,7 @@ pub fn slot_on(segment: &[u8], p: usize, k: usize) -> Slot
     requires { ⌜ p * 16384 + 16384 ≤ length (now segment) ⌝ }
     ensures { λ r. ⌜ (r ≡ segView (now (segment .entry)) .page p .at k) × Codable r ⌝ }
 {
-    let a = p * 16384;
-    let e = a + 16384;
-    slot_of_page(&segment[a..e], k)
+    slot_of_page(&segment[p * 16384..(p + 1) * 16384], k)
 }
 
 // "A target's record begins with 8 bytes, the big-endian id of its root": of the record at this offset of page p.

@@ -7,15 +7,15 @@ use mathlib.Core.Logic.{_≢_}
 use native.Mathlib.Omega.{arith}
 use native.Mathlib.Decide.{decLt}
 use lib.ListN.{length, length-append}
-use borrow.Author.Tests.{eqb-true, eq-eqb}
+use borrow.Author.Tests.{eqb-true}
 use Rattle.store.specs.Numbers.{put, toBE, idOf}
 use Rattle.store.specs.Slots.{off, len, isFree, isTarget}
-use Rattle.store.specs.Page.{View, view, slotAt, sound}
-use Rattle.store.specs.PageSteps.{opened, apply, move, fill, run, Plan, plan, stay, withSlot, filled, erase, eraseForRedirect, Alloc, noRoom, got, allocate, Relocated, refused, moved, relocate}
+use Rattle.store.specs.Page.{View, view, sound}
+use Rattle.store.specs.PageSteps.{opened, move, run, Plan, plan, stay, withSlot, filled, erase, eraseForRedirect, Alloc, noRoom, got, allocate, Relocated, refused, moved, relocate}
 use Rattle.store.specs.Inventory.{Room, update}
 use Rattle.store.specs.Segment.{segView, pageOf, OnPage, on, carriedOn, sizeOk, invOk}
 use Rattle.store.specs.Laws.Numbers.{length-put, put-own, put-swap}
-use Rattle.store.specs.Laws.Exact.{Exact, exact-then, length-run, run-append}
+use Rattle.store.specs.Laws.Exact.{exact-then, length-run}
 use Rattle.store.specs.Laws.Segments.{length-page, page-same, page-other, ExactOn, exact-skip}
 use Rattle.store.specs.Laws.OneSlot.{redirect-exact}
 use Rattle.store.specs.Laws.Relocate.{fill-exact, retype-exact, relocate-answer, Answered, Moved}
@@ -244,28 +244,6 @@ module _ (s : List ℕ) (p : ℕ) (fits : p * 16384 + 16384 ≤ length s) (t : L
       → t ≡ put s (p * 16384) (pageAfter (targetAt (allocate (segView s .page p) n) bs) (pageOf s p)) → t ≡ s
   no-room-same n way bs e =
       e ∙ ap (λ (x : Alloc). put s (p * 16384) (pageAfter (targetAt x bs) (pageOf s p))) way ∙ put-own s (p * 16384) 16384 fits
-
--- ---- a record's own bytes, written where it stands
-
-fill-put : (v : View) (k : ℕ) (bs q : List ℕ) → apply (fill k (withSlot v k (v .at k) bs)) q ≡ put q (off (v .at k)) bs
-unfolding apply
-fill-put v k bs q = rw (eq-eqb k k refl)
-
-pub fill-own : (q : List ℕ) (a : Plan) → length q ≡ 16384 → Exact q a → (k : ℕ) (bs : List ℕ) → a .after .bytes k ≡ bs
-    → run (filled a k bs .edits) q ≡ run (a .edits) q
-unfolding view
-fill-own q a whole x k bs e =
-    run-append (a .edits) (fill k (withSlot (a .after) k (a .after .at k) bs) ∷ []) q
-    ∙ fill-put (a .after) k bs r
-    ∙ ap (put r (off (a .after .at k))) (sym e)
-    ∙ subst (λ (v : View). off (v .at k) + len (v .at k) ≤ 16384 → put r (off (v .at k)) (v .bytes k) ≡ r) (x .seen) (λ h. put-own r (off (slotAt r k)) (len (slotAt r k)) (omega (arith, long)))
-    (x .sound .high k)
-  where
-    r : List ℕ
-    r = run (a .edits) q
-
-    long : length r ≡ 16384
-    long = length-run (a .edits) q ∙ whole
 
 -- ---- two steps on different pages, in either order
 

@@ -14,22 +14,19 @@ use Rattle.store.specs.PageSteps.{run, Plan, Alloc, noRoom, got, relocate, Relo
 use Rattle.store.specs.Segment.{segView, pageOf, on, carriedOn}
 use Rattle.store.specs.Laws.Views.{Sound}
 use Rattle.store.specs.Laws.Exact.{length-run}
-use Rattle.store.specs.Laws.Segments.{length-page, lent-page}
+use Rattle.store.specs.Laws.Segments.{length-page, lent-part, lent-page}
 use Rattle.store.specs.Laws.Calls.{page-ok}
 use Rattle.store.specs.Laws.SoundSegment.{seen-page, sound-closed}
-use Rattle.slotted_page.specs.Words.{pageAfter, pageMoved, wasMoved, refilled}
+use Rattle.slotted_page.specs.Words.{unfilled, pageBare, pageMoved, wasMoved, refilled}
 
--- page p as the code lends it: from p * 16384 on, up to that and 16384
+-- page p as the code lends it
 abbrev pub lentPart : List ℕ → ℕ → List ℕ
-lentPart s p = cut s (p * 16384) (p * 16384 + 16384 - p * 16384)
+lentPart s p = cut s (p * 16384) ((p + 1) * 16384 - p * 16384)
 
-pub lent-part : (s : List ℕ) (p : ℕ) → lentPart s p ≡ pageOf s p
-lent-part s p = let e : p * 16384 + 16384 - p * 16384 ≡ 16384 = omega arith in ap (cut s (p * 16384)) e
-
--- an allocation's page is as long as it was
-pub length-after : (a : Alloc) (q : List ℕ) → length (pageAfter a q) ≡ length q
-length-after noRoom q = refl
-length-after (got k a) q = length-run (a .edits) q
+-- a page with a place made on it is as long as it was
+pub length-bare : (a : Alloc) (q : List ℕ) → length (pageBare a q) ≡ length q
+length-bare noRoom q = refl
+length-bare (got k a) q = length-run (unfilled (a .edits)) q
 
 -- and so is a relocate's
 pub length-moved : (r : Relocated) (q : List ℕ) → length (pageMoved r q) ≡ length q
@@ -61,13 +58,13 @@ module _ (s : List ℕ) (p : ℕ) (fits : p * 16384 + 16384 ≤ length s) where
     -- what it leaves, with the page back in its place
     pub lent-step : (f : View → List ℕ → List ℕ) → ((v : View) (q : List ℕ) → length (f v q) ≡ length q) → (out : List ℕ)
         → out ≡ f (see (lentPart s p)) (lentPart s p)
-        → putMid (p * 16384) (p * 16384 + 16384 - p * 16384) s out ≡ put s (p * 16384) (f (segView s .page p) (pageOf s p))
+        → putMid (p * 16384) ((p + 1) * 16384 - p * 16384) s out ≡ put s (p * 16384) (f (segView s .page p) (pageOf s p))
     lent-step f keeps out e =
         lent-page s p (λ q. f (see q) q) (λ q. keeps (see q) q) out fits e ∙ ap (λ (v : View). put s (p * 16384) (f v (pageOf s p))) seen
 
     -- the same of a step with one plan
     pub lent-plan : (f : View → Plan) (out : List ℕ) → out ≡ run (f (see (lentPart s p)) .edits) (lentPart s p)
-        → putMid (p * 16384) (p * 16384 + 16384 - p * 16384) s out ≡ carriedOn (on p (f (segView s .page p))) s
+        → putMid (p * 16384) ((p + 1) * 16384 - p * 16384) s out ≡ carriedOn (on p (f (segView s .page p))) s
     lent-plan f = lent-step (λ v q. run (f v .edits) q) (λ v q. length-run (f v .edits) q)
 
 -- ---- a page with a slot that is not free, as the steps on that slot ask for it
@@ -87,7 +84,7 @@ module _ (s : List ℕ) (p k : ℕ) (fits : p * 16384 + 16384 ≤ length s) (ok 
   -- the slot's record at another size n: what is left and answered, where the bytes written are told from the page
   pub lent-moved : (n : ℕ) (bs : View → List ℕ) (out : List ℕ) (r : Bool)
       → (out ≡ pageMoved (refilled (relocate (view (lentPart s p)) k n) k (bs (view (lentPart s p)))) (lentPart s p)) × (r ≡ wasMoved (relocate (view (lentPart s p)) k n))
-      → (putMid (p * 16384) (p * 16384 + 16384 - p * 16384) s out ≡ put s (p * 16384) (pageMoved (refilled (relocate (segView s .page p) k n) k (bs (segView s .page p))) (pageOf s p)))
+      → (putMid (p * 16384) ((p + 1) * 16384 - p * 16384) s out ≡ put s (p * 16384) (pageMoved (refilled (relocate (segView s .page p) k n) k (bs (segView s .page p))) (pageOf s p)))
       × (r ≡ wasMoved (relocate (segView s .page p) k n))
   lent-moved n bs out r e =
       let o = page-ok s p k fits ok taken in (

@@ -11,39 +11,15 @@ ghost use Rattle.store.specs.Page.{view, sound};
 ghost use Rattle.store.specs.PageSteps.{allocate, erase, eraseForRedirect, relocate};
 ghost use Rattle.store.specs.Inventory.{Room, update};
 ghost use Rattle.store.specs.Segment.{pageOf, segView, on, carriedOn};
-ghost use Rattle.slotted_page.specs.Words.{pageAfter, placeOf, filledAt, targetAt, redirectPlan, pageMoved, wasMoved, refilled};
+ghost use Rattle.slotted_page.specs.Words.{pageBare, placeOf, Inside, PastEntry, redirectPlan, pageMoved, wasMoved, refilled};
 
-// A record of these bytes on page p, fresh or in use.
-pub fn insert_on(segment: &mut [u8], p: usize, bytes: &[u8]) -> Place
-    requires { ⌜ (p * 16384 + 16384 ≤ length (now segment)) × (sound (segView (now segment) .page p) ≡ true) × (length (now bytes) ≤ 16364) ⌝ }
-    ensures { λ r. ⌜ (now (segment .exit) ≡ put (now (segment .entry)) (p * 16384) (pageAfter (filledAt (allocate (segView (now (segment .entry)) .page p) (length (now (bytes .entry)))) (now (bytes .entry))) (pageOf (now (segment .entry)) p)))
-        × (r ≡ placeOf (allocate (segView (now (segment .entry)) .page p) (length (now (bytes .entry))))) ⌝ }
-{
-    let a = p * 16384;
-    let e = a + 16384;
-    slotted_page::insert::insert_bytes(&mut segment[a..e], bytes)
-}
-
-// A place of `size` bytes, all zero.
-pub fn allocate_on(segment: &mut [u8], p: usize, size: usize) -> Place
+// A place for a record of `size` bytes on page p, fresh or in use; its bytes are left to be written there.
+pub fn reserve_on(segment: &mut [u8], p: usize, size: usize) -> Place
     requires { ⌜ (p * 16384 + 16384 ≤ length (now segment)) × (sound (segView (now segment) .page p) ≡ true) × (size ≤ 16364) ⌝ }
-    ensures { λ r. ⌜ (now (segment .exit) ≡ put (now (segment .entry)) (p * 16384) (pageAfter (allocate (segView (now (segment .entry)) .page p) size) (pageOf (now (segment .entry)) p)))
-        × (r ≡ placeOf (allocate (segView (now (segment .entry)) .page p) size)) ⌝ }
+    ensures { λ r. ⌜ (now (segment .exit) ≡ put (now (segment .entry)) (p * 16384) (pageBare (allocate (segView (now (segment .entry)) .page p) size) (pageOf (now (segment .entry)) p)))
+        × (r ≡ placeOf (allocate (segView (now (segment .entry)) .page p) size)) × Inside r size × PastEntry r ⌝ }
 {
-    let a = p * 16384;
-    let e = a + 16384;
-    slotted_page::open::allocate_opened(&mut segment[a..e], size)
-}
-
-// "A new target of size + 8" on page p, fresh or in use: the id of its root, then the bytes, cut off or filled up with zeros to `size`.
-pub fn insert_target_on(segment: &mut [u8], p: usize, id: usize, bytes: &[u8], size: usize) -> Place
-    requires { ⌜ (p * 16384 + 16384 ≤ length (now segment)) × (sound (segView (now segment) .page p) ≡ true) × (size ≤ 16356) ⌝ }
-    ensures { λ r. ⌜ (now (segment .exit) ≡ put (now (segment .entry)) (p * 16384) (pageAfter (targetAt (allocate (segView (now (segment .entry)) .page p) (size + 8)) (toBE 8 id ++ fit size (now (bytes .entry)))) (pageOf (now (segment .entry)) p)))
-        × (r ≡ placeOf (allocate (segView (now (segment .entry)) .page p) (size + 8))) ⌝ }
-{
-    let a = p * 16384;
-    let e = a + 16384;
-    slotted_page::insert::insert_target(&mut segment[a..e], id, bytes, size)
+    slotted_page::open::reserve_opened(&mut segment[p * 16384..(p + 1) * 16384], size)
 }
 
 // Slot k's record, of page p, becomes these bytes, cut off or filled up with zeros to `size`; from a redirect too. A refusal changes nothing.
@@ -52,9 +28,7 @@ pub fn rewrite_on(segment: &mut [u8], p: usize, k: usize, bytes: &[u8], size: us
     ensures { λ r. ⌜ (now (segment .exit) ≡ put (now (segment .entry)) (p * 16384) (pageMoved (refilled (relocate (segView (now (segment .entry)) .page p) k size) k (fit size (now (bytes .entry)))) (pageOf (now (segment .entry)) p)))
         × (r ≡ wasMoved (relocate (segView (now (segment .entry)) .page p) k size)) ⌝ }
 {
-    let a = p * 16384;
-    let e = a + 16384;
-    slotted_page::record::rewrite(&mut segment[a..e], k, bytes, size)
+    slotted_page::record::rewrite(&mut segment[p * 16384..(p + 1) * 16384], k, bytes, size)
 }
 
 // Slot k's record keeps its bytes, cut off or filled up with zeros to `size`.
@@ -63,9 +37,7 @@ pub fn resize_on(segment: &mut [u8], p: usize, k: usize, size: usize) -> bool
     ensures { λ r. ⌜ (now (segment .exit) ≡ put (now (segment .entry)) (p * 16384) (pageMoved (refilled (relocate (segView (now (segment .entry)) .page p) k size) k (fit size (segView (now (segment .entry)) .page p .bytes k))) (pageOf (now (segment .entry)) p)))
         × (r ≡ wasMoved (relocate (segView (now (segment .entry)) .page p) k size)) ⌝ }
 {
-    let a = p * 16384;
-    let e = a + 16384;
-    slotted_page::record::resize(&mut segment[a..e], k, size)
+    slotted_page::record::resize(&mut segment[p * 16384..(p + 1) * 16384], k, size)
 }
 
 // A target's record becomes the id of its root and these bytes.
@@ -74,9 +46,7 @@ pub fn rewrite_target_on(segment: &mut [u8], p: usize, k: usize, id: usize, byte
     ensures { λ r. ⌜ (now (segment .exit) ≡ put (now (segment .entry)) (p * 16384) (pageMoved (refilled (relocate (segView (now (segment .entry)) .page p) k (length (now (bytes .entry)) + 8)) k (toBE 8 id ++ now (bytes .entry))) (pageOf (now (segment .entry)) p)))
         × (r ≡ wasMoved (relocate (segView (now (segment .entry)) .page p) k (length (now (bytes .entry)) + 8))) ⌝ }
 {
-    let a = p * 16384;
-    let e = a + 16384;
-    slotted_page::record::rewrite_target(&mut segment[a..e], k, id, bytes)
+    slotted_page::record::rewrite_target(&mut segment[p * 16384..(p + 1) * 16384], k, id, bytes)
 }
 
 // A target's record keeps its bytes behind the id of its root.
@@ -85,9 +55,7 @@ pub fn resize_target_on(segment: &mut [u8], p: usize, k: usize, id: usize, size:
     ensures { λ r. ⌜ (now (segment .exit) ≡ put (now (segment .entry)) (p * 16384) (pageMoved (refilled (relocate (segView (now (segment .entry)) .page p) k (size + 8)) k (toBE 8 id ++ fit size (drop 8 (segView (now (segment .entry)) .page p .bytes k)))) (pageOf (now (segment .entry)) p)))
         × (r ≡ wasMoved (relocate (segView (now (segment .entry)) .page p) k (size + 8))) ⌝ }
 {
-    let a = p * 16384;
-    let e = a + 16384;
-    slotted_page::record::resize_target(&mut segment[a..e], k, id, size)
+    slotted_page::record::resize_target(&mut segment[p * 16384..(p + 1) * 16384], k, id, size)
 }
 
 // Slot k of page p, which is not free, is freed.
@@ -95,9 +63,7 @@ pub fn erase_on(segment: &mut [u8], p: usize, k: usize)
     requires { ⌜ (p * 16384 + 16384 ≤ length (now segment)) × (sound (segView (now segment) .page p) ≡ true) × (isFree (segView (now segment) .page p .at k) ≡ false) ⌝ }
     ensures { λ _. ⌜ now (segment .exit) ≡ carriedOn (on p (erase (segView (now (segment .entry)) .page p) k)) (now (segment .entry)) ⌝ }
 {
-    let a = p * 16384;
-    let e = a + 16384;
-    slotted_page::erase::erase(&mut segment[a..e], k);
+    slotted_page::erase::erase(&mut segment[p * 16384..(p + 1) * 16384], k);
 }
 
 // Slot k of page p, which is not free, becomes a redirect to the id.
@@ -105,9 +71,7 @@ pub fn erase_for_redirect_on(segment: &mut [u8], p: usize, k: usize, id: usize)
     requires { ⌜ (p * 16384 + 16384 ≤ length (now segment)) × (sound (segView (now segment) .page p) ≡ true) × (isFree (segView (now segment) .page p .at k) ≡ false) × (id < 2 ^ 62) ⌝ }
     ensures { λ _. ⌜ now (segment .exit) ≡ carriedOn (on p (eraseForRedirect (segView (now (segment .entry)) .page p) k id)) (now (segment .entry)) ⌝ }
 {
-    let a = p * 16384;
-    let e = a + 16384;
-    slotted_page::erase::erase_for_redirect(&mut segment[a..e], k, id);
+    slotted_page::erase::erase_for_redirect(&mut segment[p * 16384..(p + 1) * 16384], k, id);
 }
 
 // Slot k of page p, a redirect already, names this id: its entry alone.
@@ -115,9 +79,7 @@ pub fn set_redirect_on(segment: &mut [u8], p: usize, k: usize, id: usize)
     requires { ⌜ (p * 16384 + 16384 ≤ length (now segment)) × (sound (segView (now segment) .page p) ≡ true) × (isFree (segView (now segment) .page p .at k) ≡ false) × (id < 2 ^ 62) ⌝ }
     ensures { λ _. ⌜ now (segment .exit) ≡ carriedOn (on p (redirectPlan (segView (now (segment .entry)) .page p) k id)) (now (segment .entry)) ⌝ }
 {
-    let a = p * 16384;
-    let e = a + 16384;
-    slotted_page::erase::set_redirect(&mut segment[a..e], k, id);
+    slotted_page::erase::set_redirect(&mut segment[p * 16384..(p + 1) * 16384], k, id);
 }
 
 // The inventory's class of page p, from the free space that its header says.

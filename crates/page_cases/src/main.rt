@@ -11,11 +11,12 @@ fn allocate(page: &mut [u8], size: usize) -> usize
     requires { ⌜ (length (now page) ≡ 16384) × (sound (view (now page)) ≡ true) × (size ≤ 16364) ⌝ }
     ensures { λ _. ⌜ sound (view (now (page .exit))) ≡ true ⌝ }
 {
-    let place = slotted_page::open::allocate_opened(page, size);
-    match place {
-        Place::At { slot: _, offset } => offset,
-        Place::NoRoom => 0,
-    }
+    let place = slotted_page::open::reserve_opened(page, size);
+    let Place::At { slot: _, offset } = place else {
+        return 0;
+    };
+    layout::zero_fill(page, offset, size);
+    offset
 }
 
 // Slot k's record erased, if it holds one.

@@ -47,10 +47,18 @@ fn place_target(
     if page == old / 65536 {
         return Answer::Stale;
     }
-    let place = lent_steps::insert_target_on(segment, page, id, bytes, size);
-    let Place::At { slot, offset: _ } = place else {
+    let place = lent_steps::reserve_on(segment, page, size + 8);
+    let Place::At { slot, offset } = place else {
         return Answer::Stale;
     };
+    slotted_page::insert::write_target(
+        &mut segment[page * 16384..(page + 1) * 16384],
+        slot,
+        offset,
+        id,
+        bytes,
+        size,
+    );
     Answer::Done {
         id: page * 65536 + slot,
     }

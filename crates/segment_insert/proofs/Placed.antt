@@ -1,30 +1,28 @@
 -- Insert and allocate: what the code did is what the plan says. Assumes nothing.
-use Prim.Native.Nat.{ℕ, _+_, _*_, _/_, _≤_, _<_}
+use Prim.Native.Nat.{ℕ, zero, suc, _+_, _-_, _*_, _/_, _≤_, _<_}
 use mathlib.Core.Path.{_≡_, refl, sym, ap, subst, _∙_}
 use mathlib.Core.Bool.{true, false, _&&_}
-use mathlib.Core.List.{List}
+use mathlib.Core.List.{List, []}
 use native.Mathlib.Omega.{arith}
 use lib.ListN.{length, length-replicate}
 use borrow.Author.Tests.{le-ltb, lt-ltb}
-use Rattle.store.specs.Numbers.{put, idOf, zeros}
-use Rattle.store.specs.Page.{sound}
+use Rattle.store.specs.Numbers.{put, idOf, zeros, fit}
+use Rattle.store.specs.Page.{view, sound}
 use Rattle.store.specs.PageSteps.{Plan, filled, Alloc, noRoom, got, allocate}
-use Rattle.store.specs.Inventory.{foundIn}
+use Rattle.store.specs.Inventory.{foundIn, update}
 use Rattle.store.specs.Segment.{segView, pageOf, sizeOk, invOk, OnPage, on, result, taken, find, findOn, inserted, insertPlan, insertStep, allocateStep}
 use Rattle.store.specs.Answers.{outcome}
 use Rattle.store.specs.Laws.Numbers.{put-own}
 use Rattle.store.specs.Laws.Segments.{length-page, ExactOn}
 use Rattle.store.specs.Laws.Relocate.{fill-exact}
-use Rattle.store.specs.Laws.Changes.{AllocChanges, alloc-changes}
-use Rattle.store.specs.Laws.Calls.{NamedOk, named-ok, AllocOk, alloc-ok, sound-seen}
+use Rattle.store.specs.Laws.Calls.{NamedOk, named-ok, AllocOk, alloc-ok}
 use Rattle.store.specs.declared.Named.{Named}
 use Rattle.store.specs.declared.Named.the-variants.{At, Full}
-use Rattle.store.specs.declared.Place.{Place}
-use Rattle.store.specs.declared.Answer.{Answer}
+use Rattle.store.specs.declared.Place.the-variants as place
 use Rattle.store.specs.declared.Answer.the-variants as answer
 use Rattle.slotted_page.specs.Words.{pageAfter, placeOf, filledAt}
-use Rattle.lent_steps.specs.After.{Took, took-length, left-own, left-room, left-update, fill-own}
-use Rattle.segment_insert.specs.Words.{insertOn, answerAt, classedAt, Told}
+use Rattle.lent_steps.specs.After.{Took, took-length, left-own, left-room, left-update, GotAt, got-at, got-none}
+use Rattle.segment_insert.specs.Words.{insertOn}
 
 -- ---- before a page is named: 1, 3 and 7
 
@@ -85,47 +83,48 @@ module _ (s v bs : List ℕ) (n : ℕ) (size : length bs ≡ n) (p : ℕ) (fits 
   exact-at : (k : ℕ) (a : Plan) → AllocOk (pageOf s p) n (got k a) → ExactOn s (on p (filled a k bs))
   exact-at k a o = record { inside = fits; exact = fill-exact (pageOf s p) a (length-page s p fits) (o .0) k (o .1) (o .2) bs (size ∙ sym (o .3)) }
 
-  -- t is what the page step left, and r the place that it answered
-  module _ (t : List ℕ) (et : t ≡ put s (p * 16384) (pageAfter (filledAt (allocate (segView s .page p) n) bs) (pageOf s p)))
-      (r : Place) (er : r ≡ placeOf (allocate (segView s .page p) n)) where
-    pub told-at : Told t p r
-    told-at = subst (Told t p) (sym er) (go (allocate (segView s .page p) n) got-ok et)
-      where
-        go : (a : Alloc) → AllocOk (pageOf s p) n a → t ≡ put s (p * 16384) (pageAfter (filledAt a bs) (pageOf s p)) → Told t p (placeOf a)
-        go noRoom o e = tt
-        go (got k a) o e =
-            let l = left-own s (on p (filled a k bs)) t (record { exact = exact-at k a o; is = e }) in
-            (omega (arith, o .1, o .0 .sound .few), left-room t p (filled a k bs .after) l)
+  -- t is what was left, and the page answered with no place or with slot k
+  module _ (t : List ℕ) (et : t ≡ put s (p * 16384) (pageAfter (filledAt (allocate (segView s .page p) n) bs) (pageOf s p))) where
+    left-by : (a : Alloc) → allocate (segView s .page p) n ≡ a → t ≡ put s (p * 16384) (pageAfter (filledAt a bs) (pageOf s p))
+    left-by a e = et ∙ ap (λ (x : Alloc). put s (p * 16384) (pageAfter (filledAt x bs) (pageOf s p))) e
 
-    pub placed-at : (y : Answer) (w : List ℕ) → y ≡ answerAt p r → w ≡ classedAt t v p r → outcome y t w ≡ insertOn s v bs p
+    planned-by : (a : Alloc) → allocate (segView s .page p) n ≡ a → result s (inserted (segView s) v bs (taken p a)) ≡ insertOn s v bs p
+    planned-by a e = sym (found-at ∙ ap (λ (x : Alloc). result s (inserted (segView s) v bs (taken p x))) e)
+
+    pub at-stale : placeOf (allocate (segView s .page p) n) ≡ place.NoRoom → outcome answer.Stale t v ≡ insertOn s v bs p
     unfolding result
-    placed-at y w ey ew =
-        ap (λ (z : Answer). outcome z t w) (ey ∙ ap (answerAt p) er)
-        ∙ go (allocate (segView s .page p) n) got-ok et (ew ∙ ap (classedAt t v p) er)
-        ∙ sym found-at
-      where
-        go : (a : Alloc) → AllocOk (pageOf s p) n a → t ≡ put s (p * 16384) (pageAfter (filledAt a bs) (pageOf s p)) → w ≡ classedAt t v p (placeOf a)
-            → outcome (answerAt p (placeOf a)) t w ≡ result s (inserted (segView s) v bs (taken p a))
-        go noRoom o e f = λ i. record { answer = 8; id = 0; seg = (e ∙ put-own s (p * 16384) 16384 fits) i; inv = f i }
-        go (got k a) o e f =
-            let g : OnPage = on p (filled a k bs) in
-            let x : Took s g t = record { exact = exact-at k a o; is = e } in
-            let h = left-update s t p (filled a k bs .after) (left-own s g t x) (took-length s g t x) v w f in
-            λ i. record { answer = 0; id = idOf p k; seg = e i; inv = h i }
+    at-stale e =
+        let x = got-none (allocate (segView s .page p) n) e in
+        ap (λ (l : List ℕ). outcome answer.Stale l v) (left-by noRoom x ∙ put-own s (p * 16384) 16384 fits) ∙ planned-by noRoom x
 
--- ---- what allocate leaves is what insert of zeros leaves
+    module _ (k o : ℕ) (e : placeOf (allocate (segView s .page p) n) ≡ place.At k o) where
+      got-here : GotAt (allocate (segView s .page p) n) k
+      got-here = got-at (allocate (segView s .page p) n) k o e
 
-module _ (s : List ℕ) (p n : ℕ) (fits : p * 16384 + 16384 ≤ length s) (ok : sound (segView s .page p) ≡ true) where
-  pub zeros-left : pageAfter (allocate (segView s .page p) n) (pageOf s p) ≡ pageAfter (filledAt (allocate (segView s .page p) n) (zeros n)) (pageOf s p)
-  unfolding segView
-  zeros-left =
-      let whole = length-page s p fits in
-      go (allocate (segView s .page p) n) (alloc-ok (pageOf s p) n whole ok) (alloc-changes (segView s .page p) (sound-seen (pageOf s p) whole ok) n)
-    where
-      go : (a : Alloc) → AllocOk (pageOf s p) n a → AllocChanges (segView s .page p) (sound-seen (pageOf s p) (length-page s p fits) ok) n a
-          → pageAfter a (pageOf s p) ≡ pageAfter (filledAt a (zeros n)) (pageOf s p)
-      go noRoom o c = refl
-      go (got k a) o c = sym (fill-own (pageOf s p) a (length-page s p fits) (o .0) k (zeros n) (c .1 .holds))
+      ok-here : AllocOk (pageOf s p) n (got k (got-here .to))
+      ok-here = subst (AllocOk (pageOf s p) n) (got-here .is) got-ok
+
+      took : Took s (on p (filled (got-here .to) k bs)) t
+      took = record { exact = exact-at k (got-here .to) ok-here; is = left-by (got k (got-here .to)) (got-here .is) }
+
+      pub slot-small : k < 65536
+      slot-small = omega (arith, ok-here .1, ok-here .0 .sound .few)
+
+      pub free-small : view (pageOf t p) .freeSpace ≤ 16372
+      free-small = left-room t p (filled (got-here .to) k bs .after) (left-own s (on p (filled (got-here .to) k bs)) t took)
+
+      pub at-done : (w : List ℕ) → w ≡ update v (length t / 16384) p (view (pageOf t p) .freeSpace) → outcome (answer.Done (idOf p k)) t w ≡ insertOn s v bs p
+      unfolding result
+      at-done w ew =
+          let g : OnPage = on p (filled (got-here .to) k bs) in
+          let h = left-update s t p (filled (got-here .to) k bs .after) (left-own s g t took) (took-length s g t took) v w ew in
+          (λ i. record { answer = 0; id = idOf p k; seg = took .is i; inv = h i }) ∙ planned-by (got k (got-here .to)) (got-here .is)
+
+-- ---- allocate has no bytes to write
+
+pub fit-none : (n : ℕ) → fit n [] ≡ zeros n
+fit-none zero = refl
+fit-none (suc n) = let e : suc n - 0 ≡ suc n = omega arith in ap zeros e
 
 pub zeros-length : (n : ℕ) → length (zeros n) ≡ n
 zeros-length n = length-replicate {A = ℕ} n 0

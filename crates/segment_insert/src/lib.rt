@@ -5,38 +5,42 @@ use store::Place;
 ghost use mathlib.Core.Path.{_≡_};
 ghost use Prim.Native.Nat.{_+_, _*_, _/_, _≤_};
 ghost use lib.ListN.{length};
-ghost use Rattle.store.specs.Numbers.{zeros};
+ghost use Rattle.store.specs.Numbers.{fit};
 ghost use Rattle.store.specs.Segment.{insertStep, allocateStep};
 ghost use Rattle.store.specs.Answers.{outcome};
 ghost use Rattle.lent_steps.specs.After.{Sizes};
-ghost use Rattle.segment_insert.specs.Words.{answerAt, classedAt, Told, insertOn};
+ghost use Rattle.segment_insert.specs.Words.{insertOn};
 
-// "If the page's answer holds no place, the call stops there"; else the inventory is told the page's free space.
-fn finish(segment: &[u8], inventory: &mut [u8], p: usize, place: Place) -> Answer
+// On the page that the inventory names: these bytes, cut off or filled up with zeros to `size`. "If the page's answer holds no place, the
+// call stops there"; else they are written at its offset, and the inventory is told the page's free space.
+fn insert_at(
+    segment: &mut [u8],
+    inventory: &mut [u8],
+    p: usize,
+    bytes: &[u8],
+    size: usize,
+) -> Answer
     requires { ⌜ Sizes (now segment) (now inventory) ⌝ }
-    requires { ⌜ (p * 16384 + 16384 ≤ length (now segment)) × Told (now segment) p place ⌝ }
-    ensures { λ r. ⌜ (r ≡ answerAt p place) × (now (inventory .exit) ≡ classedAt (now (segment .entry)) (now (inventory .entry)) p place) ⌝ }
-{
-    let Place::At { slot, offset: _ } = place else {
-        return Answer::Stale;
-    };
-    lent_steps::update_on(segment, inventory, p);
-    Answer::Done {
-        id: p * 65536 + slot,
-    }
-}
-
-// On the page that the inventory names.
-fn insert_at(segment: &mut [u8], inventory: &mut [u8], p: usize, record: &[u8]) -> Answer
-    requires { ⌜ Sizes (now segment) (now inventory) ⌝ }
-    requires { ⌜ (p * 16384 + 16384 ≤ length (now segment)) × (length (now «record») ≤ 16364) ⌝ }
-    ensures { λ r. ⌜ outcome r (now (segment .exit)) (now (inventory .exit)) ≡ insertOn (now (segment .entry)) (now (inventory .entry)) (now («record» .entry)) p ⌝ }
+    requires { ⌜ (p * 16384 + 16384 ≤ length (now segment)) × (size ≤ 16364) ⌝ }
+    ensures { λ r. ⌜ outcome r (now (segment .exit)) (now (inventory .exit)) ≡ insertOn (now (segment .entry)) (now (inventory .entry)) (fit size (now (bytes .entry))) p ⌝ }
 {
     if !lent_pages::page_sound(segment, p) {
         return Answer::Damaged;
     }
-    let place = lent_steps::insert_on(segment, p, record);
-    finish(segment, inventory, p, place)
+    let place = lent_steps::reserve_on(segment, p, size);
+    let Place::At { slot, offset } = place else {
+        return Answer::Stale;
+    };
+    layout::fit_in(
+        &mut segment[p * 16384..(p + 1) * 16384],
+        offset,
+        bytes,
+        size,
+    );
+    lent_steps::update_on(segment, inventory, p);
+    Answer::Done {
+        id: p * 65536 + slot,
+    }
 }
 
 pub fn insert_record(segment: &mut [u8], inventory: &mut [u8], record: &[u8]) -> Answer
@@ -52,22 +56,10 @@ pub fn insert_record(segment: &mut [u8], inventory: &mut [u8], record: &[u8]) ->
     let Named::At { page } = named else {
         return Answer::Full;
     };
-    insert_at(segment, inventory, page, record)
+    insert_at(segment, inventory, page, record, record.len())
 }
 
-// The same with zeros for the record's bytes, which the page's allocation has written.
-fn allocate_at(segment: &mut [u8], inventory: &mut [u8], p: usize, size: usize) -> Answer
-    requires { ⌜ Sizes (now segment) (now inventory) ⌝ }
-    requires { ⌜ (p * 16384 + 16384 ≤ length (now segment)) × (size ≤ 16364) ⌝ }
-    ensures { λ r. ⌜ outcome r (now (segment .exit)) (now (inventory .exit)) ≡ insertOn (now (segment .entry)) (now (inventory .entry)) (zeros size) p ⌝ }
-{
-    if !lent_pages::page_sound(segment, p) {
-        return Answer::Damaged;
-    }
-    let place = lent_steps::allocate_on(segment, p, size);
-    finish(segment, inventory, p, place)
-}
-
+// The same with no bytes: all are zeros.
 pub fn allocate(segment: &mut [u8], inventory: &mut [u8], size: usize) -> Answer
     ensures { λ r. ⌜ outcome r (now (segment .exit)) (now (inventory .exit)) ≡ allocateStep (now (segment .entry)) (now (inventory .entry)) size ⌝ }
 {
@@ -81,5 +73,5 @@ pub fn allocate(segment: &mut [u8], inventory: &mut [u8], size: usize) -> Answer
     let Named::At { page } = named else {
         return Answer::Full;
     };
-    allocate_at(segment, inventory, page, size)
+    insert_at(segment, inventory, page, b"", size)
 }

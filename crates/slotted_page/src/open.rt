@@ -1,4 +1,4 @@
-// Allocate on any sound page: a fresh one is initialised first.
+// Allocate on any sound page, but for the record's bytes: a fresh one is initialised first.
 use store::Place;
 ghost use mathlib.Core.Path.{_≡_};
 ghost use mathlib.Core.Bool.{true};
@@ -7,7 +7,6 @@ ghost use lib.ListN.{length};
 ghost use Rattle.store.specs.Page.{view, sound};
 ghost use Rattle.store.specs.PageSteps.{opened, putHead, initialised, allocate};
 ghost use Rattle.places.specs.Words.{pageBare, placeOf, Inside, PastEntry};
-ghost use Rattle.slotted_page.specs.Words.{pageAfter};
 
 // The header of a page just initialised.
 fn initialize(page: &mut [u8])
@@ -17,7 +16,7 @@ fn initialize(page: &mut [u8])
     layout::header::set_header(page, 0, 0, 16384, 16372);
 }
 
-// Allocate but for the record's bytes. A size of at most 16,364 finds room on a fresh page, so a refusal never leaves one initialised.
+// A size of at most 16,364 finds room on a fresh page, so a refusal never leaves one initialised.
 pub fn reserve_opened(page: &mut [u8], size: usize) -> Place
     requires { ⌜ (length (now page) ≡ 16384) × (sound (view (now page)) ≡ true) × (size ≤ 16364) ⌝ }
     ensures { λ r. ⌜ (now (page .exit) ≡ pageBare (allocate (opened (view (now (page .entry)))) size) (now (page .entry)))
@@ -29,19 +28,4 @@ pub fn reserve_opened(page: &mut [u8], size: usize) -> Place
         return places::reserve::reserve(page, size);
     }
     places::reserve::reserve(page, size)
-}
-
-pub fn allocate_opened(page: &mut [u8], size: usize) -> Place
-    requires { ⌜ (length (now page) ≡ 16384) × (sound (view (now page)) ≡ true) × (size ≤ 16364) ⌝ }
-    ensures { λ r. ⌜ (now (page .exit) ≡ pageAfter (allocate (opened (view (now (page .entry)))) size) (now (page .entry)))
-        × (r ≡ placeOf (allocate (opened (view (now (page .entry)))) size)) × Inside r size ⌝ }
-{
-    let place = reserve_opened(page, size);
-    match place {
-        Place::At { slot, offset } => {
-            layout::zero_fill(page, offset, size);
-            Place::At { slot, offset }
-        }
-        Place::NoRoom => Place::NoRoom,
-    }
 }

@@ -4,7 +4,7 @@ use mathlib.Core.List.{List}
 use Prim.Native.Nat.{ℕ}
 use denote.Ref.{now}
 use Rattle.store.specs.Page.{view}
-use Rattle.lent_pages.proofs.Seen.{lent-part}
+use Rattle.store.specs.Laws.Segments.{lent-part}
 use borrow.Author.Needs.{needs}
 use Rattle.lent_pages.proofs.data_start_on.Statement.{statement}
 use Rattle.lent_pages.proofs.data_start_on.Tie as tie
@@ -12,11 +12,14 @@ use Rattle.lent_pages.proofs.data_start_on.Reads as reads
 use Rattle.lent_pages.proofs.data_start_on.Lts as lts
 use Rattle.layout.proofs.header.get_data_start.Reads as get-data-start-reads
 
-mul-a : tie.Need-mul-a
-mul-a c = search needs
+mul-get-data-start : tie.Need-mul-get-data-start
+mul-get-data-start c = search needs
 
-add-e : tie.Need-add-e
-add-e c = search needs
+add-get-data-start : tie.Need-add-get-data-start
+add-get-data-start c = search needs
+
+mul-get-data-start-2 : tie.Need-mul-get-data-start-2
+mul-get-data-start-2 c = search needs
 
 sub-get-data-start : tie.Need-sub-get-data-start
 sub-get-data-start c = search needs
@@ -39,8 +42,9 @@ pub data-start-on-spec : {M : Type 1} → statement M
 data-start-on-spec =
     tie.close
     (tie.spec
-    mul-a
-    add-e
+    mul-get-data-start
+    add-get-data-start
+    mul-get-data-start-2
     sub-get-data-start
     part-get-data-start-start
     part-get-data-start-end

@@ -4,7 +4,7 @@ use mathlib.Core.List.{List}
 use Prim.Native.Nat.{ℕ}
 use denote.Ref.{now}
 use Rattle.store.specs.Page.{view}
-use Rattle.lent_pages.proofs.Seen.{lent-part}
+use Rattle.store.specs.Laws.Segments.{lent-part}
 use borrow.Author.Needs.{needs}
 use Rattle.lent_pages.proofs.free_space_on.Statement.{statement}
 use Rattle.lent_pages.proofs.free_space_on.Tie as tie
@@ -12,11 +12,14 @@ use Rattle.lent_pages.proofs.free_space_on.Reads as reads
 use Rattle.lent_pages.proofs.free_space_on.Lts as lts
 use Rattle.layout.proofs.header.get_free_space.Reads as get-free-space-reads
 
-mul-a : tie.Need-mul-a
-mul-a c = search needs
+mul-get-free-space : tie.Need-mul-get-free-space
+mul-get-free-space c = search needs
 
-add-e : tie.Need-add-e
-add-e c = search needs
+add-get-free-space : tie.Need-add-get-free-space
+add-get-free-space c = search needs
+
+mul-get-free-space-2 : tie.Need-mul-get-free-space-2
+mul-get-free-space-2 c = search needs
 
 sub-get-free-space : tie.Need-sub-get-free-space
 sub-get-free-space c = search needs
@@ -39,8 +42,9 @@ pub free-space-on-spec : {M : Type 1} → statement M
 free-space-on-spec =
     tie.close
     (tie.spec
-    mul-a
-    add-e
+    mul-get-free-space
+    add-get-free-space
+    mul-get-free-space-2
     sub-get-free-space
     part-get-free-space-start
     part-get-free-space-end

@@ -5,7 +5,8 @@ use Prim.Native.Nat.{ℕ}
 use denote.Ref.{now}
 use Rattle.store.specs.Page.{view, sound}
 use Rattle.store.specs.Segment.{pageOf}
-use Rattle.lent_pages.proofs.Seen.{lent-part, seen-sound}
+use Rattle.store.specs.Laws.Segments.{lent-part}
+use Rattle.lent_pages.proofs.Seen.{seen-sound}
 use borrow.Author.Needs.{needs}
 use Rattle.lent_pages.proofs.page_sound.Statement.{statement}
 use Rattle.lent_pages.proofs.page_sound.Tie as tie
@@ -13,11 +14,14 @@ use Rattle.lent_pages.proofs.page_sound.Reads as reads
 use Rattle.lent_pages.proofs.page_sound.Lts as lts
 use Rattle.page_check.proofs.is_sound.Reads as is-sound-reads
 
-mul-a : tie.Need-mul-a
-mul-a c = search needs
+mul-is-sound : tie.Need-mul-is-sound
+mul-is-sound c = search needs
 
-add-e : tie.Need-add-e
-add-e c = search needs
+add-is-sound : tie.Need-add-is-sound
+add-is-sound c = search needs
+
+mul-is-sound-2 : tie.Need-mul-is-sound-2
+mul-is-sound-2 c = search needs
 
 sub-is-sound : tie.Need-sub-is-sound
 sub-is-sound c = search needs
@@ -42,8 +46,9 @@ pub page-sound-spec : {M : Type 1} → statement M
 page-sound-spec =
     tie.close
     (tie.spec
-    mul-a
-    add-e
+    mul-is-sound
+    add-is-sound
+    mul-is-sound-2
     sub-is-sound
     part-is-sound-start
     part-is-sound-end

@@ -4,7 +4,8 @@ use mathlib.Core.List.{List}
 use Prim.Native.Nat.{ℕ}
 use denote.Ref.{now}
 use Rattle.store.specs.Page.{view}
-use Rattle.lent_pages.proofs.Seen.{lent-part, seen-count}
+use Rattle.store.specs.Laws.Segments.{lent-part}
+use Rattle.lent_pages.proofs.Seen.{seen-count}
 use borrow.Author.Needs.{needs}
 use Rattle.lent_pages.proofs.slot_count_on.Statement.{statement}
 use Rattle.lent_pages.proofs.slot_count_on.Tie as tie
@@ -12,11 +13,14 @@ use Rattle.lent_pages.proofs.slot_count_on.Reads as reads
 use Rattle.lent_pages.proofs.slot_count_on.Lts as lts
 use Rattle.layout.proofs.header.get_slot_count.Reads as get-slot-count-reads
 
-mul-a : tie.Need-mul-a
-mul-a c = search needs
+mul-get-slot-count : tie.Need-mul-get-slot-count
+mul-get-slot-count c = search needs
 
-add-e : tie.Need-add-e
-add-e c = search needs
+add-get-slot-count : tie.Need-add-get-slot-count
+add-get-slot-count c = search needs
+
+mul-get-slot-count-2 : tie.Need-mul-get-slot-count-2
+mul-get-slot-count-2 c = search needs
 
 sub-get-slot-count : tie.Need-sub-get-slot-count
 sub-get-slot-count c = search needs
@@ -40,8 +44,9 @@ pub slot-count-on-spec : {M : Type 1} → statement M
 slot-count-on-spec =
     tie.close
     (tie.spec
-    mul-a
-    add-e
+    mul-get-slot-count
+    add-get-slot-count
+    mul-get-slot-count-2
     sub-get-slot-count
     part-get-slot-count-start
     part-get-slot-count-end

@@ -4,7 +4,8 @@ use mathlib.Core.List.{List}
 use Prim.Native.Nat.{ℕ}
 use denote.Ref.{now}
 use Rattle.store.specs.Page.{view}
-use Rattle.lent_pages.proofs.Seen.{lent-part, seen-at}
+use Rattle.store.specs.Laws.Segments.{lent-part}
+use Rattle.lent_pages.proofs.Seen.{seen-at}
 use borrow.Author.Needs.{needs}
 use Rattle.lent_pages.proofs.slot_on.Statement.{statement}
 use Rattle.lent_pages.proofs.slot_on.Tie as tie
@@ -12,11 +13,14 @@ use Rattle.lent_pages.proofs.slot_on.Reads as reads
 use Rattle.lent_pages.proofs.slot_on.Lts as lts
 use Rattle.lent_pages.proofs.slot_of_page.Reads as slot-of-page-reads
 
-mul-a : tie.Need-mul-a
-mul-a c = search needs
+mul-slot-of-page : tie.Need-mul-slot-of-page
+mul-slot-of-page c = search needs
 
-add-e : tie.Need-add-e
-add-e c = search needs
+add-slot-of-page : tie.Need-add-slot-of-page
+add-slot-of-page c = search needs
+
+mul-slot-of-page-2 : tie.Need-mul-slot-of-page-2
+mul-slot-of-page-2 c = search needs
 
 sub-slot-of-page : tie.Need-sub-slot-of-page
 sub-slot-of-page c = search needs
@@ -41,8 +45,9 @@ pub slot-on-spec : {M : Type 1} → statement M
 slot-on-spec =
     tie.close
     (tie.spec
-    mul-a
-    add-e
+    mul-slot-of-page
+    add-slot-of-page
+    mul-slot-of-page-2
     sub-slot-of-page
     part-slot-of-page-start
     part-slot-of-page-end

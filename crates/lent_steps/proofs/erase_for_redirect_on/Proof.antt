@@ -11,11 +11,14 @@ use Rattle.lent_steps.proofs.erase_for_redirect_on.Reads as reads
 use Rattle.lent_steps.proofs.erase_for_redirect_on.Lts as lts
 use Rattle.slotted_page.proofs.erase.erase_for_redirect.Reads as erase-for-redirect-reads
 
-mul-a : tie.Need-mul-a
-mul-a c = search needs
+mul-erase-for-redirect : tie.Need-mul-erase-for-redirect
+mul-erase-for-redirect c = search needs
 
-add-e : tie.Need-add-e
-add-e c = search needs
+add-erase-for-redirect : tie.Need-add-erase-for-redirect
+add-erase-for-redirect c = search needs
+
+mul-erase-for-redirect-2 : tie.Need-mul-erase-for-redirect-2
+mul-erase-for-redirect-2 c = search needs
 
 sub-erase-for-redirect : tie.Need-sub-erase-for-redirect
 sub-erase-for-redirect c = search needs
@@ -47,8 +50,9 @@ pub erase-for-redirect-on-spec : {M : Type 1} → statement M
 erase-for-redirect-on-spec =
     tie.close
     (tie.spec
-    mul-a
-    add-e
+    mul-erase-for-redirect
+    add-erase-for-redirect
+    mul-erase-for-redirect-2
     sub-erase-for-redirect
     part-erase-for-redirect-start
     part-erase-for-redirect-end

@@ -11,11 +11,14 @@ use Rattle.lent_steps.proofs.erase_on.Reads as reads
 use Rattle.lent_steps.proofs.erase_on.Lts as lts
 use Rattle.slotted_page.proofs.erase.erase.Reads as erase-reads
 
-mul-a : tie.Need-mul-a
-mul-a c = search needs
+mul-erase : tie.Need-mul-erase
+mul-erase c = search needs
 
-add-e : tie.Need-add-e
-add-e c = search needs
+add-erase : tie.Need-add-erase
+add-erase c = search needs
+
+mul-erase-2 : tie.Need-mul-erase-2
+mul-erase-2 c = search needs
 
 sub-erase : tie.Need-sub-erase
 sub-erase c = search needs
@@ -45,8 +48,9 @@ pub erase-on-spec : {M : Type 1} → statement M
 erase-on-spec =
     tie.close
     (tie.spec
-    mul-a
-    add-e
+    mul-erase
+    add-erase
+    mul-erase-2
     sub-erase
     part-erase-start
     part-erase-end

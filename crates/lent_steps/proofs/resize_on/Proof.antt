@@ -10,11 +10,14 @@ use Rattle.lent_steps.proofs.resize_on.Reads as reads
 use Rattle.lent_steps.proofs.resize_on.Lts as lts
 use Rattle.slotted_page.proofs.record.resize.Reads as resize-reads
 
-mul-a : tie.Need-mul-a
-mul-a c = search needs
+mul-resize : tie.Need-mul-resize
+mul-resize c = search needs
 
-add-e : tie.Need-add-e
-add-e c = search needs
+add-resize : tie.Need-add-resize
+add-resize c = search needs
+
+mul-resize-2 : tie.Need-mul-resize-2
+mul-resize-2 c = search needs
 
 sub-resize : tie.Need-sub-resize
 sub-resize c = search needs
@@ -43,8 +46,9 @@ pub resize-on-spec : {M : Type 1} → statement M
 resize-on-spec =
     tie.close
     (tie.spec
-    mul-a
-    add-e
+    mul-resize
+    add-resize
+    mul-resize-2
     sub-resize
     part-resize-start
     part-resize-end

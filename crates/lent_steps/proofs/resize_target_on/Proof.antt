@@ -13,11 +13,14 @@ use Rattle.lent_steps.proofs.resize_target_on.Reads as reads
 use Rattle.lent_steps.proofs.resize_target_on.Lts as lts
 use Rattle.slotted_page.proofs.record.resize_target.Reads as resize-target-reads
 
-mul-a : tie.Need-mul-a
-mul-a c = search needs
+mul-resize-target : tie.Need-mul-resize-target
+mul-resize-target c = search needs
 
-add-e : tie.Need-add-e
-add-e c = search needs
+add-resize-target : tie.Need-add-resize-target
+add-resize-target c = search needs
+
+mul-resize-target-2 : tie.Need-mul-resize-target-2
+mul-resize-target-2 c = search needs
 
 sub-resize-target : tie.Need-sub-resize-target
 sub-resize-target c = search needs
@@ -47,8 +50,9 @@ pub resize-target-on-spec : {M : Type 1} → statement M
 resize-target-on-spec =
     tie.close
     (tie.spec
-    mul-a
-    add-e
+    mul-resize-target
+    add-resize-target
+    mul-resize-target-2
     sub-resize-target
     part-resize-target-start
     part-resize-target-end

@@ -10,11 +10,14 @@ use Rattle.lent_steps.proofs.rewrite_on.Reads as reads
 use Rattle.lent_steps.proofs.rewrite_on.Lts as lts
 use Rattle.slotted_page.proofs.record.rewrite.Reads as rewrite-reads
 
-mul-a : tie.Need-mul-a
-mul-a c = search needs
+mul-rewrite : tie.Need-mul-rewrite
+mul-rewrite c = search needs
 
-add-e : tie.Need-add-e
-add-e c = search needs
+add-rewrite : tie.Need-add-rewrite
+add-rewrite c = search needs
+
+mul-rewrite-2 : tie.Need-mul-rewrite-2
+mul-rewrite-2 c = search needs
 
 sub-rewrite : tie.Need-sub-rewrite
 sub-rewrite c = search needs
@@ -43,8 +46,9 @@ pub rewrite-on-spec : {M : Type 1} → statement M
 rewrite-on-spec =
     tie.close
     (tie.spec
-    mul-a
-    add-e
+    mul-rewrite
+    add-rewrite
+    mul-rewrite-2
     sub-rewrite
     part-rewrite-start
     part-rewrite-end

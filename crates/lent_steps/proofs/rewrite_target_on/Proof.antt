@@ -13,11 +13,14 @@ use Rattle.lent_steps.proofs.rewrite_target_on.Reads as reads
 use Rattle.lent_steps.proofs.rewrite_target_on.Lts as lts
 use Rattle.slotted_page.proofs.record.rewrite_target.Reads as rewrite-target-reads
 
-mul-a : tie.Need-mul-a
-mul-a c = search needs
+mul-rewrite-target : tie.Need-mul-rewrite-target
+mul-rewrite-target c = search needs
 
-add-e : tie.Need-add-e
-add-e c = search needs
+add-rewrite-target : tie.Need-add-rewrite-target
+add-rewrite-target c = search needs
+
+mul-rewrite-target-2 : tie.Need-mul-rewrite-target-2
+mul-rewrite-target-2 c = search needs
 
 sub-rewrite-target : tie.Need-sub-rewrite-target
 sub-rewrite-target c = search needs
@@ -47,8 +50,9 @@ pub rewrite-target-on-spec : {M : Type 1} → statement M
 rewrite-target-on-spec =
     tie.close
     (tie.spec
-    mul-a
-    add-e
+    mul-rewrite-target
+    add-rewrite-target
+    mul-rewrite-target-2
     sub-rewrite-target
     part-rewrite-target-start
     part-rewrite-target-end

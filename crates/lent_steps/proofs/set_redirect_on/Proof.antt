@@ -11,11 +11,14 @@ use Rattle.lent_steps.proofs.set_redirect_on.Reads as reads
 use Rattle.lent_steps.proofs.set_redirect_on.Lts as lts
 use Rattle.slotted_page.proofs.erase.set_redirect.Reads as set-redirect-reads
 
-mul-a : tie.Need-mul-a
-mul-a c = search needs
+mul-set-redirect : tie.Need-mul-set-redirect
+mul-set-redirect c = search needs
 
-add-e : tie.Need-add-e
-add-e c = search needs
+add-set-redirect : tie.Need-add-set-redirect
+add-set-redirect c = search needs
+
+mul-set-redirect-2 : tie.Need-mul-set-redirect-2
+mul-set-redirect-2 c = search needs
 
 sub-set-redirect : tie.Need-sub-set-redirect
 sub-set-redirect c = search needs
@@ -46,8 +49,9 @@ pub set-redirect-on-spec : {M : Type 1} → statement M
 set-redirect-on-spec =
     tie.close
     (tie.spec
-    mul-a
-    add-e
+    mul-set-redirect
+    add-set-redirect
+    mul-set-redirect-2
     sub-set-redirect
     part-set-redirect-start
     part-set-redirect-end

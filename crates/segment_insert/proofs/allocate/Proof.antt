@@ -1,8 +1,9 @@
 -- `segment_insert::allocate` meets its contract. Assumes nothing.
 use denote.Ref.{now}
-use mathlib.Core.Path.{_≡_, sym, _∙_}
+use mathlib.Core.Path.{_≡_, sym, ap, _∙_}
 use mathlib.Core.Bool.{true, false, _&&_}
-use Prim.Native.Nat.{_+_, _/_}
+use mathlib.Core.List.{List}
+use Prim.Native.Nat.{ℕ, _+_, _/_}
 use native.Mathlib.Omega.{arith}
 use lib.ListN.{length}
 use borrow.Author.Tests.{not-true, not-false}
@@ -11,7 +12,8 @@ use Rattle.store.specs.Segment.{sizeOk, invOk}
 use Rattle.store.specs.declared.Named.the-variants.{At}
 use Rattle.lent_steps.specs.After.{sizes}
 use Rattle.store.specs.Numbers.{zeros}
-use Rattle.segment_insert.proofs.Placed.{allocate-size, allocate-long, allocate-is, insert-full, insert-named, named-fits, zeros-length}
+use Rattle.segment_insert.proofs.Placed.{allocate-size, allocate-long, allocate-is, insert-full, insert-named, named-fits, fit-none, zeros-length}
+use Rattle.segment_insert.specs.Words.{insertOn}
 use borrow.Author.Needs.{needs}
 use Rattle.segment_insert.proofs.allocate.Statement.{statement}
 use Rattle.segment_insert.proofs.allocate.Tie as tie
@@ -19,7 +21,7 @@ use Rattle.segment_insert.proofs.allocate.Reads as reads
 use Rattle.segment_insert.proofs.allocate.Lts as lts
 use Rattle.free_space_inventory.proofs.find_page.Reads as find-page-reads
 use Rattle.lent_pages.proofs.sizes_ok.Reads as sizes-ok-reads
-use Rattle.segment_insert.proofs.allocate_at.Reads as allocate-at-reads
+use Rattle.segment_insert.proofs.insert_at.Reads as insert-at-reads
 
 -- what the test of the sizes told, and what the inventory named
 sizes-here : (c : tie.Else1) → let a = c .before .before .before .before .before .before .args in (sizeOk (now (a .segment)) && invOk (now (a .inventory))) ≡ true
@@ -83,13 +85,16 @@ returns-3 c =
     let short = c .before .before .before .before .if2 .left in
     insert-full s v ok (zeros (a .size)) (a .size) (zeros-length (a .size)) short (sym (c .before .before .find-page .ensures) ∙ c .enum-told .given .1) ∙ sym (allocate-is s v ok (a .size) short)
 
-allocate-at-requires : tie.Need-allocate-at-requires
-allocate-at-requires c κs =
-    let a = c .before .before .before .before .before .before .before .before .before .before .before .before .before .before .args in
+slice-aggregate-insert-at : tie.Need-slice-aggregate-insert-at
+slice-aggregate-insert-at c = search needs
+
+insert-at-requires : tie.Need-insert-at-requires
+insert-at-requires c κs =
+    let a = c .before .before .before .before .before .before .before .before .before .before .before .before .before .before .before .args in
     let s = now (a .segment) in
     let v = now (a .inventory) in
-    let e = named-here (c .before .before) in
-    (sizes s v (sizes-here (c .before .before .before .before .before .before .before .before)), (named-fits s v (a .size + 8) _ e, c .before .before .before .before .before .before .before .if2 .left))
+    let e = named-here (c .before .before .before) in
+    (sizes s v (sizes-here (c .before .before .before .before .before .before .before .before .before)), (named-fits s v (a .size + 8) _ e, c .before .before .before .before .before .before .before .before .if2 .left))
 
 same-length-7 : tie.Need-same-length-7
 same-length-7 c = search needs
@@ -99,12 +104,13 @@ same-length-8 c = search needs
 
 returns-4 : tie.Need-returns-4
 returns-4 c =
-    let a = c .before .before .before .before .before .before .before .before .before .before .before .before .before .before .before .before .before .before .before .args in
+    let a = c .before .before .before .before .before .before .before .before .before .before .before .before .before .before .before .before .before .before .before .before .args in
+    let m = c .before .before .before .before .before .before .before .before in
     let s = now (a .segment) in
     let v = now (a .inventory) in
-    let ok = sizes-here (c .before .before .before .before .before .before .before .before .before .before .before .before .before) in
-    let short = c .before .before .before .before .before .before .before .before .before .before .before .before .if2 .left in
-    c .before .before .before .before .allocate-at .ensures ∙ insert-named s v ok (zeros (a .size)) (a .size) (zeros-length (a .size)) short _ (named-here (c .before .before .before .before .before .before .before)) ∙ sym (allocate-is s v ok (a .size) short)
+    let ok = sizes-here (c .before .before .before .before .before .before .before .before .before .before .before .before .before .before) in
+    let short = c .before .before .before .before .before .before .before .before .before .before .before .before .before .if2 .left in
+    c .before .before .before .before .insert-at .ensures ∙ ap (λ (bs : List ℕ). insertOn s v bs (m .before .named .given .0 .0)) (fit-none (a .size)) ∙ insert-named s v ok (zeros (a .size)) (a .size) (zeros-length (a .size)) short _ (named-here m) ∙ sym (allocate-is s v ok (a .size) short)
 
 pub allocate-spec : {M : Type 1} → statement M
 allocate-spec =
@@ -124,7 +130,8 @@ allocate-spec =
     same-length-5
     same-length-6
     returns-3
-    allocate-at-requires
+    slice-aggregate-insert-at
+    insert-at-requires
     same-length-7
     same-length-8
     returns-4)

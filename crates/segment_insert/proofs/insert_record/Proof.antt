@@ -1,15 +1,18 @@
 -- `segment_insert::insert_record` meets its contract. Assumes nothing.
 use denote.Ref.{now}
-use mathlib.Core.Path.{_≡_, refl, sym, _∙_}
+use mathlib.Core.Path.{_≡_, refl, sym, ap, _∙_}
 use mathlib.Core.Bool.{true, false, _&&_}
-use Prim.Native.Nat.{_+_, _/_}
+use mathlib.Core.List.{List}
+use Prim.Native.Nat.{ℕ, _+_, _/_}
 use native.Mathlib.Omega.{arith}
 use lib.ListN.{length}
 use borrow.Author.Tests.{not-true, not-false}
 use Rattle.store.specs.Inventory.{foundIn}
 use Rattle.store.specs.Segment.{sizeOk, invOk}
 use Rattle.store.specs.declared.Named.the-variants.{At}
+use Rattle.slotted_page.specs.Plans.{fit-all}
 use Rattle.lent_steps.specs.After.{sizes}
+use Rattle.segment_insert.specs.Words.{insertOn}
 use Rattle.segment_insert.proofs.Placed.{insert-size, insert-long, insert-full, insert-named, named-fits}
 use borrow.Author.Needs.{needs}
 use Rattle.segment_insert.proofs.insert_record.Statement.{statement}
@@ -99,11 +102,12 @@ same-length-8 c = search needs
 returns-4 : tie.Need-returns-4
 returns-4 c =
     let a = c .before .before .before .before .before .before .before .before .before .before .before .before .before .before .before .before .before .before .before .before .args in
+    let m = c .before .before .before .before .before .before .before in
     let s = now (a .segment) in
     let v = now (a .inventory) in
     let ok = sizes-here (c .before .before .before .before .before .before .before .before .before .before .before .before .before) in
     let short = c .before .before .before .before .before .before .before .before .before .before .before .before .if2 .left in
-    c .before .before .before .before .insert-at .ensures ∙ insert-named s v ok (now (a .«record»)) (length (now (a .«record»))) refl short _ (named-here (c .before .before .before .before .before .before .before))
+    c .before .before .before .before .insert-at .ensures ∙ ap (λ (bs : List ℕ). insertOn s v bs (m .before .named .given .0 .0)) (fit-all (now (a .«record»))) ∙ insert-named s v ok (now (a .«record»)) (length (now (a .«record»))) refl short _ (named-here m)
 
 pub insert-record-spec : {M : Type 1} → statement M
 insert-record-spec =

@@ -138,11 +138,15 @@ settled-sound (e ∷ es) s u x h =
     settled-sound es (carriedOn e s) (settledOn e u) (x .1)
     (upd-elim (u .page) (e .on) (opened (e .plan .after)) (λ p v. sound v ≡ true) (opened-sound (e .plan .after) (x .0 .exact .sound)) (λ p n. h p))
 
--- ---- one page lent on from the segment's middle, to a function that leaves f of it
+-- ---- one page lent on from the segment's middle: from p * 16384 to (p + 1) * 16384
+
+pub lent-part : (s : List ℕ) (p : ℕ) → cut s (p * 16384) ((p + 1) * 16384 - p * 16384) ≡ pageOf s p
+lent-part s p = let e : (p + 1) * 16384 - p * 16384 ≡ 16384 = omega arith in ap (cut s (p * 16384)) e
+
+-- to a function that leaves f of it
 pub lent-page : (s : List ℕ) (p : ℕ) (f : List ℕ → List ℕ) → ((q : List ℕ) → length (f q) ≡ length q) → (out : List ℕ) → p * 16384 + 16384 ≤ length s
-    → out ≡ f (midOf (p * 16384) (p * 16384 + 16384 - p * 16384) s) → putMid (p * 16384) (p * 16384 + 16384 - p * 16384) s out ≡ put s (p * 16384) (f (pageOf s p))
+    → out ≡ f (midOf (p * 16384) ((p + 1) * 16384 - p * 16384) s) → putMid (p * 16384) ((p + 1) * 16384 - p * 16384) s out ≡ put s (p * 16384) (f (pageOf s p))
 lent-page s p f keeps out h e =
-    let k : p * 16384 + 16384 - p * 16384 ≡ 16384 = omega arith in
-    let g : out ≡ f (pageOf s p) = e ∙ ap (λ (n : ℕ). f (cut s (p * 16384) n)) k in
-    let l : length out ≡ p * 16384 + 16384 - p * 16384 = ap length g ∙ keeps (pageOf s p) ∙ length-page s p h ∙ sym k in
-    lent s (p * 16384) (p * 16384 + 16384) out (omega arith) h l ∙ ap (put s (p * 16384)) g
+    let g : out ≡ f (pageOf s p) = e ∙ ap f (lent-part s p) in
+    let l : length out ≡ (p + 1) * 16384 - p * 16384 = ap length g ∙ keeps (pageOf s p) ∙ length-page s p h ∙ omega arith in
+    lent s (p * 16384) ((p + 1) * 16384) out (omega arith) (omega arith) l ∙ ap (put s (p * 16384)) g
