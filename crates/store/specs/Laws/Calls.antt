@@ -7,12 +7,12 @@ use mathlib.Core.Logic.{_≢_}
 use native.Mathlib.Omega.{arith}
 use lib.ListN.{length, take, drop, length-append}
 use lib.Dec.{ltb, leb, eqb}
-use borrow.Author.Tests.{le-ltb, leb-false, ltb-false, ltb-true, eqb-true, eqb-false}
+use borrow.Author.Tests.{le-ltb, leb-false, ltb-true, eqb-true, eqb-false}
 use native.Mathlib.Decide.{decLt}
 use Rattle.store.specs.Numbers.{cut, be, toBE, pageNo, slotNo, idOf}
 use Rattle.store.specs.Slots.{off, len, isFree, isTarget}
 use Rattle.store.specs.Page.{View, view, count, slotAt, fresh, sound}
-use Rattle.store.specs.PageSteps.{initialised, opened, Plan, Alloc, noRoom, got, allocated, roomFor, allocating, andThen, cost, gap, filled, move, stay, withSlot, eraseForRedirect, relocate, Relocated, refused, moved, plan, allocate, erase}
+use Rattle.store.specs.PageSteps.{initialised, opened, Plan, Alloc, noRoom, got, allocated, roomFor, allocating, cost, gap, filled, move, stay, withSlot, eraseForRedirect, relocate, Relocated, refused, moved, plan, allocate, erase}
 use Rattle.store.specs.Inventory.{foundIn, entryFor, entryAt, update}
 use Rattle.store.specs.Segment.{segView, pageOf, on, done, refuse, refuseIf, Found, nowhere, found, taken, findOn, needFor, find, inserted, insertPlan, pointsBack, eraseBy, erasePlan, targeted, forwarded, fromOrdinary, forwardedAgain, atTarget, atHome, fromRedirect, storeBy, storePlan}
 pub use Rattle.store.specs.Laws.Cases.{by-test}

@@ -1,6 +1,6 @@
 -- What each page step does to entries and records: one slot changes; the others keep kind, length, id and bytes. And which entries and
 -- headers a step writes. Views and edits alone: no byte of a page occurs here. Assumes nothing.
-use Prim.Native.Nat.{ℕ, _+_, _-_, _*_, _≤_, _<_, min}
+use Prim.Native.Nat.{ℕ, _+_, _-_, _≤_, _<_}
 use mathlib.Core.Path.{_≡_, refl, sym, ap, _∙_, subst}
 use mathlib.Core.Bool.{true, false, cond}
 use mathlib.Core.List.{List, [], _∷_, _++_}

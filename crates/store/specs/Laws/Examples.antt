@@ -2,14 +2,14 @@
 -- Assumes nothing.
 use Prim.Native.Nat.{ℕ}
 use mathlib.Core.Path.{_≡_, refl}
-use mathlib.Core.Bool.{Bool, true, false, cond}
-use mathlib.Core.List.{List, [], _∷_, _++_, map}
+use mathlib.Core.Bool.{cond}
+use mathlib.Core.List.{List, [], _∷_, map}
 use Rattle.store.specs.Numbers.{zeros, idOf}
 use Rattle.store.specs.Slots.{off, len}
 use Rattle.store.specs.Page.{View, sound}
 use Rattle.store.specs.PageSteps.{initialised, compactify, Alloc, noRoom, got, allocate, erase, eraseForRedirect, relocate}
 use Rattle.store.specs.Inventory.{classOf, nibbleAt, setNibble, entryAt, setEntry, firstFrom, nextPage, runEnd, setFrom, pulledBack, movedOn, updated, update, foundIn}
-use Rattle.store.specs.Segment.{SegView, Out, find, insertPlan, allocatePlan, storePlan, writePlan}
+use Rattle.store.specs.Segment.{SegView, Out, find, insertPlan, storePlan, writePlan}
 use Rattle.store.specs.Laws.Segments.{settled}
 use Rattle.store.specs.Laws.Marked.{Row}
 

@@ -75,7 +75,7 @@ p8 = record { got = classOf 15584 ∷ []; want = 15 ∷ [] }
 
 -- P9 n = 1, inventory all zero, then P2: nibble 2, entries 0 and 1 are 1, the rest 0
 abbrev p9 : Row
-p9 = record { got = cached (three .inv); want = 3 ∷ 1 ∷ 1 ∷ zeros 13 }
+p9 = record { got = cached (three .inv); want = 2 ∷ 1 ∷ 1 ∷ zeros 13 }
 
 -- P10 then 12,270 bytes go in
 abbrev p10 : Row

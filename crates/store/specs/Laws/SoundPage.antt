@@ -10,7 +10,7 @@ use native.Mathlib.Decide.{ℕ-discrete, decLt}
 use lib.ListN.{length, drop, length-take, length-drop}
 use lib.Dec.{ltb, leb, eqb}
 use borrow.Author.Tests.{le-ltb, lt-leb, le-leb, leb-true, eq-eqb, ne-eqb}
-use Rattle.store.specs.Numbers.{cut, be, all, sum}
+use Rattle.store.specs.Numbers.{cut, be, all}
 use Rattle.store.specs.Slots.{off, len, isFree, isTarget, slotOf, ofKind}
 use Rattle.store.specs.Page.{View, view, count, slotAt, fresh, pastDirectory, liesWell, apart, soundTests, passes, sound}
 use Rattle.store.specs.PageSteps.{initialised, opened}

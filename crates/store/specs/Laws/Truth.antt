@@ -6,9 +6,9 @@ use mathlib.Core.Bool.{Bool, true, false, cond}
 use mathlib.Core.List.{List}
 use mathlib.Core.Logic.{_⊎_, inl, inr, ⊎-elim}
 use native.Mathlib.Omega.{arith}
-use lib.Dec.{leb, eqb}
+use lib.Dec.{eqb}
 use lib.ListN.{length}
-use borrow.Author.Tests.{eq-eqb, ne-eqb, leb-true, leb-false, eqb-true, eqb-false}
+use borrow.Author.Tests.{eq-eqb, ne-eqb}
 use Rattle.store.specs.Numbers.{upd}
 use Rattle.store.specs.Inventory.{setNibble, entryAt, setEntry, Room, nibble, suits, firstFrom, nextPage, names, runEnd, setFrom, namesNoLater, pulledBack, movedOn, updated, Lowest, Truth}
 use Rattle.store.specs.Laws.Cases.{lt-or-le, eq-or-ne, by-test, tests}
