@@ -102,8 +102,8 @@ uint64_t hk_erase_record(uint8_t *segment, size_t segment_length, uint8_t *inven
  *
  * A place is a page and a slot of it and nothing more. Who writes between two steps lets the scan go on from there over what stands then: a
  * record that has moved meanwhile, by being forwarded or coming home, may come twice or not at all, a new one comes if it lies ahead, and
- * a scan that has reached the end goes on if it is lent more pages. The page it stands in is not checked again; a record that would leave
- * its page answers 4.
+ * a scan that has reached the end goes on if it is lent more pages. The page it stands in is not checked again; a record that does not lie
+ * as on a sound page answers 4.
  */
 uint64_t hk_scan_step(const uint8_t *segment, size_t segment_length, uint64_t *place, uint64_t *found, uint64_t *id,
                       uint64_t *offset, uint64_t *length);

@@ -30,6 +30,15 @@ pub fn copy_in(page: &mut [u8], at: usize, src: &[u8])
     bytes::copy(src, &mut page[at..e]);
 }
 
+// The n bytes at `at`, to the front of `to`: a record's bytes saved by value, for its page may be compactified.
+pub fn save(page: &[u8], at: usize, n: usize, to: &mut [u8])
+    requires { ⌜ (at + n ≤ length (now page)) × (n ≤ length (now to)) ⌝ }
+    ensures { λ _. ⌜ now (to .exit) ≡ put (now (to .entry)) 0 (cut (now (page .entry)) at n) ⌝ }
+{
+    let e = at + n;
+    copy_in(to, 0, &page[at..e]);
+}
+
 // src from `at` on, cut off or filled up with zeros to `size` bytes.
 pub fn fit_in(page: &mut [u8], at: usize, src: &[u8], size: usize)
     requires { ⌜ at + size ≤ length (now page) ⌝ }

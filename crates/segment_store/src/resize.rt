@@ -2,23 +2,14 @@
 use store::Answer;
 use store::Slot;
 ghost use mathlib.Core.Path.{_≡_};
-ghost use mathlib.Core.Bool.{true, false};
+ghost use mathlib.Core.Bool.{true};
 ghost use Prim.Native.Nat.{_+_, _*_, _≤_};
 ghost use lib.ListN.{length, drop};
-ghost use Rattle.store.specs.Numbers.{cut, put, fit, pageNo, slotNo};
+ghost use Rattle.store.specs.Numbers.{cut, fit, pageNo, slotNo};
 ghost use Rattle.store.specs.Page.{sound};
 ghost use Rattle.store.specs.Segment.{segView, result, pointsBack, storeBy, resizeStep};
 ghost use Rattle.store.specs.Answers.{outcome};
 ghost use Rattle.lent_steps.specs.After.{Sizes};
-
-// The n bytes at `at`, to the front of `old`: a record's bytes saved by value, for its page may be compactified.
-fn save(segment: &[u8], at: usize, n: usize, old: &mut [u8])
-    requires { ⌜ (at + n ≤ length (now segment)) × (n ≤ length (now old)) ⌝ }
-    ensures { λ _. ⌜ now (old .exit) ≡ put (now (old .entry)) 0 (cut (now (segment .entry)) at n) ⌝ }
-{
-    let e = at + n;
-    layout::copy_in(old, 0, &segment[at..e]);
-}
 
 // The record of an ordinary slot, which lies at this offset of its page.
 fn resize_ordinary(
@@ -38,7 +29,7 @@ fn resize_ordinary(
         return Answer::Done { id };
     }
     let mut old = [0u8; 16384];
-    save(segment, id / 65536 * 16384 + offset, n, &mut old);
+    layout::save(segment, id / 65536 * 16384 + offset, n, &mut old);
     segment_forward::forward(segment, inventory, id, &old[..n], size)
 }
 
@@ -82,7 +73,7 @@ fn resize_target(
     ensures { λ r. ⌜ outcome r (now (segment .exit)) (now (inventory .exit)) ≡ result (now (segment .entry)) (storeBy (segView (now (segment .entry))) (now (inventory .entry)) id size (fit size) (Slot.Redirect t)) ⌝ }
 {
     let mut old = [0u8; 16384];
-    save(segment, at, n, &mut old);
+    layout::save(segment, at, n, &mut old);
     resize_saved(segment, inventory, id, t, &old[..n], size)
 }
 

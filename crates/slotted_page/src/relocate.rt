@@ -4,21 +4,11 @@ use store::Slot;
 ghost use mathlib.Core.Path.{_≡_};
 ghost use Prim.Native.Nat.{_+_, _≤_, _<_};
 ghost use lib.ListN.{length};
-ghost use Rattle.store.specs.Numbers.{put, cut};
 ghost use Rattle.store.specs.Slots.{len};
 ghost use Rattle.store.specs.Page.{view};
 ghost use Rattle.store.specs.PageSteps.{gap, relocate};
 ghost use Rattle.store.specs.Laws.Views.{Sound};
 ghost use Rattle.slotted_page.specs.Words.{pageMoved, wasMoved};
-
-// The n bytes at o, to the front of `to`.
-fn save(page: &[u8], o: usize, n: usize, to: &mut [u8])
-    requires { ⌜ (o + n ≤ length (now page)) × (n ≤ length (now to)) ⌝ }
-    ensures { λ _. ⌜ now (to .exit) ≡ put (now (to .entry)) 0 (cut (now (page .entry)) o n) ⌝ }
-{
-    let e = o + n;
-    layout::copy_in(to, 0, &page[o..e]);
-}
 
 // Relocate to a larger size, where the page is compactified: "the growing record's old bytes are saved by value".
 fn grow_packed(page: &mut [u8], k: usize, s: Slot, size: usize) -> bool
@@ -28,7 +18,7 @@ fn grow_packed(page: &mut [u8], k: usize, s: Slot, size: usize) -> bool
 {
     let n = layout::slots::len_of(s);
     let mut saved = [0u8; 16384];
-    save(page, layout::slots::off_of(s), n, &mut saved);
+    layout::save(page, layout::slots::off_of(s), n, &mut saved);
     let place = places::relocation::move_slot(page, k, size);
     match place {
         Place::At { slot: _, offset } => {

@@ -23,7 +23,7 @@ use Rattle.segment_store.proofs.resize.resize_ordinary.Tie as tie
 use Rattle.segment_store.proofs.resize.resize_ordinary.Reads as reads
 use Rattle.segment_store.proofs.resize.resize_ordinary.Lts as lts
 use Rattle.lent_steps.proofs.update_on.Reads as update-on-reads
-use Rattle.segment_store.proofs.resize.save.Reads as save-reads
+use Rattle.layout.proofs.save.Reads as save-reads
 use Rattle.segment_forward.proofs.forward.Reads as forward-reads
 use Rattle.lent_steps.proofs.resize_on.Reads as resize-on-reads
 

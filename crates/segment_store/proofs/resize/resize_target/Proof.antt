@@ -10,7 +10,7 @@ use Rattle.segment_store.proofs.resize.resize_target.Tie as tie
 use Rattle.segment_store.proofs.resize.resize_target.Reads as reads
 use Rattle.segment_store.proofs.resize.resize_target.Lts as lts
 use Rattle.segment_store.proofs.resize.resize_saved.Reads as resize-saved-reads
-use Rattle.segment_store.proofs.resize.save.Reads as save-reads
+use Rattle.layout.proofs.save.Reads as save-reads
 
 slice-aggregate-save : tie.Need-slice-aggregate-save
 slice-aggregate-save c = search needs

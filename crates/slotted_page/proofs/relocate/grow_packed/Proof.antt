@@ -19,7 +19,7 @@ use Rattle.layout.proofs.fit_in.Reads as fit-in-reads
 use Rattle.layout.proofs.slots.len_of.Reads as len-of-reads
 use Rattle.layout.proofs.slots.off_of.Reads as off-of-reads
 use Rattle.places.proofs.relocation.move_slot.Reads as move-slot-reads
-use Rattle.slotted_page.proofs.relocate.save.Reads as save-reads
+use Rattle.layout.proofs.save.Reads as save-reads
 
 len-of-requires : tie.Need-len-of-requires
 len-of-requires c κs = search needs

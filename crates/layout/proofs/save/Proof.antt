@@ -1,13 +1,13 @@
--- `slotted_page::relocate::save` meets its contract. Assumes nothing.
+-- `layout::save` meets its contract. Assumes nothing.
 use mathlib.Core.Path.{_≡_}
 use Prim.Native.Nat.{_+_, _-_}
 use native.Mathlib.Omega.{arith}
 use borrow.Author.Needs.{needs}
-use Rattle.slotted_page.proofs.relocate.save.Statement.{statement}
-use Rattle.slotted_page.proofs.relocate.save.Tie as tie
-use Rattle.slotted_page.proofs.relocate.save.Reads as reads
-use Rattle.slotted_page.proofs.relocate.save.Lts as lts
+use Rattle.layout.proofs.save.Statement.{statement}
+use Rattle.layout.proofs.save.Tie as tie
+use Rattle.layout.proofs.save.Reads as reads
+use Rattle.layout.proofs.save.Lts as lts
 use Rattle.layout.proofs.copy_in.Reads as copy-in-reads
 
 add-e : tie.Need-add-e
 add-e c = search needs
@@ -30,7 +30,7 @@ same-length c = search needs
 returns : tie.Need-returns
 returns c =
     let s = c .before .before .before .before .before .before .before .args in
-    let h : s .o + s .n - s .o ≡ s .n = omega arith in
+    let h : s .at + s .n - s .at ≡ s .n = omega arith in
     rw h at (c .before .before .copy-in .ensures)
 
 pub save-spec : {M : Type 1} → statement M
