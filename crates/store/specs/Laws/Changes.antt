@@ -17,7 +17,7 @@ use Rattle.store.specs.Page.{View}
 use Rattle.store.specs.PageSteps.{Edit, head, move, commit, fill, Plan, stay, andThen, withSlot, withHead, compactify, gap, makeRoom, isNew, cost, allocated, roomFor, allocating, Alloc, noRoom, got, erased, redirected, eraseForRedirect, Relocated, refused, moved, moveUnder, shrunk, parked, resized, relocateBy, relocate, filled, plan, allocate, erase}
 use Rattle.store.specs.Laws.Views.{Sound, upd-same, upd-other, erase-used}
 use Rattle.store.specs.Laws.Compactify.{Kept, compact-keeps}
-use Rattle.store.specs.Laws.OneSlot.{Suits, slot-sound}
+use Rattle.store.specs.Laws.OneSlot.{park-suits, slot-sound}
 use Rattle.store.specs.Laws.Cases.{by-test, tests}
 use Rattle.store.specs.declared.Slot.{Slot}
 use Rattle.store.specs.declared.Slot.the-variants.{Ordinary, Free, Redirect, Target}
@@ -228,23 +228,6 @@ module _ (v : View) (s : Sound v) (k : ℕ) (inside : k < v .slotCount) (taken :
       subst (λ (y : Slot). Changes u k y b (moveUnder u k x n b)) (placed-zero x (w .dataStart - n) n)
       (committed u k few-slots a q (w .slotCount) (w .firstFree) (w .dataStart - n) (w .freeSpace - n) (placed x (w .dataStart - n) n) b (omega (arith, q .slotCount)) (λ j h. inl (omega (arith, q .slotCount))))
 
-  parks : Suits v k (Redirect 0) (parked v k .dataStart) (parked v k .freeSpace)
-  parks =
-      record {
-        inside = inside;
-        was = taken;
-        is = refl;
-        codable = omega arith;
-        target = λ e. let z : _≡_ {A = ℕ} 0 1 = cc in omega arith;
-        apart = λ j n a. absurd (omega arith);
-        high = omega arith;
-        dir = s .dir;
-        top = s .start≤;
-        others = λ j q a. s .low j a;
-        own = λ a. absurd (omega arith);
-        freeSpace = omega arith;
-      }
-
   resized-changes : (n : ℕ) → isRecord (v .at k) ≡ true → Relocates n (resized v k n)
   resized-changes n r =
       by-test (Relocates n) (eqb n (len (v .at k))) (moved (stay v))
@@ -274,7 +257,7 @@ module _ (v : View) (s : Sound v) (k : ℕ) (inside : k < v .slotCount) (taken :
           changes-then v k (Redirect 0) [] p0
           (committed v k few-slots (stay v) (self-kept v) (parked v k .slotCount) (parked v k .firstFree) (parked v k .dataStart) (parked v k .freeSpace) (Redirect 0) [] (omega arith) (λ j h. inl h))
           (placed (v .at k) 0 n) (fit n (v .bytes k)) (moveUnder (parked v k) k (v .at k) n (fit n (v .bytes k)))
-          (under-changes (parked v k) (slot-sound v s k (Redirect 0) (parked v k .dataStart) (parked v k .freeSpace) parks [] refl) refl (v .at k) n (fit n (v .bytes k)))
+          (under-changes (parked v k) (slot-sound v s k (Redirect 0) (parked v k .dataStart) (parked v k .freeSpace) (park-suits v s k inside taken) [] refl) refl (v .at k) n (fit n (v .bytes k)))
 
   pub relocate-changes : (n : ℕ) → Relocates n (relocate v k n)
   unfolding relocate

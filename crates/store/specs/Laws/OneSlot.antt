@@ -12,7 +12,7 @@ use borrow.Author.Tests.{le-ltb, lt-ltb}
 use Rattle.store.specs.Numbers.{upd, sum}
 use Rattle.store.specs.Slots.{off, len, isFree, isTarget, isRecord, placed}
 use Rattle.store.specs.Page.{View, view}
-use Rattle.store.specs.PageSteps.{withSlot, withHead, commit, Plan, run, makeRoom, gap, isNew, cost, compactify, allocated, roomFor, allocating, redirected, eraseForRedirect, movedUnder, moveUnder, plan}
+use Rattle.store.specs.PageSteps.{withSlot, withHead, commit, Plan, run, makeRoom, gap, isNew, cost, compactify, allocated, roomFor, allocating, redirected, parked, eraseForRedirect, movedUnder, moveUnder, plan}
 use Rattle.store.specs.Laws.Cases.{by-test}
 use Rattle.store.specs.Laws.Slots.{Codable}
 use Rattle.store.specs.Laws.Edits.{Apart, Shows, shows-view}
@@ -77,29 +77,34 @@ module _ (v : View) (s : Sound v) (k : ℕ) (x : Slot) (d r : ℕ) (h : Suits v 
       (λ j q. omega (arith, t .low j q, t .dir, h .inside))
       (record { at = upd-other (v .at) k x; bytes = upd-other (v .bytes) k bs; below = λ j n q. q })
 
--- ---- erase for a redirect
+-- ---- a slot becomes a redirect: for good, or while its record has no place
+
+redirect-suits : (v : View) (k id d : ℕ) → k < v .slotCount → isFree (v .at k) ≡ false → id < 2 ^ 62 → 12 + 8 * v .slotCount ≤ d → d ≤ 16384
+    → ((j : ℕ) → j ≢ k → 0 < len (v .at j) → d ≤ off (v .at j)) → Suits v k (Redirect id) d (v .freeSpace + len (v .at k))
+redirect-suits v k id d inside was small dir top others =
+    record {
+      inside = inside;
+      was = was;
+      is = refl;
+      codable = small;
+      target = λ e. let z : _≡_ {A = ℕ} 0 1 = cc in omega arith;
+      apart = λ j n a. absurd (omega arith);
+      high = omega arith;
+      dir = dir;
+      top = top;
+      others = others;
+      own = λ a. absurd (omega arith);
+      freeSpace = omega arith;
+    }
+
+pub park-suits : (v : View) → Sound v → (k : ℕ) → k < v .slotCount → isFree (v .at k) ≡ false → Suits v k (Redirect 0) (parked v k .dataStart) (parked v k .freeSpace)
+park-suits v s k inside was = redirect-suits v k 0 (v .dataStart) inside was (omega arith) (s .dir) (s .start≤) (λ j q a. s .low j a)
 
 module _ (v : View) (s : Sound v) (k : ℕ) (inside : k < v .slotCount) (was : isFree (v .at k) ≡ false) (id : ℕ) (small : id < 2 ^ 62) where
-  redirect-suits : Suits v k (Redirect id) (redirected v k id .dataStart) (redirected v k id .freeSpace)
-  redirect-suits =
-      record {
-        inside = inside;
-        was = was;
-        is = refl;
-        codable = small;
-        target = λ e. let z : _≡_ {A = ℕ} 0 1 = cc in omega arith;
-        apart = λ j n a. absurd (omega arith);
-        high = omega arith;
-        dir = omega (arith, s .dir, start-up v s k inside was);
-        top = start-end v s k inside was;
-        others = start-low v s k inside was;
-        own = λ a. absurd (omega arith);
-        freeSpace = omega arith;
-      }
-
   pub redirect-exact : (p : List ℕ) → Shows p v → Exact p (eraseForRedirect v k id)
   unfolding eraseForRedirect
-  redirect-exact p shows = slot-exact v s k (Redirect id) (redirected v k id .dataStart) (redirected v k id .freeSpace) redirect-suits [] refl p shows
+  redirect-exact p shows = slot-exact v s k (Redirect id) (redirected v k id .dataStart) (redirected v k id .freeSpace)
+      (redirect-suits v k id (redirected v k id .dataStart) inside was small (omega (arith, s .dir, start-up v s k inside was)) (start-end v s k inside was) (start-low v s k inside was)) [] refl p shows
 
 -- ---- room is made, if it has to be
 

@@ -18,7 +18,7 @@ use Rattle.store.specs.Laws.Edits.{Only, shows-view, under-view, fill-vi
 use Rattle.store.specs.Laws.Views.{Sound, sound-fits, upd-same, upd-other}
 use Rattle.store.specs.Laws.Exact.{Exact, exact-then, length-run}
 use Rattle.store.specs.Laws.Compactify.{placed-is}
-use Rattle.store.specs.Laws.OneSlot.{Suits, slot-sound, slot-exact, under-exact, made-roomy}
+use Rattle.store.specs.Laws.OneSlot.{Suits, park-suits, slot-sound, slot-exact, under-exact, made-roomy}
 use Rattle.store.specs.declared.Slot.{Slot}
 use Rattle.store.specs.declared.Slot.the-variants.{Ordinary, Free, Redirect, Target}
 
@@ -74,25 +74,8 @@ module _ (p : List ℕ) (v : View) (whole : length p ≡ 16384) (seen : view p �
 
   -- parked: the page that room is made on
   module _ (free : isFree (v .at k) ≡ false) where
-    park-suits : Suits v k (Redirect 0) (parked v k .dataStart) (parked v k .freeSpace)
-    park-suits =
-        record {
-          inside = inside;
-          was = free;
-          is = refl;
-          codable = omega arith;
-          target = λ e. let z : _≡_ {A = ℕ} 0 1 = cc in omega arith;
-          apart = λ j n a. absurd (omega arith);
-          high = omega arith;
-          dir = s .dir;
-          top = s .start≤;
-          others = λ j q a. s .low j a;
-          own = λ a. absurd (omega arith);
-          freeSpace = omega arith;
-        }
-
     pub park-exact : Exact p (plan (commit k (parked v k) ∷ []) (parked v k))
-    park-exact = slot-exact v s k (Redirect 0) (parked v k .dataStart) (parked v k .freeSpace) park-suits [] refl p (shows-view p v whole seen)
+    park-exact = slot-exact v s k (Redirect 0) (parked v k .dataStart) (parked v k .freeSpace) (park-suits v s k inside free) [] refl p (shows-view p v whole seen)
 
   -- larger: parked, and put under data start
   module _ (n : ℕ) (kind : isRecord (v .at k) ≡ true) (free : isFree (v .at k) ≡ false) (more : len (v .at k) < n) (room : n - len (v .at k) ≤ v .freeSpace) where
