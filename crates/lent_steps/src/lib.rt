@@ -25,8 +25,10 @@ pub fn reserve_on(segment: &mut [u8], p: usize, size: usize) -> Place
 
 // Slot k's record, of page p, becomes these bytes, cut off or filled up with zeros to `size`; from a redirect too. A refusal changes nothing.
 pub fn rewrite_on(segment: &mut [u8], p: usize, k: usize, bytes: &[u8], size: usize) -> bool
-    requires { ⌜ (p * 16384 + 16384 ≤ length (now segment)) × (sound (seen (now segment) p) ≡ true) × (isFree (seen (now segment) p .at k) ≡ false) ⌝ }
-    ensures { λ r. ⌜ (now (segment .exit) ≡ relocatedOn (now (segment .entry)) p (refilled (relocate (seen (now (segment .entry)) p) k size) k (fit size (now (bytes .entry)))))
+    requires { ⌜ (p * 16384 + 16384 ≤ length (now segment)) × (sound (seen (now segment) p) ≡ true)
+        × (isFree (seen (now segment) p .at k) ≡ false) ⌝ }
+    ensures { λ r. ⌜ (now (segment .exit)
+        ≡ relocatedOn (now (segment .entry)) p (refilled (relocate (seen (now (segment .entry)) p) k size) k (fit size (now (bytes .entry)))))
         × (r ≡ wasMoved (relocate (seen (now (segment .entry)) p) k size)) ⌝ }
 {
     slotted_page::record::rewrite(&mut segment[p * 16384..(p + 1) * 16384], k, bytes, size)
@@ -34,8 +36,10 @@ pub fn rewrite_on(segment: &mut [u8], p: usize, k: usize, bytes: &[u8], size: us
 
 // Slot k's record keeps its bytes, cut off or filled up with zeros to `size`.
 pub fn resize_on(segment: &mut [u8], p: usize, k: usize, size: usize) -> bool
-    requires { ⌜ (p * 16384 + 16384 ≤ length (now segment)) × (sound (seen (now segment) p) ≡ true) × (isFree (seen (now segment) p .at k) ≡ false) ⌝ }
-    ensures { λ r. ⌜ (now (segment .exit) ≡ relocatedOn (now (segment .entry)) p (refilled (relocate (seen (now (segment .entry)) p) k size) k (fit size (seen (now (segment .entry)) p .bytes k))))
+    requires { ⌜ (p * 16384 + 16384 ≤ length (now segment)) × (sound (seen (now segment) p) ≡ true)
+        × (isFree (seen (now segment) p .at k) ≡ false) ⌝ }
+    ensures { λ r. ⌜ (now (segment .exit)
+        ≡ relocatedOn (now (segment .entry)) p (refilled (relocate (seen (now (segment .entry)) p) k size) k (fit size (seen (now (segment .entry)) p .bytes k))))
         × (r ≡ wasMoved (relocate (seen (now (segment .entry)) p) k size)) ⌝ }
 {
     slotted_page::record::resize(&mut segment[p * 16384..(p + 1) * 16384], k, size)
@@ -43,8 +47,10 @@ pub fn resize_on(segment: &mut [u8], p: usize, k: usize, size: usize) -> bool
 
 // A target's record becomes the id of its root and these bytes.
 pub fn rewrite_target_on(segment: &mut [u8], p: usize, k: usize, id: usize, bytes: &[u8]) -> bool
-    requires { ⌜ (p * 16384 + 16384 ≤ length (now segment)) × (sound (seen (now segment) p) ≡ true) × (isFree (seen (now segment) p .at k) ≡ false) × (length (now bytes) ≤ 16364) ⌝ }
-    ensures { λ r. ⌜ (now (segment .exit) ≡ relocatedOn (now (segment .entry)) p (refilled (relocate (seen (now (segment .entry)) p) k (length (now (bytes .entry)) + 8)) k (toBE 8 id ++ now (bytes .entry))))
+    requires { ⌜ (p * 16384 + 16384 ≤ length (now segment)) × (sound (seen (now segment) p) ≡ true) × (isFree (seen (now segment) p .at k) ≡ false)
+        × (length (now bytes) ≤ 16364) ⌝ }
+    ensures { λ r. ⌜ (now (segment .exit)
+        ≡ relocatedOn (now (segment .entry)) p (refilled (relocate (seen (now (segment .entry)) p) k (length (now (bytes .entry)) + 8)) k (toBE 8 id ++ now (bytes .entry))))
         × (r ≡ wasMoved (relocate (seen (now (segment .entry)) p) k (length (now (bytes .entry)) + 8))) ⌝ }
 {
     slotted_page::record::rewrite_target(&mut segment[p * 16384..(p + 1) * 16384], k, id, bytes)
@@ -52,8 +58,10 @@ pub fn rewrite_target_on(segment: &mut [u8], p: usize, k: usize, id: usize, byte
 
 // A target's record keeps its bytes behind the id of its root.
 pub fn resize_target_on(segment: &mut [u8], p: usize, k: usize, id: usize, size: usize) -> bool
-    requires { ⌜ (p * 16384 + 16384 ≤ length (now segment)) × (sound (seen (now segment) p) ≡ true) × (isFree (seen (now segment) p .at k) ≡ false) × (size ≤ 16364) ⌝ }
-    ensures { λ r. ⌜ (now (segment .exit) ≡ relocatedOn (now (segment .entry)) p (refilled (relocate (seen (now (segment .entry)) p) k (size + 8)) k (toBE 8 id ++ fit size (drop 8 (seen (now (segment .entry)) p .bytes k)))))
+    requires { ⌜ (p * 16384 + 16384 ≤ length (now segment)) × (sound (seen (now segment) p) ≡ true) × (isFree (seen (now segment) p .at k) ≡ false)
+        × (size ≤ 16364) ⌝ }
+    ensures { λ r. ⌜ (now (segment .exit)
+        ≡ relocatedOn (now (segment .entry)) p (refilled (relocate (seen (now (segment .entry)) p) k (size + 8)) k (toBE 8 id ++ fit size (drop 8 (seen (now (segment .entry)) p .bytes k)))))
         × (r ≡ wasMoved (relocate (seen (now (segment .entry)) p) k (size + 8))) ⌝ }
 {
     slotted_page::record::resize_target(&mut segment[p * 16384..(p + 1) * 16384], k, id, size)
@@ -61,7 +69,8 @@ pub fn resize_target_on(segment: &mut [u8], p: usize, k: usize, id: usize, size:
 
 // Slot k of page p, which is not free, is freed.
 pub fn erase_on(segment: &mut [u8], p: usize, k: usize)
-    requires { ⌜ (p * 16384 + 16384 ≤ length (now segment)) × (sound (seen (now segment) p) ≡ true) × (isFree (seen (now segment) p .at k) ≡ false) ⌝ }
+    requires { ⌜ (p * 16384 + 16384 ≤ length (now segment)) × (sound (seen (now segment) p) ≡ true)
+        × (isFree (seen (now segment) p .at k) ≡ false) ⌝ }
     ensures { λ _. ⌜ now (segment .exit) ≡ carriedOn (on p (erase (seen (now (segment .entry)) p) k)) (now (segment .entry)) ⌝ }
 {
     slotted_page::erase::erase(&mut segment[p * 16384..(p + 1) * 16384], k);
@@ -69,7 +78,8 @@ pub fn erase_on(segment: &mut [u8], p: usize, k: usize)
 
 // Slot k of page p, which is not free, becomes a redirect to the id.
 pub fn erase_for_redirect_on(segment: &mut [u8], p: usize, k: usize, id: usize)
-    requires { ⌜ (p * 16384 + 16384 ≤ length (now segment)) × (sound (seen (now segment) p) ≡ true) × (isFree (seen (now segment) p .at k) ≡ false) × (id < 2 ^ 62) ⌝ }
+    requires { ⌜ (p * 16384 + 16384 ≤ length (now segment)) × (sound (seen (now segment) p) ≡ true) × (isFree (seen (now segment) p .at k) ≡ false)
+        × (id < 2 ^ 62) ⌝ }
     ensures { λ _. ⌜ now (segment .exit) ≡ carriedOn (on p (eraseForRedirect (seen (now (segment .entry)) p) k id)) (now (segment .entry)) ⌝ }
 {
     slotted_page::erase::erase_for_redirect(&mut segment[p * 16384..(p + 1) * 16384], k, id);
@@ -77,7 +87,8 @@ pub fn erase_for_redirect_on(segment: &mut [u8], p: usize, k: usize, id: usize)
 
 // Slot k of page p, a redirect already, names this id: its entry alone.
 pub fn set_redirect_on(segment: &mut [u8], p: usize, k: usize, id: usize)
-    requires { ⌜ (p * 16384 + 16384 ≤ length (now segment)) × (sound (seen (now segment) p) ≡ true) × (isFree (seen (now segment) p .at k) ≡ false) × (id < 2 ^ 62) ⌝ }
+    requires { ⌜ (p * 16384 + 16384 ≤ length (now segment)) × (sound (seen (now segment) p) ≡ true) × (isFree (seen (now segment) p .at k) ≡ false)
+        × (id < 2 ^ 62) ⌝ }
     ensures { λ _. ⌜ now (segment .exit) ≡ carriedOn (on p (redirectPlan (seen (now (segment .entry)) p) k id)) (now (segment .entry)) ⌝ }
 {
     slotted_page::erase::set_redirect(&mut segment[p * 16384..(p + 1) * 16384], k, id);
@@ -87,7 +98,8 @@ pub fn set_redirect_on(segment: &mut [u8], p: usize, k: usize, id: usize)
 pub fn update_on(segment: &[u8], inventory: &mut [u8], p: usize)
     requires { ⌜ Room (now inventory) (length (now segment) / 16384) ⌝ }
     requires { ⌜ (p * 16384 + 16384 ≤ length (now segment)) × (view (pageOf (now segment) p) .freeSpace ≤ 16372) ⌝ }
-    ensures { λ _. ⌜ now (inventory .exit) ≡ update (now (inventory .entry)) (length (now (segment .entry)) / 16384) p (view (pageOf (now (segment .entry)) p) .freeSpace) ⌝ }
+    ensures { λ _. ⌜ now (inventory .exit)
+        ≡ update (now (inventory .entry)) (length (now (segment .entry)) / 16384) p (view (pageOf (now (segment .entry)) p) .freeSpace) ⌝ }
 {
     let n = segment.len() / 16384;
     let free = lent_pages::free_space_on(segment, p);

@@ -67,7 +67,8 @@ fn put_under(page: &mut [u8], k: usize, s: Slot, size: usize) -> usize
 
 // "Smaller: the length only, and the offset stays."
 fn shrink(page: &mut [u8], k: usize, s: Slot, size: usize)
-    requires { ⌜ (length (now page) ≡ 16384) × Sound (view (now page)) × (k < view (now page) .slotCount) × (s ≡ view (now page) .at k) × (isRecord s ≡ true) × (size < len s) ⌝ }
+    requires { ⌜ (length (now page) ≡ 16384) × Sound (view (now page)) × (k < view (now page) .slotCount) × (s ≡ view (now page) .at k)
+        × (isRecord s ≡ true) × (size < len s) ⌝ }
     ensures { λ _. ⌜ now (page .exit) ≡ run (unfilled (shrinkPlan (view (now (page .entry))) k size .edits)) (now (page .entry)) ⌝ }
 {
     let c = layout::header::get_slot_count(page);
@@ -82,7 +83,9 @@ fn shrink(page: &mut [u8], k: usize, s: Slot, size: usize)
 // Slot k is a redirect to 0 while its record of len bytes has no place.
 fn park(page: &mut [u8], k: usize, len: usize)
     requires { ⌜ (length (now page) ≡ 16384) × Sound (view (now page)) × (k < view (now page) .slotCount) × (len ≤ 16384) ⌝ }
-    ensures { λ _. ⌜ now (page .exit) ≡ put (put (now (page .entry)) 0 (headOf (view (now (page .entry)) .slotCount) (view (now (page .entry)) .firstFree) (view (now (page .entry)) .dataStart) (view (now (page .entry)) .freeSpace + len))) (12 + 8 * k) (slotBytes (Slot.Redirect 0)) ⌝ }
+    ensures { λ _. ⌜ now (page .exit)
+        ≡ put (put (now (page .entry)) 0 (headOf (view (now (page .entry)) .slotCount) (view (now (page .entry)) .firstFree)
+        (view (now (page .entry)) .dataStart) (view (now (page .entry)) .freeSpace + len))) (12 + 8 * k) (slotBytes (Slot.Redirect 0)) ⌝ }
 {
     let c = layout::header::get_slot_count(page);
     let f = layout::header::get_first_free_slot(page);
@@ -93,7 +96,8 @@ fn park(page: &mut [u8], k: usize, len: usize)
 
 // Slot k's record s gets room for `size` bytes; its place.
 fn resize_slot(page: &mut [u8], k: usize, s: Slot, size: usize) -> Place
-    requires { ⌜ (length (now page) ≡ 16384) × Sound (view (now page)) × (k < view (now page) .slotCount) × (s ≡ view (now page) .at k) × (isRecord s ≡ true) ⌝ }
+    requires { ⌜ (length (now page) ≡ 16384) × Sound (view (now page)) × (k < view (now page) .slotCount) × (s ≡ view (now page) .at k)
+        × (isRecord s ≡ true) ⌝ }
     ensures { λ r. ⌜ (now (page .exit) ≡ pageBare (allocOf k (resized (view (now (page .entry))) k size)) (now (page .entry)))
         × (r ≡ placeOf (allocOf k (resized (view (now (page .entry))) k size))) × Inside r size ⌝ }
 {

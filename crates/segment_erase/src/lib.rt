@@ -11,12 +11,15 @@ ghost use Rattle.store.specs.Page.{sound};
 ghost use Rattle.store.specs.Segment.{segView, result, eraseBy, eraseStep};
 ghost use Rattle.store.specs.Answers.{outcome};
 ghost use Rattle.lent_steps.specs.After.{Sizes};
+ghost use Rattle.lent_steps.specs.Words.{seen};
 
 // The record of an ordinary slot, wherever it lies.
 fn erase_ordinary(segment: &mut [u8], inventory: &mut [u8], id: usize) -> Answer
     requires { ⌜ Sizes (now segment) (now inventory) ⌝ }
-    requires { ⌜ (pageNo id * 16384 + 16384 ≤ length (now segment)) × (sound (segView (now segment) .page (pageNo id)) ≡ true) × (isFree (segView (now segment) .page (pageNo id) .at (slotNo id)) ≡ false) ⌝ }
-    ensures { λ r. ⌜ outcome r (now (segment .exit)) (now (inventory .exit)) ≡ result (now (segment .entry)) (eraseBy (segView (now (segment .entry))) (now (inventory .entry)) id (Slot.Ordinary 0 0)) ⌝ }
+    requires { ⌜ (pageNo id * 16384 + 16384 ≤ length (now segment)) × (sound (seen (now segment) (pageNo id)) ≡ true)
+        × (isFree (seen (now segment) (pageNo id) .at (slotNo id)) ≡ false) ⌝ }
+    ensures { λ r. ⌜ outcome r (now (segment .exit)) (now (inventory .exit))
+        ≡ result (now (segment .entry)) (eraseBy (segView (now (segment .entry))) (now (inventory .entry)) id (Slot.Ordinary 0 0)) ⌝ }
 {
     let p = id / 65536;
     lent_steps::erase_on(segment, p, id % 65536);
@@ -27,8 +30,10 @@ fn erase_ordinary(segment: &mut [u8], inventory: &mut [u8], id: usize) -> Answer
 // A redirect to t and its target, of which the inventory is told first.
 fn erase_forwarded(segment: &mut [u8], inventory: &mut [u8], id: usize, t: usize) -> Answer
     requires { ⌜ Sizes (now segment) (now inventory) ⌝ }
-    requires { ⌜ (pageNo id * 16384 + 16384 ≤ length (now segment)) × (sound (segView (now segment) .page (pageNo id)) ≡ true) × (segView (now segment) .page (pageNo id) .at (slotNo id) ≡ Slot.Redirect t) ⌝ }
-    ensures { λ r. ⌜ outcome r (now (segment .exit)) (now (inventory .exit)) ≡ result (now (segment .entry)) (eraseBy (segView (now (segment .entry))) (now (inventory .entry)) id (Slot.Redirect t)) ⌝ }
+    requires { ⌜ (pageNo id * 16384 + 16384 ≤ length (now segment)) × (sound (seen (now segment) (pageNo id)) ≡ true)
+        × (seen (now segment) (pageNo id) .at (slotNo id) ≡ Slot.Redirect t) ⌝ }
+    ensures { λ r. ⌜ outcome r (now (segment .exit)) (now (inventory .exit))
+        ≡ result (now (segment .entry)) (eraseBy (segView (now (segment .entry))) (now (inventory .entry)) id (Slot.Redirect t)) ⌝ }
 {
     if !lent_pages::points_back(segment, id, t) {
         return Answer::Damaged;

@@ -18,6 +18,7 @@ ghost use Rattle.store.specs.Segment.{segView, find, result, pointsBack, forwar
 ghost use Rattle.store.specs.Answers.{outcome};
 ghost use Rattle.slotted_page.specs.Words.{wasMoved};
 ghost use Rattle.lent_steps.specs.After.{Sizes};
+ghost use Rattle.lent_steps.specs.Words.{seen};
 ghost use Rattle.segment_forward.specs.Words.{rootOrOld, newTarget};
 
 // The search that both forwardings make: the new target's id, with its page written and the inventory not told yet; or 7, 4, 8. "The page
@@ -32,7 +33,9 @@ fn place_target(
 ) -> Answer
     requires { ⌜ Sizes (now segment) (now inventory) ⌝ }
     requires { ⌜ size ≤ 16364 ⌝ }
-    ensures { λ r. ⌜ outcome r (now (segment .exit)) (now (inventory .entry)) ≡ result (now (segment .entry)) (newTarget (now (inventory .entry)) id (fit size (now (bytes .entry))) (find foundIn (segView (now (segment .entry))) (now (inventory .entry)) (size + 8) (rootOrOld id old))) ⌝ }
+    ensures { λ r. ⌜ outcome r (now (segment .exit)) (now (inventory .entry))
+        ≡ result (now (segment .entry)) (newTarget (now (inventory .entry)) id (fit size (now (bytes .entry)))
+        (find foundIn (segView (now (segment .entry))) (now (inventory .entry)) (size + 8) (rootOrOld id old))) ⌝ }
 {
     let named = free_space_inventory::find_page(inventory, segment.len() / 16384, size + 16);
     let Named::At { page } = named else {
@@ -73,8 +76,11 @@ pub fn forward(
     size: usize,
 ) -> Answer
     requires { ⌜ Sizes (now segment) (now inventory) ⌝ }
-    requires { ⌜ (pageNo id * 16384 + 16384 ≤ length (now segment)) × (sound (segView (now segment) .page (pageNo id)) ≡ true) × (isFree (segView (now segment) .page (pageNo id) .at (slotNo id)) ≡ false) × (size ≤ 16364) ⌝ }
-    ensures { λ r. ⌜ outcome r (now (segment .exit)) (now (inventory .exit)) ≡ result (now (segment .entry)) (forwarded (segView (now (segment .entry))) (now (inventory .entry)) id size (λ o. fit size (now (bytes .entry))) [] (find foundIn (segView (now (segment .entry))) (now (inventory .entry)) (size + 8) (λ p. eqb p (pageNo id)))) ⌝ }
+    requires { ⌜ (pageNo id * 16384 + 16384 ≤ length (now segment)) × (sound (seen (now segment) (pageNo id)) ≡ true)
+        × (isFree (seen (now segment) (pageNo id) .at (slotNo id)) ≡ false) × (size ≤ 16364) ⌝ }
+    ensures { λ r. ⌜ outcome r (now (segment .exit)) (now (inventory .exit))
+        ≡ result (now (segment .entry)) (forwarded (segView (now (segment .entry))) (now (inventory .entry)) id size (λ o. fit size (now (bytes .entry))) []
+        (find foundIn (segView (now (segment .entry))) (now (inventory .entry)) (size + 8) (λ p. eqb p (pageNo id)))) ⌝ }
 {
     let placed = place_target(segment, inventory, id, id, bytes, size);
     let Answer::Done { id: target } = placed else {
@@ -97,8 +103,11 @@ pub fn forward_again(
     size: usize,
 ) -> Answer
     requires { ⌜ Sizes (now segment) (now inventory) ⌝ }
-    requires { ⌜ (pageNo id * 16384 + 16384 ≤ length (now segment)) × (sound (segView (now segment) .page (pageNo id)) ≡ true) × (segView (now segment) .page (pageNo id) .at (slotNo id) ≡ Slot.Redirect t) × (pointsBack (segView (now segment)) id t ≡ true) × (size ≤ 16364) ⌝ }
-    ensures { λ r. ⌜ outcome r (now (segment .exit)) (now (inventory .exit)) ≡ result (now (segment .entry)) (forwardedAgain (segView (now (segment .entry))) (now (inventory .entry)) id size (λ o. fit size (now (bytes .entry))) t [] (find foundIn (segView (now (segment .entry))) (now (inventory .entry)) (size + 8) (λ p. eqb p (pageNo id) || eqb p (pageNo t)))) ⌝ }
+    requires { ⌜ (pageNo id * 16384 + 16384 ≤ length (now segment)) × (sound (seen (now segment) (pageNo id)) ≡ true)
+        × (seen (now segment) (pageNo id) .at (slotNo id) ≡ Slot.Redirect t) × (pointsBack (segView (now segment)) id t ≡ true) × (size ≤ 16364) ⌝ }
+    ensures { λ r. ⌜ outcome r (now (segment .exit)) (now (inventory .exit))
+        ≡ result (now (segment .entry)) (forwardedAgain (segView (now (segment .entry))) (now (inventory .entry)) id size (λ o. fit size (now (bytes .entry))) t []
+        (find foundIn (segView (now (segment .entry))) (now (inventory .entry)) (size + 8) (λ p. eqb p (pageNo id) || eqb p (pageNo t)))) ⌝ }
 {
     let placed = place_target(segment, inventory, id, t, bytes, size);
     let Answer::Done { id: new_target } = placed else {
@@ -121,10 +130,15 @@ pub fn at_home(
     size: usize,
 ) -> bool
     requires { ⌜ Sizes (now segment) (now inventory) ⌝ }
-    requires { ⌜ (pageNo id * 16384 + 16384 ≤ length (now segment)) × (sound (segView (now segment) .page (pageNo id)) ≡ true) × (segView (now segment) .page (pageNo id) .at (slotNo id) ≡ Slot.Redirect t) × (pointsBack (segView (now segment)) id t ≡ true) × (size ≤ 16364) ⌝ }
-    ensures { λ r. ⌜ (r ≡ wasMoved (relocate (segView (now (segment .entry)) .page (pageNo id)) (slotNo id) size))
-        × (wasMoved (relocate (segView (now (segment .entry)) .page (pageNo id)) (slotNo id) size) ≡ false → (now (segment .exit) ≡ now (segment .entry)) × (now (inventory .exit) ≡ now (inventory .entry)))
-        × (wasMoved (relocate (segView (now (segment .entry)) .page (pageNo id)) (slotNo id) size) ≡ true → outcome (Answer.Done id) (now (segment .exit)) (now (inventory .exit)) ≡ result (now (segment .entry)) (atHome (segView (now (segment .entry))) (now (inventory .entry)) id size (λ o. fit size (now (bytes .entry))) t [] (relocate (segView (now (segment .entry)) .page (pageNo id)) (slotNo id) size))) ⌝ }
+    requires { ⌜ (pageNo id * 16384 + 16384 ≤ length (now segment)) × (sound (seen (now segment) (pageNo id)) ≡ true)
+        × (seen (now segment) (pageNo id) .at (slotNo id) ≡ Slot.Redirect t) × (pointsBack (segView (now segment)) id t ≡ true) × (size ≤ 16364) ⌝ }
+    ensures { λ r. ⌜ (r ≡ wasMoved (relocate (seen (now (segment .entry)) (pageNo id)) (slotNo id) size))
+        × (wasMoved (relocate (seen (now (segment .entry)) (pageNo id)) (slotNo id) size) ≡ false
+        → (now (segment .exit) ≡ now (segment .entry)) × (now (inventory .exit) ≡ now (inventory .entry)))
+        × (wasMoved (relocate (seen (now (segment .entry)) (pageNo id)) (slotNo id) size) ≡ true
+        → outcome (Answer.Done id) (now (segment .exit)) (now (inventory .exit))
+        ≡ result (now (segment .entry)) (atHome (segView (now (segment .entry))) (now (inventory .entry)) id size (λ o. fit size (now (bytes .entry))) t []
+        (relocate (seen (now (segment .entry)) (pageNo id)) (slotNo id) size))) ⌝ }
 {
     if !lent_steps::rewrite_on(segment, id / 65536, id % 65536, bytes, size) {
         return false;

@@ -22,7 +22,8 @@ fn insert_at(
 ) -> Answer
     requires { ⌜ Sizes (now segment) (now inventory) ⌝ }
     requires { ⌜ (p * 16384 + 16384 ≤ length (now segment)) × (size ≤ 16364) ⌝ }
-    ensures { λ r. ⌜ outcome r (now (segment .exit)) (now (inventory .exit)) ≡ insertOn (now (segment .entry)) (now (inventory .entry)) (fit size (now (bytes .entry))) p ⌝ }
+    ensures { λ r. ⌜ outcome r (now (segment .exit)) (now (inventory .exit))
+        ≡ insertOn (now (segment .entry)) (now (inventory .entry)) (fit size (now (bytes .entry))) p ⌝ }
 {
     if !lent_pages::page_sound(segment, p) {
         return Answer::Damaged;

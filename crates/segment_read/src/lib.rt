@@ -39,7 +39,8 @@ fn follow(segment: &[u8], i: usize, t: usize) -> Reading
 
 // The record of id i by its own slot, on a page that is sound. "Reading a target's own id gives its data, as the Rust does."
 fn read_slot(segment: &[u8], i: usize, s: Slot) -> Reading
-    requires { ⌜ (pageNo i * 16384 + 16384 ≤ length (now segment)) × (sound (segView (now segment) .page (pageNo i)) ≡ true) × (s ≡ segView (now segment) .page (pageNo i) .at (slotNo i)) ⌝ }
+    requires { ⌜ (pageNo i * 16384 + 16384 ≤ length (now segment)) × (sound (segView (now segment) .page (pageNo i)) ≡ true)
+        × (s ≡ segView (now segment) .page (pageNo i) .at (slotNo i)) ⌝ }
     ensures { λ r. ⌜ located r ≡ locateBy (segView (now (segment .entry))) i s ⌝ }
 {
     match s {

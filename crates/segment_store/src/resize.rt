@@ -10,6 +10,7 @@ ghost use Rattle.store.specs.Page.{sound};
 ghost use Rattle.store.specs.Segment.{segView, result, pointsBack, storeBy, resizeStep};
 ghost use Rattle.store.specs.Answers.{outcome};
 ghost use Rattle.lent_steps.specs.After.{Sizes};
+ghost use Rattle.lent_steps.specs.Words.{seen};
 
 // The record of an ordinary slot, which lies at this offset of its page.
 fn resize_ordinary(
@@ -21,8 +22,10 @@ fn resize_ordinary(
     size: usize,
 ) -> Answer
     requires { ⌜ Sizes (now segment) (now inventory) ⌝ }
-    requires { ⌜ (pageNo id * 16384 + 16384 ≤ length (now segment)) × (sound (segView (now segment) .page (pageNo id)) ≡ true) × (segView (now segment) .page (pageNo id) .at (slotNo id) ≡ Slot.Ordinary offset n) × (size ≤ 16364) ⌝ }
-    ensures { λ r. ⌜ outcome r (now (segment .exit)) (now (inventory .exit)) ≡ result (now (segment .entry)) (storeBy (segView (now (segment .entry))) (now (inventory .entry)) id size (fit size) (Slot.Ordinary offset n)) ⌝ }
+    requires { ⌜ (pageNo id * 16384 + 16384 ≤ length (now segment)) × (sound (seen (now segment) (pageNo id)) ≡ true)
+        × (seen (now segment) (pageNo id) .at (slotNo id) ≡ Slot.Ordinary offset n) × (size ≤ 16364) ⌝ }
+    ensures { λ r. ⌜ outcome r (now (segment .exit)) (now (inventory .exit))
+        ≡ result (now (segment .entry)) (storeBy (segView (now (segment .entry))) (now (inventory .entry)) id size (fit size) (Slot.Ordinary offset n)) ⌝ }
 {
     if lent_steps::resize_on(segment, id / 65536, id % 65536, size) {
         lent_steps::update_on(segment, inventory, id / 65536);
@@ -43,9 +46,11 @@ fn resize_saved(
     size: usize,
 ) -> Answer
     requires { ⌜ Sizes (now segment) (now inventory) ⌝ }
-    requires { ⌜ (pageNo id * 16384 + 16384 ≤ length (now segment)) × (sound (segView (now segment) .page (pageNo id)) ≡ true) × (segView (now segment) .page (pageNo id) .at (slotNo id) ≡ Slot.Redirect t)
-        × (pointsBack (segView (now segment)) id t ≡ true) × (size ≤ 16364) × (now old ≡ drop 8 (segView (now segment) .page (pageNo t) .bytes (slotNo t))) ⌝ }
-    ensures { λ r. ⌜ outcome r (now (segment .exit)) (now (inventory .exit)) ≡ result (now (segment .entry)) (storeBy (segView (now (segment .entry))) (now (inventory .entry)) id size (fit size) (Slot.Redirect t)) ⌝ }
+    requires { ⌜ (pageNo id * 16384 + 16384 ≤ length (now segment)) × (sound (seen (now segment) (pageNo id)) ≡ true)
+        × (seen (now segment) (pageNo id) .at (slotNo id) ≡ Slot.Redirect t)
+        × (pointsBack (segView (now segment)) id t ≡ true) × (size ≤ 16364) × (now old ≡ drop 8 (seen (now segment) (pageNo t) .bytes (slotNo t))) ⌝ }
+    ensures { λ r. ⌜ outcome r (now (segment .exit)) (now (inventory .exit))
+        ≡ result (now (segment .entry)) (storeBy (segView (now (segment .entry))) (now (inventory .entry)) id size (fit size) (Slot.Redirect t)) ⌝ }
 {
     if segment_forward::at_home(segment, inventory, id, t, old, size) {
         return Answer::Done { id };
@@ -68,9 +73,12 @@ fn resize_target(
     size: usize,
 ) -> Answer
     requires { ⌜ Sizes (now segment) (now inventory) ⌝ }
-    requires { ⌜ (pageNo id * 16384 + 16384 ≤ length (now segment)) × (sound (segView (now segment) .page (pageNo id)) ≡ true) × (segView (now segment) .page (pageNo id) .at (slotNo id) ≡ Slot.Redirect t)
-        × (pointsBack (segView (now segment)) id t ≡ true) × (size ≤ 16364) × (at + n ≤ length (now segment)) × (n ≤ 16384) × (cut (now segment) at n ≡ drop 8 (segView (now segment) .page (pageNo t) .bytes (slotNo t))) ⌝ }
-    ensures { λ r. ⌜ outcome r (now (segment .exit)) (now (inventory .exit)) ≡ result (now (segment .entry)) (storeBy (segView (now (segment .entry))) (now (inventory .entry)) id size (fit size) (Slot.Redirect t)) ⌝ }
+    requires { ⌜ (pageNo id * 16384 + 16384 ≤ length (now segment)) × (sound (seen (now segment) (pageNo id)) ≡ true)
+        × (seen (now segment) (pageNo id) .at (slotNo id) ≡ Slot.Redirect t)
+        × (pointsBack (segView (now segment)) id t ≡ true) × (size ≤ 16364) × (at + n ≤ length (now segment)) × (n ≤ 16384)
+        × (cut (now segment) at n ≡ drop 8 (seen (now segment) (pageNo t) .bytes (slotNo t))) ⌝ }
+    ensures { λ r. ⌜ outcome r (now (segment .exit)) (now (inventory .exit))
+        ≡ result (now (segment .entry)) (storeBy (segView (now (segment .entry))) (now (inventory .entry)) id size (fit size) (Slot.Redirect t)) ⌝ }
 {
     let mut old = [0u8; 16384];
     layout::save(segment, at, n, &mut old);
@@ -86,8 +94,10 @@ fn resize_forwarded(
     size: usize,
 ) -> Answer
     requires { ⌜ Sizes (now segment) (now inventory) ⌝ }
-    requires { ⌜ (pageNo id * 16384 + 16384 ≤ length (now segment)) × (sound (segView (now segment) .page (pageNo id)) ≡ true) × (segView (now segment) .page (pageNo id) .at (slotNo id) ≡ Slot.Redirect t) × (size ≤ 16364) ⌝ }
-    ensures { λ r. ⌜ outcome r (now (segment .exit)) (now (inventory .exit)) ≡ result (now (segment .entry)) (storeBy (segView (now (segment .entry))) (now (inventory .entry)) id size (fit size) (Slot.Redirect t)) ⌝ }
+    requires { ⌜ (pageNo id * 16384 + 16384 ≤ length (now segment)) × (sound (seen (now segment) (pageNo id)) ≡ true)
+        × (seen (now segment) (pageNo id) .at (slotNo id) ≡ Slot.Redirect t) × (size ≤ 16364) ⌝ }
+    ensures { λ r. ⌜ outcome r (now (segment .exit)) (now (inventory .exit))
+        ≡ result (now (segment .entry)) (storeBy (segView (now (segment .entry))) (now (inventory .entry)) id size (fit size) (Slot.Redirect t)) ⌝ }
 {
     if !lent_pages::points_back(segment, id, t) {
         return Answer::Damaged;

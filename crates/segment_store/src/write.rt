@@ -11,13 +11,16 @@ ghost use Rattle.store.specs.Page.{sound};
 ghost use Rattle.store.specs.Segment.{segView, result, storeBy, writeStep};
 ghost use Rattle.store.specs.Answers.{outcome};
 ghost use Rattle.lent_steps.specs.After.{Sizes};
+ghost use Rattle.lent_steps.specs.Words.{seen};
 
 // The record of an ordinary slot, wherever it lies: "the root page first", then a new target.
 fn write_ordinary(segment: &mut [u8], inventory: &mut [u8], id: usize, bytes: &[u8]) -> Answer
     requires { ⌜ Sizes (now segment) (now inventory) ⌝ }
-    requires { ⌜ (pageNo id * 16384 + 16384 ≤ length (now segment)) × (sound (segView (now segment) .page (pageNo id)) ≡ true) × (isFree (segView (now segment) .page (pageNo id) .at (slotNo id)) ≡ false)
-        × (isTarget (segView (now segment) .page (pageNo id) .at (slotNo id)) ≡ false) × (length (now bytes) ≤ 16364) ⌝ }
-    ensures { λ r. ⌜ outcome r (now (segment .exit)) (now (inventory .exit)) ≡ result (now (segment .entry)) (storeBy (segView (now (segment .entry))) (now (inventory .entry)) id (length (now (bytes .entry))) (λ old. now (bytes .entry)) (Slot.Ordinary 0 0)) ⌝ }
+    requires { ⌜ (pageNo id * 16384 + 16384 ≤ length (now segment)) × (sound (seen (now segment) (pageNo id)) ≡ true)
+        × (isFree (seen (now segment) (pageNo id) .at (slotNo id)) ≡ false)
+        × (isTarget (seen (now segment) (pageNo id) .at (slotNo id)) ≡ false) × (length (now bytes) ≤ 16364) ⌝ }
+    ensures { λ r. ⌜ outcome r (now (segment .exit)) (now (inventory .exit))
+        ≡ result (now (segment .entry)) (storeBy (segView (now (segment .entry))) (now (inventory .entry)) id (length (now (bytes .entry))) (λ old. now (bytes .entry)) (Slot.Ordinary 0 0)) ⌝ }
 {
     if lent_steps::rewrite_on(segment, id / 65536, id % 65536, bytes, bytes.len()) {
         lent_steps::update_on(segment, inventory, id / 65536);
@@ -35,9 +38,11 @@ fn write_forwarded(
     bytes: &[u8],
 ) -> Answer
     requires { ⌜ Sizes (now segment) (now inventory) ⌝ }
-    requires { ⌜ (pageNo id * 16384 + 16384 ≤ length (now segment)) × (sound (segView (now segment) .page (pageNo id)) ≡ true) × (segView (now segment) .page (pageNo id) .at (slotNo id) ≡ Slot.Redirect t)
+    requires { ⌜ (pageNo id * 16384 + 16384 ≤ length (now segment)) × (sound (seen (now segment) (pageNo id)) ≡ true)
+        × (seen (now segment) (pageNo id) .at (slotNo id) ≡ Slot.Redirect t)
         × (length (now bytes) ≤ 16364) ⌝ }
-    ensures { λ r. ⌜ outcome r (now (segment .exit)) (now (inventory .exit)) ≡ result (now (segment .entry)) (storeBy (segView (now (segment .entry))) (now (inventory .entry)) id (length (now (bytes .entry))) (λ old. now (bytes .entry)) (Slot.Redirect t)) ⌝ }
+    ensures { λ r. ⌜ outcome r (now (segment .exit)) (now (inventory .exit))
+        ≡ result (now (segment .entry)) (storeBy (segView (now (segment .entry))) (now (inventory .entry)) id (length (now (bytes .entry))) (λ old. now (bytes .entry)) (Slot.Redirect t)) ⌝ }
 {
     if !lent_pages::points_back(segment, id, t) {
         return Answer::Damaged;
