@@ -72,12 +72,12 @@ impl Store for LentStore {
         self.inventory.copy_from_slice(inventory);
     }
 
-    fn segment(&self) -> &[u8] {
-        &self.segment
+    fn bytes(&self) -> (&[u8], &[u8]) {
+        (&self.segment, &self.inventory)
     }
 
-    fn inventory(&self) -> &[u8] {
-        &self.inventory
+    fn bytes_mut(&mut self) -> (&mut [u8], &mut [u8]) {
+        (&mut self.segment, &mut self.inventory)
     }
 
     fn insert_record(&mut self, record: &[u8]) -> (Answer, u64) {

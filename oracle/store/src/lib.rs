@@ -48,9 +48,25 @@ pub struct Found {
 /// length; both are 0 where the call is refused. A scan goes to its end and gives the
 /// records before it, and the answer it ended with.
 pub trait Store {
-    fn load(&mut self, segment: &[u8], inventory: &[u8]);
-    fn segment(&self) -> &[u8];
-    fn inventory(&self) -> &[u8];
+    /// Segment and inventory, as the last call left them.
+    fn bytes(&self) -> (&[u8], &[u8]);
+    /// The same, for `load`.
+    fn bytes_mut(&mut self) -> (&mut [u8], &mut [u8]);
+
+    fn load(&mut self, segment: &[u8], inventory: &[u8]) {
+        let (old_segment, old_inventory) = self.bytes_mut();
+        old_segment.copy_from_slice(segment);
+        old_inventory.copy_from_slice(inventory);
+    }
+
+    fn segment(&self) -> &[u8] {
+        self.bytes().0
+    }
+
+    fn inventory(&self) -> &[u8] {
+        self.bytes().1
+    }
+
     fn insert_record(&mut self, record: &[u8]) -> (Answer, u64);
     fn allocate(&mut self, size: u64) -> (Answer, u64);
     fn get_record(&mut self, id: u64) -> (Answer, u64, u64);
