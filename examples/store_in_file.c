@@ -50,9 +50,9 @@ static void print(const struct store *s, uint64_t id, uint64_t offset, uint64_t 
 }
 
 static uint64_t list(const struct store *s) {
-    uint64_t place = 0, found = 1, id, offset, length, answer = HK_DONE;
+    uint64_t position = 0, found = 1, id, offset, length, answer = HK_DONE;
     while (found) {
-        answer = hk_scan_step(s->segment, s->length, &place, &found, &id, &offset, &length);
+        answer = hk_scan_step(s->segment, s->length, &position, &found, &id, &offset, &length);
         if (found) print(s, id, offset, length);
     }
     return answer;

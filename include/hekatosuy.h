@@ -24,12 +24,12 @@
  *         size_t length = 4 * HK_PAGE_SIZE;
  *         uint8_t *segment = (uint8_t *)calloc(4, HK_PAGE_SIZE), *inventory = (uint8_t *)calloc(1, HK_PAGE_SIZE);
  *         const uint8_t row[] = {3, 1, 4};
- *         uint64_t id, offset, size, found, place = 0;
+ *         uint64_t id, offset, size, found, position = 0;
  *         if (segment == NULL || inventory == NULL) return 1;
  *         if (hk_insert_record(segment, length, inventory, HK_PAGE_SIZE, row, sizeof row, &id) != HK_DONE) return 1;
  *         if (hk_get_record(segment, length, id, &offset, &size) != HK_DONE) return 1;
  *         printf("the last of %d bytes is %d\n", (int)size, segment[offset + size - 1]);
- *         while (hk_scan_step(segment, length, &place, &found, &id, &offset, &size) == HK_DONE && found)
+ *         while (hk_scan_step(segment, length, &position, &found, &id, &offset, &size) == HK_DONE && found)
  *             printf("page %d slot %d: %d bytes\n", (int)(id / 65536), (int)(id % 65536), (int)size);
  *         return 0;
  *     }
@@ -95,17 +95,17 @@ uint64_t hk_resize_record(uint8_t *segment, size_t segment_length, uint8_t *inve
 uint64_t hk_erase_record(uint8_t *segment, size_t segment_length, uint8_t *inventory, size_t inventory_length, uint64_t id);
 
 /*
- * The next record of a scan. `place` is 0 at first and afterwards what the last step left there. With a record `found` is 1, and id,
+ * The next record of a scan. `position` is 0 at first and afterwards what the last step left there. With a record `found` is 1, and id,
  * offset and length are those of the record, as hk_get_record tells them. Without one all four are 0 and the scan is over: at the end if
  * the answer is 0; a segment of wrong size answers 1, and a damaged page 4 when the scan reaches it. Every further step over the same
  * segment answers 0 without a record, and after 1 or 4 over any segment.
  *
- * A place is a page and a slot of it and nothing more. Who writes between two steps lets the scan go on from there over what stands then: a
+ * A position is a page and a slot of it and nothing more. Who writes between two steps lets the scan go on from there over what stands then: a
  * record that has moved meanwhile, by being forwarded or coming home, may come twice or not at all, a new one comes if it lies ahead, and
  * a scan that has reached the end goes on if it is lent more pages. The page it stands in is not checked again; a record that does not lie
  * as on a sound page answers 4.
  */
-uint64_t hk_scan_step(const uint8_t *segment, size_t segment_length, uint64_t *place, uint64_t *found, uint64_t *id,
+uint64_t hk_scan_step(const uint8_t *segment, size_t segment_length, uint64_t *position, uint64_t *found, uint64_t *id,
                       uint64_t *offset, uint64_t *length);
 
 #ifdef __cplusplus

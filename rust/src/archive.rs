@@ -51,7 +51,7 @@ extern "C" {
     fn hk_scan_step(
         segment: *const u8,
         segment_len: usize,
-        place: *mut u64,
+        position: *mut u64,
         found: *mut u64,
         id: *mut u64,
         offset: *mut u64,

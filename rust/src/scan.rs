@@ -13,12 +13,12 @@ use std::iter::FusedIterator;
 #[derive(Clone)]
 pub struct SlottedPageScan<'a> {
     segment: &'a [u8],
-    place: u64,
+    position: u64,
 }
 
 impl<'a> SlottedPageScan<'a> {
     pub(crate) fn new(segment: &'a [u8]) -> SlottedPageScan<'a> {
-        SlottedPageScan { segment, place: 0 }
+        SlottedPageScan { segment, position: 0 }
     }
 }
 
@@ -26,7 +26,7 @@ impl<'a> Iterator for SlottedPageScan<'a> {
     type Item = Result<(Rid, &'a [u8]), Refusal>;
 
     fn next(&mut self) -> Option<Self::Item> {
-        let step = archive::scan_step(self.segment, &mut self.place);
+        let step = archive::scan_step(self.segment, &mut self.position);
         match Refusal::of_answer(step.answer) {
             Err(refusal) => Some(Err(refusal)),
             Ok(()) if step.found == 0 => None,
@@ -38,12 +38,12 @@ impl<'a> Iterator for SlottedPageScan<'a> {
 /// A scan that is over stays over.
 impl FusedIterator for SlottedPageScan<'_> {}
 
-/// How many bytes are lent, and the place that the next step starts from.
+/// How many bytes are lent, and the position that the next step starts from.
 impl fmt::Debug for SlottedPageScan<'_> {
     fn fmt(&self, out: &mut fmt::Formatter<'_>) -> fmt::Result {
         out.debug_struct("SlottedPageScan")
             .field("segment", &Bytes(self.segment))
-            .field("place", &Rid::from(self.place))
+            .field("position", &Rid::from(self.position))
             .finish()
     }
 }

@@ -343,5 +343,5 @@ fn ids_and_refusals_as_numbers_and_words() {
     assert_eq!(format!("{:?}", lent.calls()), "SlottedPageSegment { segment: 16384 bytes, inventory: 16384 bytes }");
     let mut scan = SlottedPages::new(&lent.pages).scan();
     scan.next();
-    assert_eq!(format!("{scan:?}"), "SlottedPageScan { segment: 16384 bytes, place: Rid(0,1) }");
+    assert_eq!(format!("{scan:?}"), "SlottedPageScan { segment: 16384 bytes, position: Rid(0,1) }");
 }

@@ -46,13 +46,13 @@ fn insert_map(segment: &mut [u8], inventory: &mut [u8]) {
 }
 
 // Where a scan stands, and whether it goes on.
-struct Place {
+struct Position {
     page: usize,
     slot: usize,
     going: bool,
 }
 
-fn list_one(segment: &[u8], p: Place) -> Place {
+fn list_one(segment: &[u8], p: Position) -> Position {
     let step = slotted_page_segment::scan_step(segment, p.page, p.slot);
     let Step::Record {
         id,
@@ -62,7 +62,7 @@ fn list_one(segment: &[u8], p: Place) -> Place {
         slot,
     } = step
     else {
-        return Place {
+        return Position {
             page: p.page,
             slot: p.slot,
             going: false,
@@ -73,7 +73,7 @@ fn list_one(segment: &[u8], p: Place) -> Place {
     say(b"  ");
     number(length);
     say(b" bytes\n");
-    Place {
+    Position {
         page,
         slot,
         going: true,
@@ -81,7 +81,7 @@ fn list_one(segment: &[u8], p: Place) -> Place {
 }
 
 fn list(segment: &[u8]) {
-    let mut p = Place {
+    let mut p = Position {
         page: 0,
         slot: 0,
         going: true,

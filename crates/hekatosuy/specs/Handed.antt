@@ -15,19 +15,19 @@ withId i t = record { answer = t .answer; id = cond (eqb (t .answer) 0) (t .id) 
 abbrev pub withoutId : Result → Result
 withoutId t = record { answer = t .answer; id = 0; seg = t .seg; inv = t .inv }
 
--- a step of the scan: the next place as one number, 1 or 0 for whether there is a record, and its id and part of the segment
+-- a step of the scan: the next position as one number, 1 or 0 for whether there is a record, and its id and part of the segment
 abbrev pub stepped : Scanned → Stepped
 stepped t =
     record {
       answer = t .answer;
-      place = idOf (t .page) (t .slot);
+      position = idOf (t .page) (t .slot);
       found = cond (t .some) 1 0;
       id = t .id;
       offset = t .part .offset;
       length = t .part .length;
     }
 
--- a place that one number holds
-pub record InPlace (t : Scanned) : Type 0 where
+-- a position that one number holds
+pub record Positioned (t : Scanned) : Type 0 where
   pub page : t .page < 2 ^ 48
   pub slot : t .slot < 65536

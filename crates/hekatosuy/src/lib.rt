@@ -13,7 +13,7 @@ ghost use Rattle.store.specs.Numbers.{idOf, pageNo, slotNo};
 ghost use Rattle.store.specs.Segment.{insertStep, allocateStep, writeStep, resizeStep, eraseStep, locateStep};
 ghost use Rattle.store.specs.Scan.{without, scanStep};
 ghost use Rattle.store.specs.Answers.{answerNo, answerId, readingPart, scannedOf};
-ghost use Rattle.hekatosuy.specs.Handed.{withId, withoutId, stepped, InPlace};
+ghost use Rattle.hekatosuy.specs.Handed.{withId, withoutId, stepped, Positioned};
 
 // "Answers by number".
 fn answer_no(a: Answer) -> u64
@@ -98,7 +98,7 @@ pub extern "C" fn hk_write_record(
     ensures { λ r. ⌜ record { answer = r; id = 0; seg = now (segment .exit); inv = now (inventory .exit) }
         ≡ withoutId (writeStep (now (segment .entry)) (now (inventory .entry)) id (now (bytes .entry))) ⌝ }
 {
-    let a = segment_store::write::write_record(segment, inventory, id as usize, bytes);
+    let a = segment_write::write::write_record(segment, inventory, id as usize, bytes);
     answer_no(a)
 }
 
@@ -112,7 +112,7 @@ pub extern "C" fn hk_resize_record(
     ensures { λ r. ⌜ record { answer = r; id = 0; seg = now (segment .exit); inv = now (inventory .exit) }
         ≡ withoutId (resizeStep (now (segment .entry)) (now (inventory .entry)) id size) ⌝ }
 {
-    let a = segment_store::resize::resize_record(segment, inventory, id as usize, size as usize);
+    let a = segment_write::resize::resize_record(segment, inventory, id as usize, size as usize);
     answer_no(a)
 }
 
@@ -165,15 +165,15 @@ pub extern "C" fn hk_get_record(segment: &[u8], id: u64, offset: &mut u64, lengt
 // What a step of the scan hands to C.
 pub struct Stepped {
     pub answer: u64,
-    pub place: u64,
+    pub position: u64,
     pub found: u64,
     pub id: u64,
     pub offset: u64,
     pub length: u64,
 }
 
-// A place as one number.
-fn place_of(page: usize, slot: usize) -> u64
+// A position as one number.
+fn position_of(page: usize, slot: usize) -> u64
     requires { ⌜ (page < 2 ^ 48) × (slot < 65536) ⌝ }
     ensures { λ r. ⌜ r ≡ idOf page slot ⌝ }
 {
@@ -184,10 +184,10 @@ fn without_record(answer: u64, page: usize, slot: usize) -> Stepped
     requires { ⌜ (page < 2 ^ 48) × (slot < 65536) ⌝ }
     ensures { λ r. ⌜ r ≡ stepped (without answer page slot) ⌝ }
 {
-    let place = place_of(page, slot);
+    let position = position_of(page, slot);
     Stepped {
         answer,
-        place,
+        position,
         found: 0,
         id: 0,
         offset: 0,
@@ -196,7 +196,7 @@ fn without_record(answer: u64, page: usize, slot: usize) -> Stepped
 }
 
 fn hand_step(s: Step) -> Stepped
-    requires { ⌜ ((xs : List ℕ) → InPlace (scannedOf s xs)) ⌝ }
+    requires { ⌜ ((xs : List ℕ) → Positioned (scannedOf s xs)) ⌝ }
     ensures { λ r. ⌜ ((xs : List ℕ) → r ≡ stepped (scannedOf s xs)) ⌝ }
 {
     match s {
@@ -207,10 +207,10 @@ fn hand_step(s: Step) -> Stepped
             page,
             slot,
         } => {
-            let place = place_of(page, slot);
+            let position = position_of(page, slot);
             Stepped {
                 answer: 0,
-                place,
+                position,
                 found: 1,
                 id: id as u64,
                 offset: offset as u64,
@@ -223,30 +223,30 @@ fn hand_step(s: Step) -> Stepped
     }
 }
 
-// The step from a place that is one number.
-fn step_from(segment: &[u8], place: u64) -> Stepped
-    ensures { λ r. ⌜ r ≡ stepped (scanStep (now (segment .entry)) (pageNo place) (slotNo place)) ⌝ }
+// The step from a position that is one number.
+fn step_from(segment: &[u8], position: u64) -> Stepped
+    ensures { λ r. ⌜ r ≡ stepped (scanStep (now (segment .entry)) (pageNo position) (slotNo position)) ⌝ }
 {
-    let at = place as usize;
+    let at = position as usize;
     let s = segment_scan::scan_step(segment, at / 65536, at % 65536);
     hand_step(s)
 }
 
-// The next record from `place` on, which is 0 at first and afterwards what the last step left there.
+// The next record from `position` on, which is 0 at first and afterwards what the last step left there.
 #[no_mangle]
 pub extern "C" fn hk_scan_step(
     segment: &[u8],
-    place: &mut u64,
+    position: &mut u64,
     found: &mut u64,
     id: &mut u64,
     offset: &mut u64,
     length: &mut u64,
 ) -> u64
-    ensures { λ r. ⌜ record { answer = r; place = now (place .exit); found = now (found .exit); id = now (id .exit); offset = now (offset .exit); length = now (length .exit) }
-        ≡ stepped (scanStep (now (segment .entry)) (pageNo (now (place .entry))) (slotNo (now (place .entry)))) ⌝ }
+    ensures { λ r. ⌜ record { answer = r; position = now (position .exit); found = now (found .exit); id = now (id .exit); offset = now (offset .exit); length = now (length .exit) }
+        ≡ stepped (scanStep (now (segment .entry)) (pageNo (now (position .entry))) (slotNo (now (position .entry)))) ⌝ }
 {
-    let h = step_from(segment, *place);
-    *place = h.place;
+    let h = step_from(segment, *position);
+    *position = h.position;
     *found = h.found;
     *id = h.id;
     *offset = h.offset;

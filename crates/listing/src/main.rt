@@ -33,15 +33,15 @@ fn print_refused(answer: usize) {
 }
 
 // Where the scan stands, what it has listed, and whether it goes on.
-struct Place {
+struct Position {
     page: usize,
     slot: usize,
     records: u64,
     going: bool,
 }
 
-fn over() -> Place {
-    Place {
+fn over() -> Position {
+    Position {
         page: 0,
         slot: 0,
         records: 0,
@@ -50,7 +50,7 @@ fn over() -> Place {
 }
 
 // One step of the scan, with its line.
-fn list_one(segment: &[u8], p: Place) -> Place {
+fn list_one(segment: &[u8], p: Position) -> Position {
     match segment_scan::scan_step(segment, p.page, p.slot) {
         Step::Record {
             id,
@@ -60,7 +60,7 @@ fn list_one(segment: &[u8], p: Place) -> Place {
             slot,
         } => {
             print_record(id, length);
-            return Place {
+            return Position {
                 page,
                 slot,
                 records: std::num::wrapping_add_u64(p.records, 1),
@@ -76,7 +76,7 @@ fn list_one(segment: &[u8], p: Place) -> Place {
 
 // A proved loop has to end by a number that falls: this one counts down from more steps than any scan has.
 fn list(segment: &[u8]) {
-    let mut p = Place {
+    let mut p = Position {
         page: 0,
         slot: 0,
         records: 0,

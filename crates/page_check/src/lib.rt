@@ -48,7 +48,7 @@ fn records_fit(page: &[u8], n: usize, f: usize, d: usize) -> Pass
         return swept;
     }
     let mut used = [0usize; 256];
-    map::place_all(page, n, f, d, &mut used)
+    map::claim_all(page, n, f, d, &mut used)
 }
 
 // "A slot count of 0 means a fresh page and its other bytes don't matter." Last comes "free space = 16,372 − 8 × count − the sum of all

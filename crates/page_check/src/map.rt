@@ -58,7 +58,7 @@ fn claim(used: &mut [usize], o: usize, end: usize) -> bool
 }
 
 // Puts the record of l bytes at o on the map. One of no bytes claims none, and lies anywhere.
-fn place(used: &mut [usize], d: usize, o: usize, l: usize) -> bool
+fn claim_record(used: &mut [usize], d: usize, o: usize, l: usize) -> bool
     requires { ⌜ (length (now used) ≡ 256) × (o + l ≤ 16384) ⌝ }
     ensures { λ r. ⌜ Tells r ((0 < l → d ≤ o) × Clear (now (used .entry)) o (o + l)) × (r ≡ true → Claimed (now (used .entry)) (now (used .exit)) o (o + l)) ⌝ }
 {
@@ -73,7 +73,7 @@ fn place(used: &mut [usize], d: usize, o: usize, l: usize) -> bool
 
 // "every record of positive length lies between data start and 16,384 and overlaps no other; a record of length 0 has an offset of at
 // most 16,384; a target has length 8 or more": every slot is looked at, so a no is as good as a yes.
-pub fn place_all(page: &[u8], n: usize, f: usize, d: usize, used: &mut [usize]) -> Pass
+pub fn claim_all(page: &[u8], n: usize, f: usize, d: usize, used: &mut [usize]) -> Pass
     requires { ⌜ (length (now page) ≡ 16384) × (n ≡ view (now page) .slotCount) × (n ≤ 2046) × (length (now used) ≡ 256) × Blank (now used) ⌝ }
     ensures { λ r. ⌜ Tells (r .fits) (RecordsFit (view (now (page .entry))) n f d) × (r .fits ≡ true → Total (view (now (page .entry))) n (r .total)) ⌝ }
 {
@@ -88,7 +88,7 @@ pub fn place_all(page: &[u8], n: usize, f: usize, d: usize, used: &mut [usize]) 
                 total: 0,
             };
         }
-        if !place(used, d, run.start, run.size) {
+        if !claim_record(used, d, run.start, run.size) {
             return Pass {
                 fits: false,
                 total: 0,

@@ -10,8 +10,8 @@ ghost use Rattle.store.specs.Slots.{isFree};
 ghost use Rattle.store.specs.Page.{sound};
 ghost use Rattle.store.specs.Segment.{segView, result, eraseBy, eraseStep};
 ghost use Rattle.store.specs.Answers.{outcome};
-ghost use Rattle.lent_steps.specs.After.{Sizes};
-ghost use Rattle.lent_steps.specs.Words.{seen};
+ghost use Rattle.segment_steps.specs.After.{Sizes};
+ghost use Rattle.segment_steps.specs.Words.{seen};
 
 // The record of an ordinary slot, wherever it lies.
 fn erase_ordinary(segment: &mut [u8], inventory: &mut [u8], id: usize) -> Answer
@@ -22,8 +22,8 @@ fn erase_ordinary(segment: &mut [u8], inventory: &mut [u8], id: usize) -> Answer
         ≡ result (now (segment .entry)) (eraseBy (segView (now (segment .entry))) (now (inventory .entry)) id (Slot.Ordinary 0 0)) ⌝ }
 {
     let p = id / 65536;
-    lent_steps::erase_on(segment, p, id % 65536);
-    lent_steps::update_on(segment, inventory, p);
+    segment_steps::erase_on(segment, p, id % 65536);
+    segment_steps::update_on(segment, inventory, p);
     Answer::Done { id }
 }
 
@@ -35,30 +35,30 @@ fn erase_forwarded(segment: &mut [u8], inventory: &mut [u8], id: usize, t: usize
     ensures { λ r. ⌜ outcome r (now (segment .exit)) (now (inventory .exit))
         ≡ result (now (segment .entry)) (eraseBy (segView (now (segment .entry))) (now (inventory .entry)) id (Slot.Redirect t)) ⌝ }
 {
-    if !lent_pages::points_back(segment, id, t) {
+    if !segment_pages::points_back(segment, id, t) {
         return Answer::Damaged;
     }
-    lent_steps::erase_on(segment, id / 65536, id % 65536);
-    lent_steps::erase_on(segment, t / 65536, t % 65536);
-    lent_steps::update_on(segment, inventory, t / 65536);
-    lent_steps::update_on(segment, inventory, id / 65536);
+    segment_steps::erase_on(segment, id / 65536, id % 65536);
+    segment_steps::erase_on(segment, t / 65536, t % 65536);
+    segment_steps::update_on(segment, inventory, t / 65536);
+    segment_steps::update_on(segment, inventory, id / 65536);
     Answer::Done { id }
 }
 
 pub fn erase_record(segment: &mut [u8], inventory: &mut [u8], id: usize) -> Answer
     ensures { λ r. ⌜ outcome r (now (segment .exit)) (now (inventory .exit)) ≡ eraseStep (now (segment .entry)) (now (inventory .entry)) id ⌝ }
 {
-    if !lent_pages::sizes_ok(segment, inventory) {
+    if !segment_pages::sizes_ok(segment, inventory) {
         return Answer::Size;
     }
     let p = id / 65536;
     if segment.len() / 16384 <= p {
         return Answer::NoPage;
     }
-    if !lent_pages::page_sound(segment, p) {
+    if !segment_pages::page_sound(segment, p) {
         return Answer::Damaged;
     }
-    let s = lent_pages::slot_on(segment, p, id % 65536);
+    let s = segment_pages::slot_on(segment, p, id % 65536);
     match s {
         Slot::Ordinary {
             offset: _,

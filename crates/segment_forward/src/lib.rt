@@ -17,8 +17,8 @@ ghost use Rattle.store.specs.Inventory.{foundIn};
 ghost use Rattle.store.specs.Segment.{segView, find, result, pointsBack, forwarded, forwardedAgain, atHome};
 ghost use Rattle.store.specs.Answers.{outcome};
 ghost use Rattle.slotted_page.specs.Words.{wasMoved};
-ghost use Rattle.lent_steps.specs.After.{Sizes};
-ghost use Rattle.lent_steps.specs.Words.{seen};
+ghost use Rattle.segment_steps.specs.After.{Sizes};
+ghost use Rattle.segment_steps.specs.Words.{seen};
 ghost use Rattle.segment_forward.specs.Words.{rootOrOld, newTarget};
 
 // The search that both forwardings make: the new target's id, with its page written and the inventory not told yet; or 7, 4, 8. "The page
@@ -41,7 +41,7 @@ fn place_target(
     let Named::At { page } = named else {
         return Answer::Full;
     };
-    if !lent_pages::page_sound(segment, page) {
+    if !segment_pages::page_sound(segment, page) {
         return Answer::Damaged;
     }
     if page == id / 65536 {
@@ -50,11 +50,11 @@ fn place_target(
     if page == old / 65536 {
         return Answer::Stale;
     }
-    let place = lent_steps::reserve_on(segment, page, size + 8);
+    let place = segment_steps::allocate_on(segment, page, size + 8);
     let Place::At { slot, offset } = place else {
         return Answer::Stale;
     };
-    slotted_page::insert::write_target(
+    slotted_page::target::write_target(
         &mut segment[page * 16384..(page + 1) * 16384],
         slot,
         offset,
@@ -87,9 +87,9 @@ pub fn forward(
         return placed;
     };
     let p = id / 65536;
-    lent_steps::erase_for_redirect_on(segment, p, id % 65536, target);
-    lent_steps::update_on(segment, inventory, p);
-    lent_steps::update_on(segment, inventory, target / 65536);
+    segment_steps::erase_for_redirect_on(segment, p, id % 65536, target);
+    segment_steps::update_on(segment, inventory, p);
+    segment_steps::update_on(segment, inventory, target / 65536);
     Answer::Done { id }
 }
 
@@ -113,10 +113,10 @@ pub fn forward_again(
     let Answer::Done { id: new_target } = placed else {
         return placed;
     };
-    lent_steps::set_redirect_on(segment, id / 65536, id % 65536, new_target);
-    lent_steps::erase_on(segment, t / 65536, t % 65536);
-    lent_steps::update_on(segment, inventory, t / 65536);
-    lent_steps::update_on(segment, inventory, new_target / 65536);
+    segment_steps::set_redirect_on(segment, id / 65536, id % 65536, new_target);
+    segment_steps::erase_on(segment, t / 65536, t % 65536);
+    segment_steps::update_on(segment, inventory, t / 65536);
+    segment_steps::update_on(segment, inventory, new_target / 65536);
     Answer::Done { id }
 }
 
@@ -140,11 +140,11 @@ pub fn at_home(
         ≡ result (now (segment .entry)) (atHome (segView (now (segment .entry))) (now (inventory .entry)) id size (λ o. fit size (now (bytes .entry))) t []
         (relocate (seen (now (segment .entry)) (pageNo id)) (slotNo id) size))) ⌝ }
 {
-    if !lent_steps::rewrite_on(segment, id / 65536, id % 65536, bytes, size) {
+    if !segment_steps::rewrite_on(segment, id / 65536, id % 65536, bytes, size) {
         return false;
     }
-    lent_steps::erase_on(segment, t / 65536, t % 65536);
-    lent_steps::update_on(segment, inventory, id / 65536);
-    lent_steps::update_on(segment, inventory, t / 65536);
+    segment_steps::erase_on(segment, t / 65536, t % 65536);
+    segment_steps::update_on(segment, inventory, id / 65536);
+    segment_steps::update_on(segment, inventory, t / 65536);
     true
 }

@@ -8,7 +8,7 @@ ghost use lib.ListN.{length};
 ghost use Rattle.store.specs.Numbers.{fit};
 ghost use Rattle.store.specs.Segment.{insertStep, allocateStep};
 ghost use Rattle.store.specs.Answers.{outcome};
-ghost use Rattle.lent_steps.specs.After.{Sizes};
+ghost use Rattle.segment_steps.specs.After.{Sizes};
 ghost use Rattle.segment_insert.specs.Words.{insertOn};
 
 // On the page that the inventory names: these bytes, cut off or filled up with zeros to `size`. "If the page's answer holds no place, the
@@ -25,10 +25,10 @@ fn insert_at(
     ensures { λ r. ⌜ outcome r (now (segment .exit)) (now (inventory .exit))
         ≡ insertOn (now (segment .entry)) (now (inventory .entry)) (fit size (now (bytes .entry))) p ⌝ }
 {
-    if !lent_pages::page_sound(segment, p) {
+    if !segment_pages::page_sound(segment, p) {
         return Answer::Damaged;
     }
-    let place = lent_steps::reserve_on(segment, p, size);
+    let place = segment_steps::allocate_on(segment, p, size);
     let Place::At { slot, offset } = place else {
         return Answer::Stale;
     };
@@ -38,7 +38,7 @@ fn insert_at(
         bytes,
         size,
     );
-    lent_steps::update_on(segment, inventory, p);
+    segment_steps::update_on(segment, inventory, p);
     Answer::Done {
         id: p * 65536 + slot,
     }
@@ -47,7 +47,7 @@ fn insert_at(
 pub fn insert_record(segment: &mut [u8], inventory: &mut [u8], record: &[u8]) -> Answer
     ensures { λ r. ⌜ outcome r (now (segment .exit)) (now (inventory .exit)) ≡ insertStep (now (segment .entry)) (now (inventory .entry)) (now («record» .entry)) ⌝ }
 {
-    if !lent_pages::sizes_ok(segment, inventory) {
+    if !segment_pages::sizes_ok(segment, inventory) {
         return Answer::Size;
     }
     if 16364 < record.len() {
@@ -64,7 +64,7 @@ pub fn insert_record(segment: &mut [u8], inventory: &mut [u8], record: &[u8]) ->
 pub fn allocate(segment: &mut [u8], inventory: &mut [u8], size: usize) -> Answer
     ensures { λ r. ⌜ outcome r (now (segment .exit)) (now (inventory .exit)) ≡ allocateStep (now (segment .entry)) (now (inventory .entry)) size ⌝ }
 {
-    if !lent_pages::sizes_ok(segment, inventory) {
+    if !segment_pages::sizes_ok(segment, inventory) {
         return Answer::Size;
     }
     if 16364 < size {

@@ -27,7 +27,7 @@ use Rattle.store.specs.declared.Reading.the-variants.{At, Size, NoPage, Damaged
 use Rattle.store.proofs.Slot as slot
 use Rattle.store.proofs.Reading as reading
 use Rattle.segment_read.specs.Parts.{foundAt, notFound, followed, locateBy}
-use Rattle.lent_pages.proofs.Seen.{page-right}
+use Rattle.segment_pages.proofs.Seen.{page-right}
 
 -- the read's own words: a part where the answer is 0
 abbrev partIf : Read → Part → Located

@@ -27,11 +27,11 @@ fn target_part(p: usize, offset: usize, length: usize) -> Reading
 fn follow(segment: &[u8], i: usize, t: usize) -> Reading
     ensures { λ r. ⌜ located r ≡ followed (segView (now (segment .entry))) i t ⌝ }
 {
-    if !lent_pages::points_back(segment, i, t) {
+    if !segment_pages::points_back(segment, i, t) {
         return Reading::Damaged;
     }
     let p = t / 65536;
-    let Slot::Target { offset, length } = lent_pages::slot_on(segment, p, t % 65536) else {
+    let Slot::Target { offset, length } = segment_pages::slot_on(segment, p, t % 65536) else {
         return Reading::Damaged;
     };
     target_part(p, offset, length)
@@ -58,17 +58,17 @@ fn read_slot(segment: &[u8], i: usize, s: Slot) -> Reading
 pub fn find_record(segment: &[u8], id: usize) -> Reading
     ensures { λ r. ⌜ located r ≡ locateStep (now (segment .entry)) id ⌝ }
 {
-    if !lent_pages::is_segment(segment) {
+    if !segment_pages::is_segment(segment) {
         return Reading::Size;
     }
     let p = id / 65536;
     if segment.len() / 16384 <= p {
         return Reading::NoPage;
     }
-    if !lent_pages::page_sound(segment, p) {
+    if !segment_pages::page_sound(segment, p) {
         return Reading::Damaged;
     }
-    let s = lent_pages::slot_on(segment, p, id % 65536);
+    let s = segment_pages::slot_on(segment, p, id % 65536);
     read_slot(segment, id, s)
 }
 

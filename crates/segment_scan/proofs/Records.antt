@@ -22,16 +22,16 @@ use Rattle.store.specs.declared.Slot.{Slot}
 use Rattle.store.specs.declared.Slot.the-variants.{Ordinary, Free, Redirect, Target}
 use Rattle.store.specs.declared.Step.{Step}
 use Rattle.store.specs.declared.Step.the-variants.{Record, End, Size, Damaged}
-use Rattle.lent_pages.proofs.Seen.{target-head}
+use Rattle.segment_pages.proofs.Seen.{target-head}
 use Rattle.segment_scan.specs.Pages.{liesAt, wellAt, recordOr, isEnd}
 
 -- ---- how a record lies
 
-pub codable-place : (s : Slot) → Codable s → off s + len s < 8589934592
-codable-place (Ordinary o l) c = omega arith
-codable-place Free c = omega arith
-codable-place (Redirect i) c = omega arith
-codable-place (Target o l) c = omega arith
+pub codable-position : (s : Slot) → Codable s → off s + len s < 8589934592
+codable-position (Ordinary o l) c = omega arith
+codable-position Free c = omega arith
+codable-position (Redirect i) c = omega arith
+codable-position (Target o l) c = omega arith
 
 module _ (d o l : ℕ) (s : Slot) (offset : o ≡ off s) (long : l ≡ len s) where
   well-same : wellAt d s ≡ (liesAt d o l && (not (isTarget s) || leb 8 l))

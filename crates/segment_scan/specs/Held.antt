@@ -1,4 +1,4 @@
--- A scan that holds its segment and its place. Assumes nothing.
+-- A scan that holds its segment and its position. Assumes nothing.
 use Prim.Native.Nat.{ℕ}
 use mathlib.Core.Path.{_≡_}
 use mathlib.Core.List.{List}
@@ -9,7 +9,7 @@ use Rattle.store.specs.declared.Step.the-variants.{Record, End, Size, Damaged}
 use Rattle.segment_scan.specs.declared.held.Scan.{Scan}
 use Rattle.segment_scan.specs.declared.held.Moved.{Moved}
 
--- the place after a step
+-- the position after a step
 abbrev pub pageAfter : Step → ℕ
 pageAfter (Record i o l p k) = p
 pageAfter (End p k) = p
@@ -28,6 +28,6 @@ pub record Goes (s : List ℕ) (p k : ℕ) (m : Moved) : Type 0 where
   pub page : m .page ≡ scanStep s p k .page
   pub slot : m .slot ≡ scanStep s p k .slot
 
--- the same segment, at the place after what was found
-abbrev pub placed : Scan → Scanned → Scan
-placed h d = record { segment = h .segment; page = d .page; slot = d .slot }
+-- the same segment, at the position after what was found
+abbrev pub movedTo : Scan → Scanned → Scan
+movedTo h d = record { segment = h .segment; page = d .page; slot = d .slot }

@@ -1,9 +1,9 @@
-// "A scan holds the segment it reads and its place in it."
+// "A scan holds the segment it reads and its position in it."
 use store::Step;
 ghost use mathlib.Core.Path.{_≡_};
 ghost use Rattle.store.specs.Scan.{scanStep};
 ghost use Rattle.store.specs.Answers.{scannedOf};
-ghost use Rattle.segment_scan.specs.Held.{pageAfter, slotAfter, Goes, placed};
+ghost use Rattle.segment_scan.specs.Held.{pageAfter, slotAfter, Goes, movedTo};
 
 pub struct Scan<'a> {
     pub segment: &'a [u8],
@@ -11,7 +11,7 @@ pub struct Scan<'a> {
     pub slot: usize,
 }
 
-// A step's answer, and the place after it.
+// A step's answer, and the position after it.
 struct Moved {
     step: Step,
     page: usize,
@@ -52,7 +52,7 @@ fn slot_after(step: Step) -> usize
     }
 }
 
-// A step from a place, and the place after it: "every later step of either answers 0 without a record."
+// A step from a position, and the position after it: "every later step of either answers 0 without a record."
 fn step_from(segment: &[u8], page: usize, slot: usize) -> Moved
     ensures { λ r. ⌜ Goes (now (segment .entry)) page slot r ⌝ }
 {
@@ -80,7 +80,7 @@ pub fn new<'a>(segment: &'a [u8]) -> Scan<'a>
 // The next record; the scan moves on where it stands.
 pub fn advance<'s, 'a>(s: &'s mut Scan<'a>) -> Step
     ensures { λ r. ⌜ (scannedOf r (now (now (s .entry) .segment)) ≡ scanStep (now (now (s .entry) .segment)) (now (s .entry) .page) (now (s .entry) .slot))
-        × (now (s .exit) ≡ placed (now (s .entry)) (scanStep (now (now (s .entry) .segment)) (now (s .entry) .page) (now (s .entry) .slot))) ⌝ }
+        × (now (s .exit) ≡ movedTo (now (s .entry)) (scanStep (now (now (s .entry) .segment)) (now (s .entry) .page) (now (s .entry) .slot))) ⌝ }
 {
     let m = step_from(s.segment, s.page, s.slot);
     s.page = m.page;

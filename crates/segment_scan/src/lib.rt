@@ -57,7 +57,7 @@ fn record_at(segment: &[u8], p: usize, k: usize, s: Slot) -> Step
     let l = layout::slots::len_of(s);
     let own = p * 65536 + k;
     if layout::slots::is_target(s) {
-        let root = lent_pages::back_id_on(segment, p, o);
+        let root = segment_pages::back_id_on(segment, p, o);
         return Step::Record {
             id: root,
             offset: p * 16384 + (o + 8),
@@ -75,14 +75,14 @@ fn record_at(segment: &[u8], p: usize, k: usize, s: Slot) -> Step
     }
 }
 
-// The same where it may lie otherwise: only on a page that no scan has checked, at a place that no scan has made.
+// The same where it may lie otherwise: only on a page that no scan has checked, at a position that no scan has made.
 fn record_or_damage(segment: &[u8], p: usize, k: usize) -> Step
     requires { ⌜ (p * 16384 + 16384 ≤ length (now segment)) × (p ≤ 32527) × (k < 65536) ⌝ }
     requires { ⌜ isRecord (segView (now segment) .page p .at k) ≡ true ⌝ }
     ensures { λ r. ⌜ scannedOf r (now (segment .entry)) ≡ recordOr (segView (now (segment .entry)) .page p) p k ⌝ }
 {
-    let s = lent_pages::slot_on(segment, p, k);
-    if !lies_well(lent_pages::data_start_on(segment, p), s) {
+    let s = segment_pages::slot_on(segment, p, k);
+    if !lies_well(segment_pages::data_start_on(segment, p), s) {
         return Step::Damaged;
     }
     record_at(segment, p, k, s)
@@ -95,7 +95,7 @@ fn next_record(segment: &[u8], p: usize, k: usize, n: usize) -> usize
 {
     let mut j = k;
     while j < n {
-        if layout::slots::is_record(lent_pages::slot_on(segment, p, j)) {
+        if layout::slots::is_record(segment_pages::slot_on(segment, p, j)) {
             return j;
         }
         j += 1;
@@ -111,10 +111,10 @@ fn damaged_on_reaching(segment: &[u8], p: usize, k: usize) -> bool
     if k != 0 {
         return false;
     }
-    !lent_pages::page_sound(segment, p)
+    !segment_pages::page_sound(segment, p)
 }
 
-// What page p answers from slot k on; the next page's place if it has no record left.
+// What page p answers from slot k on; the next page's position if it has no record left.
 fn scan_page(segment: &[u8], p: usize, k: usize) -> Step
     requires { ⌜ (p * 16384 + 16384 ≤ length (now segment)) × (p ≤ 32527) ⌝ }
     ensures { λ r. ⌜ ((d : Scanned) → orLater r (now (segment .entry)) d ≡ onPage (segView (now (segment .entry)) .page p) p k d) ⌝ }
@@ -122,7 +122,7 @@ fn scan_page(segment: &[u8], p: usize, k: usize) -> Step
     if damaged_on_reaching(segment, p, k) {
         return Step::Damaged;
     }
-    let n = lent_pages::slot_count_on(segment, p);
+    let n = segment_pages::slot_count_on(segment, p);
     let j = next_record(segment, p, k, n);
     if n <= j {
         return Step::End {
@@ -169,14 +169,14 @@ fn scan_pages(segment: &[u8], page: usize, slot: usize) -> Step
     Step::End { page: p, slot: k }
 }
 
-// The first record from this place on, and the place after it. From any place: past page 32,527 a scan is over, whatever the segment.
+// The first record from this position on, and the position after it. From any position: past page 32,527 a scan is over, whatever the segment.
 pub fn scan_step(segment: &[u8], page: usize, slot: usize) -> Step
     ensures { λ r. ⌜ scannedOf r (now (segment .entry)) ≡ scanStep (now (segment .entry)) page slot ⌝ }
 {
     if 32527 < page {
         return Step::End { page, slot };
     }
-    if !lent_pages::is_segment(segment) {
+    if !segment_pages::is_segment(segment) {
         return Step::Size;
     }
     scan_pages(segment, page, slot)

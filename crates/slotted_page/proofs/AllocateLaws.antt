@@ -10,9 +10,9 @@ use Rattle.store.specs.PageSteps.{Edit, commit, plan, andThen, makeRoom, cost, 
 use Rattle.store.specs.Laws.Views.{Sound, upd-same}
 use Rattle.store.specs.Laws.Calls.{by-test}
 use Rattle.store.specs.declared.Slot.the-variants.{Ordinary}
-use Rattle.compactify.proofs.RoomLaws.{roomy-keeps}
+use Rattle.page_compactify.proofs.RoomLaws.{roomy-keeps}
 use Rattle.slotted_page.proofs.FillLaws.{Ends, Ended, Sized, commit-ends}
-use Rattle.places.proofs.ReserveLaws.{headAfter}
+use Rattle.page_places.proofs.ReserveLaws.{headAfter}
 
 -- the record's bytes: the plan's own zeros, or any of its size
 pub allocate-ended : (p : List ℕ) (v : View) (n : ℕ) → Sound v → Ended p (zeros n) (allocate v n)

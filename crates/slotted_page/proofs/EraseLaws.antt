@@ -13,7 +13,7 @@ use Rattle.store.specs.Laws.Numbers.{put-nil}
 use Rattle.store.specs.declared.Slot.{Slot}
 use Rattle.store.specs.declared.Slot.the-variants.{Free, Redirect}
 use Rattle.layout.specs.Run.{headOf}
-use Rattle.places.proofs.BareLaws.{commit-writes}
+use Rattle.page_places.proofs.BareLaws.{commit-writes}
 
 -- ---- the free slots below k
 

@@ -17,9 +17,9 @@ use Rattle.store.specs.declared.Slot.{Slot}
 use Rattle.store.specs.declared.Slot.the-variants.{Target}
 use Rattle.store.specs.declared.Place.{Place}
 use Rattle.store.specs.declared.Place.the-variants.{At, NoRoom}
-use Rattle.places.specs.Words.{unfilled, pageBare, placeOf, allocOf}
+use Rattle.page_places.specs.Words.{unfilled, pageBare, placeOf, allocOf}
 use Rattle.slotted_page.specs.Words.{pageAfter, filledAt, targetAt, pageMoved, wasMoved, refilled}
-use Rattle.places.proofs.BareLaws.{commit-writes, run-bare}
+use Rattle.page_places.proofs.BareLaws.{commit-writes, run-bare}
 
 pub length-zeros : (n : ℕ) → length (zeros n) ≡ n
 length-zeros n = length-replicate n 0

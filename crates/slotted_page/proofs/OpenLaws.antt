@@ -20,8 +20,8 @@ use Rattle.store.specs.declared.Slot.{Slot}
 use Rattle.store.specs.declared.Slot.the-variants.{Ordinary}
 use Rattle.store.specs.declared.Place.{Place}
 use Rattle.layout.specs.Run.{headOf}
-use Rattle.places.specs.Words.{pageBare, placeOf}
-use Rattle.places.proofs.BareLaws.{run-bare}
+use Rattle.page_places.specs.Words.{pageBare, placeOf}
+use Rattle.page_places.proofs.BareLaws.{run-bare}
 
 pub head-init : (p : List ℕ) → put p 0 (headOf 0 0 16384 16372) ≡ putHead initialised p
 unfolding headOf

@@ -26,10 +26,10 @@ use Rattle.store.specs.declared.Slot.the-variants.{Ordinary, Free, Redirect, Ta
 use Rattle.store.specs.declared.Place.the-variants.{At}
 use Rattle.layout.specs.Run.{headOf}
 use Rattle.layout.proofs.Writes.{write-append, fit-cut, fit-filled}
-use Rattle.compactify.proofs.PackLaws.{shown-bytes}
-use Rattle.places.specs.Words.{unfilled, shrinkPlan, growPlan, allocOf, pageBare, placeOf}
+use Rattle.page_compactify.proofs.PackLaws.{shown-bytes}
+use Rattle.page_places.specs.Words.{unfilled, shrinkPlan, growPlan, allocOf, pageBare, placeOf}
 use Rattle.slotted_page.specs.Words.{pageAfter, pageMoved, wasMoved, refilled}
-use Rattle.places.proofs.BareLaws.{commit-writes, run-bare}
+use Rattle.page_places.proofs.BareLaws.{commit-writes, run-bare}
 use Rattle.slotted_page.proofs.FillLaws.{Ends, Ended, ends-by, commit-ends, written-done, fill-done, moved-done, refilled-done}
 
 length-head : (c f d n : ℕ) → length (headOf c f d n) ≡ 12

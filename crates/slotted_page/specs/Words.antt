@@ -6,7 +6,7 @@ use Rattle.store.specs.Slots.{off, len}
 use Rattle.store.specs.Page.{View}
 use Rattle.store.specs.PageSteps.{move, Plan, run, withSlot, filled, andThen, Alloc, noRoom, got, Relocated, refused, moved, plan}
 use Rattle.store.specs.declared.Slot.the-variants.{Redirect, Target}
-pub use Rattle.places.specs.Words.{unfilled, pageBare, placeOf, Inside, PastEntry}
+pub use Rattle.page_places.specs.Words.{unfilled, pageBare, placeOf, Inside, PastEntry}
 
 -- ---- allocate
 

@@ -16,7 +16,7 @@ pub fn rewrite(page: &mut [u8], k: usize, bytes: &[u8], size: usize) -> bool
     ensures { λ r. ⌜ (now (page .exit) ≡ pageMoved (refilled (relocate (view (now (page .entry))) k size) k (fit size (now (bytes .entry)))) (now (page .entry)))
         × (r ≡ wasMoved (relocate (view (now (page .entry))) k size)) ⌝ }
 {
-    let place = places::relocation::move_slot(page, k, size);
+    let place = page_places::relocation::move_slot(page, k, size);
     match place {
         Place::At { slot: _, offset } => {
             layout::fit_in(page, offset, bytes, size);
@@ -41,7 +41,7 @@ pub fn rewrite_target(page: &mut [u8], k: usize, id: usize, bytes: &[u8]) -> boo
     ensures { λ r. ⌜ (now (page .exit) ≡ pageMoved (refilled (relocate (view (now (page .entry))) k (length (now (bytes .entry)) + 8)) k (toBE 8 id ++ now (bytes .entry))) (now (page .entry)))
         × (r ≡ wasMoved (relocate (view (now (page .entry))) k (length (now (bytes .entry)) + 8))) ⌝ }
 {
-    let place = places::relocation::move_slot(page, k, bytes.len() + 8);
+    let place = page_places::relocation::move_slot(page, k, bytes.len() + 8);
     match place {
         Place::At { slot: _, offset } => {
             layout::put_u64(page, offset, id);

@@ -19,7 +19,7 @@ fn grow_packed(page: &mut [u8], k: usize, s: Slot, size: usize) -> bool
     let n = layout::slots::len_of(s);
     let mut saved = [0u8; 16384];
     layout::save(page, layout::slots::off_of(s), n, &mut saved);
-    let place = places::relocation::move_slot(page, k, size);
+    let place = page_places::relocation::move_slot(page, k, size);
     match place {
         Place::At { slot: _, offset } => {
             layout::fit_in(page, offset, &saved[..n], size);
@@ -37,7 +37,7 @@ fn grow(page: &mut [u8], k: usize, s: Slot, size: usize) -> bool
         × (r ≡ wasMoved (relocate (view (now (page .entry))) k size)) ⌝ }
 {
     let n = layout::slots::len_of(s);
-    let place = places::relocation::move_slot(page, k, size);
+    let place = page_places::relocation::move_slot(page, k, size);
     match place {
         Place::At { slot: _, offset } => {
             layout::move_within(page, layout::slots::off_of(s), n, offset);
@@ -54,7 +54,7 @@ fn settle(page: &mut [u8], k: usize, size: usize) -> bool
     ensures { λ r. ⌜ (now (page .exit) ≡ pageMoved (relocate (view (now (page .entry))) k size) (now (page .entry)))
         × (r ≡ wasMoved (relocate (view (now (page .entry))) k size)) ⌝ }
 {
-    let place = places::relocation::move_slot(page, k, size);
+    let place = page_places::relocation::move_slot(page, k, size);
     match place {
         Place::At { slot: _, offset: _ } => true,
         Place::NoRoom => false,

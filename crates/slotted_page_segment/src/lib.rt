@@ -7,8 +7,8 @@ pub use segment_read::find_record;
 pub use segment_read::get_record;
 pub use segment_scan::held;
 pub use segment_scan::scan_step;
-pub use segment_store::resize::resize_record;
-pub use segment_store::write::write_record;
+pub use segment_write::resize::resize_record;
+pub use segment_write::write::write_record;
 // What the calls answer. The crate of a user lists `store` beside this one, since `store` declares them.
 pub use store::Answer;
 pub use store::Reading;

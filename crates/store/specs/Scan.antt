@@ -9,7 +9,7 @@ use Rattle.store.specs.Slots.{isRecord, isTarget}
 use Rattle.store.specs.Page.{View, sound, liesWell}
 use Rattle.store.specs.Segment.{SegView, segView, sizeOk, Part, noPart, partOn}
 
--- the answer's number; whether there is a record, its id, its bytes and the part of the segment that they are; and the next place
+-- the answer's number; whether there is a record, its id, its bytes and the part of the segment that they are; and the next position
 pub record Scanned : Type 0 where
   pub answer : ℕ
   pub some : Bool
@@ -40,11 +40,11 @@ abbrev pub nextRecord : ℕ → View → ℕ → ℕ
 nextRecord zero v k = k
 nextRecord (suc m) v k = let r = nextRecord m v (k + 1) in cond (isRecord (v .at k)) k r
 
--- the place of a scan that is over: a page past every segment
+-- the position of a scan that is over: a page past every segment
 abbrev pub overPage : ℕ
 overPage = 32528
 
--- "checks each page on reaching it", at slot 0: from slot k of page p on, over at most m pages. A place inside a page that no scan has
+-- "checks each page on reaching it", at slot 0: from slot k of page p on, over at most m pages. A position inside a page that no scan has
 -- made may name a record that does not lie as on a sound page, and is answered like damage
 abbrev pub scanFrom : ℕ → SegView → ℕ → ℕ → Scanned
 scanFrom zero s p k = without 0 p k

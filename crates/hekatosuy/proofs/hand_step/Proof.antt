@@ -5,19 +5,19 @@ use Prim.Native.Nat.{ℕ}
 use borrow.Author.Needs.{needs}
 use Rattle.store.specs.Answers.{scannedOf}
 use Rattle.store.specs.declared.Step.{Step}
-use Rattle.hekatosuy.specs.Handed.{InPlace}
+use Rattle.hekatosuy.specs.Handed.{Positioned}
 use Rattle.hekatosuy.proofs.hand_step.Statement.{statement}
 use Rattle.hekatosuy.proofs.hand_step.Tie as tie
 
--- the place that the step names fits
-fits : (s t : Step) → s ≡ t → ((xs : List ℕ) → InPlace (scannedOf s xs)) → InPlace (scannedOf t [])
-fits s t e h = subst (λ (u : Step). InPlace (scannedOf u [])) e (h [])
+-- the position that the step names fits
+fits : (s t : Step) → s ≡ t → ((xs : List ℕ) → Positioned (scannedOf s xs)) → Positioned (scannedOf t [])
+fits s t e h = subst (λ (u : Step). Positioned (scannedOf u [])) e (h [])
 
 enum-known-s : tie.Need-enum-known-s
 enum-known-s c = search needs
 
-place-of-requires : tie.Need-place-of-requires
-place-of-requires c κs = let a = c .before .before .before in let h = fits (a .args .s) _ (c .before .s .given .1) (a .pre) in (h .page, h .slot)
+position-of-requires : tie.Need-position-of-requires
+position-of-requires c κs = let a = c .before .before .before in let h = fits (a .args .s) _ (c .before .s .given .1) (a .pre) in (h .page, h .slot)
 
 enum-known-s-2 : tie.Need-enum-known-s-2
 enum-known-s-2 c = search needs
@@ -38,7 +38,7 @@ without-record-requires-3 : tie.Need-without-record-requires-3
 without-record-requires-3 c κs = search needs
 
 returns : tie.Need-returns
-returns c = λ xs. rw (c .before .before .s .given .1, c .place-of .ensures)
+returns c = λ xs. rw (c .before .before .s .given .1, c .position-of .ensures)
 
 returns-2 : tie.Need-returns-2
 returns-2 c = λ xs. rw (c .before .before .s2 .given .1) (c .without-record .ensures)
@@ -54,7 +54,7 @@ hand-step-spec =
     tie.close
     (tie.spec
     enum-known-s
-    place-of-requires
+    position-of-requires
     enum-known-s-2
     without-record-requires
     enum-told

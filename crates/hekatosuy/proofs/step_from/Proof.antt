@@ -4,8 +4,8 @@ use Prim.Native.Nat.{_<_, _^_}
 use native.Mathlib.Omega.{arith}
 use borrow.Author.Needs.{needs}
 use Rattle.store.specs.Numbers.{pageNo, slotNo}
-use Rattle.hekatosuy.specs.Handed.{InPlace, stepped}
-use Rattle.hekatosuy.proofs.Places.{in-place, same-place}
+use Rattle.hekatosuy.specs.Handed.{Positioned, stepped}
+use Rattle.hekatosuy.proofs.Positions.{positioned, same-position}
 use Rattle.hekatosuy.proofs.step_from.Statement.{statement}
 use Rattle.hekatosuy.proofs.step_from.Tie as tie
 use denote.Ref.{now}
@@ -17,11 +17,11 @@ hand-step-requires : tie.Need-hand-step-requires
 hand-step-requires c κs =
     let a = c .before .before in
     let s = now (a .args .segment) in
-    let p = a .args .place in
-    let h : pageNo p < 2 ^ 48 = omega (arith, a .fits .place .fits) in
+    let p = a .args .position in
+    let h : pageNo p < 2 ^ 48 = omega (arith, a .fits .position .fits) in
     let k : slotNo p < 65536 = omega arith in
-    λ xs. same-place (c .scan-step .result) s xs
-    (subst InPlace (sym (c .scan-step .ensures)) (in-place s (λ i. omega (arith, c .before .shared-slice-known .given i)) (pageNo p) (slotNo p) h k))
+    λ xs. same-position (c .scan-step .result) s xs
+    (subst Positioned (sym (c .scan-step .ensures)) (positioned s (λ i. omega (arith, c .before .shared-slice-known .given i)) (pageNo p) (slotNo p) h k))
 
 returns : tie.Need-returns
 returns c = let m = c .before in c .hand-step .ensures (now (m .before .before .args .segment)) ∙ ap stepped (m .scan-step .ensures)

@@ -3,11 +3,11 @@ use borrow.Author.Needs.{needs}
 use Rattle.hekatosuy.proofs.without_record.Statement.{statement}
 use Rattle.hekatosuy.proofs.without_record.Tie as tie
 
-place-of-requires : tie.Need-place-of-requires
-place-of-requires c κs = search needs
+position-of-requires : tie.Need-position-of-requires
+position-of-requires c κs = search needs
 
 returns : tie.Need-returns
-returns c = rw (c .place-of .ensures)
+returns c = rw (c .position-of .ensures)
 
 pub without-record-spec : {M : Type 1} → statement M
-without-record-spec = tie.close (tie.spec place-of-requires returns)
+without-record-spec = tie.close (tie.spec position-of-requires returns)

@@ -7,7 +7,7 @@ use Rattle.page_check.proofs.records_fit.Statement.{statement}
 use Rattle.page_check.proofs.records_fit.Tie as tie
 use Rattle.page_check.proofs.records_fit.Reads as reads
 use Rattle.page_check.proofs.records_fit.Lts as lts
-use Rattle.page_check.proofs.map.place_all.Reads as place-all-reads
+use Rattle.page_check.proofs.map.claim_all.Reads as claim-all-reads
 use Rattle.page_check.proofs.sweep.sweep.Reads as sweep-reads
 
 sweep-requires : tie.Need-sweep-requires
@@ -19,11 +19,11 @@ returns c =
     let w = c .before .sweep .ensures e in
     (record { yes = λ _. w .0; back = λ _. e }, λ _. w .1)
 
-slice-aggregate-place-all : tie.Need-slice-aggregate-place-all
-slice-aggregate-place-all c = search needs
+slice-aggregate-claim-all : tie.Need-slice-aggregate-claim-all
+slice-aggregate-claim-all c = search needs
 
-place-all-requires : tie.Need-place-all-requires
-place-all-requires c κs =
+claim-all-requires : tie.Need-claim-all-requires
+claim-all-requires c κs =
     let s = c .before .before .before .before .pre in
     (s .0, s .1, s .2, length-replicate {A = ℕ} 256 0, blank)
 
@@ -32,4 +32,4 @@ returns-2 c = search needs
 
 pub records-fit-spec : {M : Type 1} → statement M
 records-fit-spec =
-    tie.close (tie.spec sweep-requires returns slice-aggregate-place-all place-all-requires returns-2)
+    tie.close (tie.spec sweep-requires returns slice-aggregate-claim-all claim-all-requires returns-2)

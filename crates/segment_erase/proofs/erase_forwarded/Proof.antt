@@ -7,16 +7,16 @@ use borrow.Author.Tests.{not-true, not-false}
 use Rattle.store.specs.Numbers.{pageNo, slotNo}
 use Rattle.store.specs.Slots.{isFree}
 use Rattle.store.specs.Segment.{segView, pointsBack}
-use Rattle.lent_steps.specs.After.{sizes-room, Took, left-room, erase-on-page}
+use Rattle.segment_steps.specs.After.{sizes-room, Took, left-room, erase-on-page}
 use Rattle.segment_erase.proofs.Erased.{rootStep, targetStep, by-damaged, target-asks, both-length, target-left, root-left, by-redirect}
 use borrow.Author.Needs.{needs}
 use Rattle.segment_erase.proofs.erase_forwarded.Statement.{statement}
 use Rattle.segment_erase.proofs.erase_forwarded.Tie as tie
 use Rattle.segment_erase.proofs.erase_forwarded.Reads as reads
 use Rattle.segment_erase.proofs.erase_forwarded.Lts as lts
-use Rattle.lent_pages.proofs.points_back.Reads as points-back-reads
-use Rattle.lent_steps.proofs.erase_on.Reads as erase-on-reads
-use Rattle.lent_steps.proofs.update_on.Reads as update-on-reads
+use Rattle.segment_pages.proofs.points_back.Reads as points-back-reads
+use Rattle.segment_steps.proofs.erase_on.Reads as erase-on-reads
+use Rattle.segment_steps.proofs.update_on.Reads as update-on-reads
 
 -- what the test of the target told, and what the root's step left
 back : (c : tie.Else1) → let a = c .before .before .before .before .before .args in pointsBack (segView (now (a .segment))) (a .id) (a .t) ≡ true

@@ -3,15 +3,15 @@ use denote.Ref.{now}
 use mathlib.Core.Path.{refl}
 use native.Mathlib.Omega.{arith}
 use Rattle.store.specs.Numbers.{pageNo, slotNo}
-use Rattle.lent_steps.specs.After.{sizes-room, Took, took-length, left-own, left-room, erase-on-page}
+use Rattle.segment_steps.specs.After.{sizes-room, Took, took-length, left-own, left-room, erase-on-page}
 use Rattle.segment_erase.proofs.Erased.{rootStep, by-ordinary}
 use borrow.Author.Needs.{needs}
 use Rattle.segment_erase.proofs.erase_ordinary.Statement.{statement}
 use Rattle.segment_erase.proofs.erase_ordinary.Tie as tie
 use Rattle.segment_erase.proofs.erase_ordinary.Reads as reads
 use Rattle.segment_erase.proofs.erase_ordinary.Lts as lts
-use Rattle.lent_steps.proofs.erase_on.Reads as erase-on-reads
-use Rattle.lent_steps.proofs.update_on.Reads as update-on-reads
+use Rattle.segment_steps.proofs.erase_on.Reads as erase-on-reads
+use Rattle.segment_steps.proofs.update_on.Reads as update-on-reads
 
 -- what the page step left
 took : (c : tie.After-erase-on) → let a = c .before .before .before .before .args in Took (now (a .segment)) (rootStep (now (a .segment)) (now (a .inventory)) (a .id)) (c .erase-on .last .0)

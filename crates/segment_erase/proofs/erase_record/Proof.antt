@@ -9,16 +9,16 @@ use Rattle.store.specs.Slots.{isFree}
 use Rattle.store.specs.Page.{sound}
 use Rattle.store.specs.Segment.{segView, sizeOk, invOk, result, eraseBy, eraseStep}
 use Rattle.store.specs.declared.Slot.{Slot}
-use Rattle.lent_steps.specs.After.{sizes}
+use Rattle.segment_steps.specs.After.{sizes}
 use Rattle.segment_erase.proofs.Erased.{step-size, step-past, step-damaged, step-by, by-free, by-target}
 use borrow.Author.Needs.{needs}
 use Rattle.segment_erase.proofs.erase_record.Statement.{statement}
 use Rattle.segment_erase.proofs.erase_record.Tie as tie
 use Rattle.segment_erase.proofs.erase_record.Reads as reads
 use Rattle.segment_erase.proofs.erase_record.Lts as lts
-use Rattle.lent_pages.proofs.page_sound.Reads as page-sound-reads
-use Rattle.lent_pages.proofs.sizes_ok.Reads as sizes-ok-reads
-use Rattle.lent_pages.proofs.slot_on.Reads as slot-on-reads
+use Rattle.segment_pages.proofs.page_sound.Reads as page-sound-reads
+use Rattle.segment_pages.proofs.sizes_ok.Reads as sizes-ok-reads
+use Rattle.segment_pages.proofs.slot_on.Reads as slot-on-reads
 use Rattle.segment_erase.proofs.erase_forwarded.Reads as erase-forwarded-reads
 use Rattle.segment_erase.proofs.erase_ordinary.Reads as erase-ordinary-reads
 

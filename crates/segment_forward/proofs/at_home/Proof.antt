@@ -16,9 +16,9 @@ use Rattle.segment_forward.proofs.at_home.Statement.{statement}
 use Rattle.segment_forward.proofs.at_home.Tie as tie
 use Rattle.segment_forward.proofs.at_home.Reads as reads
 use Rattle.segment_forward.proofs.at_home.Lts as lts
-use Rattle.lent_steps.proofs.erase_on.Reads as erase-on-reads
-use Rattle.lent_steps.proofs.rewrite_on.Reads as rewrite-on-reads
-use Rattle.lent_steps.proofs.update_on.Reads as update-on-reads
+use Rattle.segment_steps.proofs.erase_on.Reads as erase-on-reads
+use Rattle.segment_steps.proofs.rewrite_on.Reads as rewrite-on-reads
+use Rattle.segment_steps.proofs.update_on.Reads as update-on-reads
 
 -- what the step on the root's page answered
 stays : (c : tie.Then1) → let a = c .before .before .before .before .before .before .before .before .args in wasMoved (relocate (segView (now (a .segment)) .page (pageNo (a .id))) (slotNo (a .id)) (a .size)) ≡ false

@@ -17,8 +17,8 @@ use Rattle.segment_forward.proofs.forward.Statement.{statement}
 use Rattle.segment_forward.proofs.forward.Tie as tie
 use Rattle.segment_forward.proofs.forward.Reads as reads
 use Rattle.segment_forward.proofs.forward.Lts as lts
-use Rattle.lent_steps.proofs.erase_for_redirect_on.Reads as erase-for-redirect-on-reads
-use Rattle.lent_steps.proofs.update_on.Reads as update-on-reads
+use Rattle.segment_steps.proofs.erase_for_redirect_on.Reads as erase-for-redirect-on-reads
+use Rattle.segment_steps.proofs.update_on.Reads as update-on-reads
 use Rattle.segment_forward.proofs.place_target.Reads as place-target-reads
 
 -- the new target, as the search left it

@@ -15,9 +15,9 @@ use Rattle.segment_forward.proofs.forward_again.Statement.{statement}
 use Rattle.segment_forward.proofs.forward_again.Tie as tie
 use Rattle.segment_forward.proofs.forward_again.Reads as reads
 use Rattle.segment_forward.proofs.forward_again.Lts as lts
-use Rattle.lent_steps.proofs.erase_on.Reads as erase-on-reads
-use Rattle.lent_steps.proofs.set_redirect_on.Reads as set-redirect-on-reads
-use Rattle.lent_steps.proofs.update_on.Reads as update-on-reads
+use Rattle.segment_steps.proofs.erase_on.Reads as erase-on-reads
+use Rattle.segment_steps.proofs.set_redirect_on.Reads as set-redirect-on-reads
+use Rattle.segment_steps.proofs.update_on.Reads as update-on-reads
 use Rattle.segment_forward.proofs.place_target.Reads as place-target-reads
 
 -- the new target, as the search left it

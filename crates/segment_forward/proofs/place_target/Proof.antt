@@ -18,8 +18,8 @@ use Rattle.store.specs.declared.Named.the-variants.{At}
 use Rattle.store.specs.declared.Place.{Place}
 use Rattle.store.specs.declared.Place.the-variants as place
 use Rattle.slotted_page.specs.Words.{pageAfter, placeOf, targetAt, Inside, PastEntry}
-use Rattle.lent_steps.specs.After.{target-length}
-use Rattle.lent_steps.proofs.Written.{bare-whole, none-written, target-written}
+use Rattle.segment_steps.specs.After.{target-length}
+use Rattle.segment_steps.proofs.Written.{bare-whole, none-written, target-written}
 use Rattle.segment_forward.specs.Words.{rootOrOld}
 use Rattle.segment_forward.proofs.Search.{named-fits, named-short, slot-small, place-full, place-damaged, place-excluded, place-no-room, place-taken, is-root, is-old, is-other}
 use borrow.Author.Needs.{needs}
@@ -28,9 +28,9 @@ use Rattle.segment_forward.proofs.place_target.Tie as tie
 use Rattle.segment_forward.proofs.place_target.Reads as reads
 use Rattle.segment_forward.proofs.place_target.Lts as lts
 use Rattle.free_space_inventory.proofs.find_page.Reads as find-page-reads
-use Rattle.lent_pages.proofs.page_sound.Reads as page-sound-reads
-use Rattle.lent_steps.proofs.reserve_on.Reads as reserve-on-reads
-use Rattle.slotted_page.proofs.insert.write_target.Reads as write-target-reads
+use Rattle.segment_pages.proofs.page_sound.Reads as page-sound-reads
+use Rattle.segment_steps.proofs.allocate_on.Reads as allocate-on-reads
+use Rattle.slotted_page.proofs.target.write_target.Reads as write-target-reads
 
 -- what the inventory named, and what the tests of that page told
 named-here : (c : tie.After-known-told) → let a = c .before .before .before .before .before .before .before .args in foundIn (now (a .inventory)) (length (now (a .segment)) / 16384) (a .size + 16) ≡ At (c .before .named .given .0 .0)
@@ -49,11 +49,11 @@ fits-here c = let a = c .before .before .before .before .before .before .before 
 place-here : (c : tie.After-known-told2)
     → let m = c .before .before .before .before .before .before .before .before .before .before .before .before in let a = m .before .before .before .before .before .before .before .args in
     placeOf (allocate (segView (now (a .segment)) .page (m .before .named .given .0 .0)) (a .size + 8)) ≡ place.At (c .before .place .given .0 .0) (c .before .place .given .0 .1 .0)
-place-here c = sym (c .before .before .before .before .before .reserve-on .ensures .1) ∙ c .before .place .given .1
+place-here c = sym (c .before .before .before .before .before .allocate-on .ensures .1) ∙ c .before .place .given .1
 
 written-here : (c : tie.After-write-target)
     → let x = c .before .before .before .before .before .before .before in let m = x .before .before .before .before .before .before .before in let a = m .before .before .before .before .before .before .before .args in let p = m .before .named .given .0 .0 in
-    putMid (p * 16384) ((p + 1) * 16384 - p * 16384) (x .reserve-on .last .0) (c .write-target .last .0)
+    putMid (p * 16384) ((p + 1) * 16384 - p * 16384) (x .allocate-on .last .0) (c .write-target .last .0)
     ≡ put (now (a .segment)) (p * 16384) (pageAfter (targetAt (allocate (segView (now (a .segment)) .page p) (a .size + 8)) (toBE 8 (a .id) ++ fit (a .size) (now (a .bytes)))) (pageOf (now (a .segment)) p))
 written-here c =
     let n = c .before .before in
@@ -61,9 +61,9 @@ written-here c =
     let m = x .before .before .before .before .before .before .before in
     let a = m .before .before .before .before .before .before .before .args in
     let bs = fit (a .size) (now (a .bytes)) in
-    target-written (now (a .segment)) _ (fits-here m) (sound-here (x .before .before .before .before)) (a .size + 8) (x .reserve-on .last .0) (x .reserve-on .ensures .0) _ _ (place-here n)
+    target-written (now (a .segment)) _ (fits-here m) (sound-here (x .before .before .before .before)) (a .size + 8) (x .allocate-on .last .0) (x .allocate-on .ensures .0) _ _ (place-here n)
     (toBE 8 (a .id) ++ bs) (target-length (a .id) bs (a .size) (length-fit (a .size) (now (a .bytes)))) (c .write-target .last .0)
-    (subst PastEntry (n .before .place .given .1) (x .reserve-on .ensures .3)) (c .write-target .ensures)
+    (subst PastEntry (n .before .place .given .1) (x .allocate-on .ensures .3)) (c .write-target .ensures)
 
 add-find-page : tie.Need-add-find-page
 add-find-page c = search needs
@@ -114,11 +114,11 @@ returns-4 c =
     let a = m .before .before .before .before .before .before .before .args in
     place-excluded (now (a .segment)) (now (a .inventory)) (a .id) (a .size) (fit (a .size) (now (a .bytes))) (rootOrOld (a .id) (a .old)) _ (named-here m) (sound-here (c .before .before)) (is-old (a .id) (a .old) _ (c .if3 .taken))
 
-add-reserve-on : tie.Need-add-reserve-on
-add-reserve-on c = search needs
+add-allocate-on : tie.Need-add-allocate-on
+add-allocate-on c = search needs
 
-reserve-on-requires : tie.Need-reserve-on-requires
-reserve-on-requires c κs =
+allocate-on-requires : tie.Need-allocate-on-requires
+allocate-on-requires c κs =
     let m = c .before .before .before .before .before .before in
     let a = m .before .before .before .before .before .before .before .args in
     let h = named-short (now (a .segment)) (now (a .inventory)) (a .size) _ (named-here m) in
@@ -141,9 +141,9 @@ returns-5 c =
     let s = now (a .segment) in
     let bs = fit (a .size) (now (a .bytes)) in
     let ok = sound-here (x .before .before .before .before) in
-    let e = sym (x .reserve-on .ensures .1) ∙ c .enum-told2 .given .1 in
-    place-no-room s (now (a .inventory)) (a .id) (a .size) bs (rootOrOld (a .id) (a .old)) _ (named-here m) ok (away-here (x .before .before)) (x .reserve-on .last .0)
-    (none-written s _ (fits-here m) ok (a .size + 8) (x .reserve-on .last .0) (x .reserve-on .ensures .0) e (toBE 8 (a .id) ++ bs) .1) e
+    let e = sym (x .allocate-on .ensures .1) ∙ c .enum-told2 .given .1 in
+    place-no-room s (now (a .inventory)) (a .id) (a .size) bs (rootOrOld (a .id) (a .old)) _ (named-here m) ok (away-here (x .before .before)) (x .allocate-on .last .0)
+    (none-written s _ (fits-here m) ok (a .size + 8) (x .allocate-on .last .0) (x .allocate-on .ensures .0) e (toBE 8 (a .id) ++ bs) .1) e
 
 mul-write-target : tie.Need-mul-write-target
 mul-write-target c = let m = c .before .before .before .before .before .before .before .before .before .before .before .before in omega (arith, fits-here m, m .before .before .before .before .before .before .before .pre .0 .few)
@@ -161,7 +161,7 @@ part-write-target-start : tie.Need-part-write-target-start
 part-write-target-start c = search needs
 
 part-write-target-end : tie.Need-part-write-target-end
-part-write-target-end c = let x = c .before .before .before .before .before in omega (arith, fits-here (x .before .before .before .before .before .before .before), x .reserve-on .kept .0)
+part-write-target-end c = let x = c .before .before .before .before .before in omega (arith, fits-here (x .before .before .before .before .before .before .before), x .allocate-on .kept .0)
 
 write-target-requires : tie.Need-write-target-requires
 write-target-requires c κs =
@@ -169,9 +169,9 @@ write-target-requires c κs =
     let x = c .before .before .before .before .before .before in
     let m = x .before .before .before .before .before .before .before in
     let a = m .before .before .before .before .before .before .before .args in (
-      bare-whole (now (a .segment)) _ (fits-here m) (sound-here (x .before .before .before .before)) (a .size + 8) (x .reserve-on .last .0) (x .reserve-on .ensures .0),
-      subst PastEntry g (x .reserve-on .ensures .3),
-      subst (λ (y : Place). Inside y (a .size + 8)) g (x .reserve-on .ensures .2),
+      bare-whole (now (a .segment)) _ (fits-here m) (sound-here (x .before .before .before .before)) (a .size + 8) (x .allocate-on .last .0) (x .allocate-on .ensures .0),
+      subst PastEntry g (x .allocate-on .ensures .3),
+      subst (λ (y : Place). Inside y (a .size + 8)) g (x .allocate-on .ensures .2),
     )
 
 mul-t14 : tie.Need-mul-t14
@@ -214,8 +214,8 @@ place-target-spec =
     returns-3
     same-length-3
     returns-4
-    add-reserve-on
-    reserve-on-requires
+    add-allocate-on
+    allocate-on-requires
     enum-known-place
     enum-told-2
     same-length-4

@@ -10,7 +10,7 @@ use borrow.Author.Tests.{not-true, not-false}
 use Rattle.store.specs.Inventory.{foundIn}
 use Rattle.store.specs.Segment.{sizeOk, invOk}
 use Rattle.store.specs.declared.Named.the-variants.{At}
-use Rattle.lent_steps.specs.After.{sizes}
+use Rattle.segment_steps.specs.After.{sizes}
 use Rattle.store.specs.Numbers.{zeros}
 use Rattle.segment_insert.proofs.Placed.{allocate-size, allocate-long, allocate-is, insert-full, insert-named, named-fits, fit-none, zeros-length}
 use Rattle.segment_insert.specs.Words.{insertOn}
@@ -20,7 +20,7 @@ use Rattle.segment_insert.proofs.allocate.Tie as tie
 use Rattle.segment_insert.proofs.allocate.Reads as reads
 use Rattle.segment_insert.proofs.allocate.Lts as lts
 use Rattle.free_space_inventory.proofs.find_page.Reads as find-page-reads
-use Rattle.lent_pages.proofs.sizes_ok.Reads as sizes-ok-reads
+use Rattle.segment_pages.proofs.sizes_ok.Reads as sizes-ok-reads
 use Rattle.segment_insert.proofs.insert_at.Reads as insert-at-reads
 
 -- what the test of the sizes told, and what the inventory named

@@ -16,8 +16,8 @@ use Rattle.store.specs.Laws.Relocate.{length-fit}
 use Rattle.store.specs.declared.Place.{Place}
 use Rattle.store.specs.declared.Place.the-variants.{At}
 use Rattle.slotted_page.specs.Words.{pageAfter, placeOf, filledAt, Inside}
-use Rattle.lent_steps.specs.After.{sizes-room}
-use Rattle.lent_steps.proofs.Written.{bare-whole, none-written, bytes-written}
+use Rattle.segment_steps.specs.After.{sizes-room}
+use Rattle.segment_steps.proofs.Written.{bare-whole, none-written, bytes-written}
 use Rattle.segment_insert.proofs.Placed.{at-damaged, at-stale, slot-small, free-small, at-done}
 use borrow.Author.Needs.{needs}
 use Rattle.segment_insert.proofs.insert_at.Statement.{statement}
@@ -25,9 +25,9 @@ use Rattle.segment_insert.proofs.insert_at.Tie as tie
 use Rattle.segment_insert.proofs.insert_at.Reads as reads
 use Rattle.segment_insert.proofs.insert_at.Lts as lts
 use Rattle.layout.proofs.fit_in.Reads as fit-in-reads
-use Rattle.lent_pages.proofs.page_sound.Reads as page-sound-reads
-use Rattle.lent_steps.proofs.reserve_on.Reads as reserve-on-reads
-use Rattle.lent_steps.proofs.update_on.Reads as update-on-reads
+use Rattle.segment_pages.proofs.page_sound.Reads as page-sound-reads
+use Rattle.segment_steps.proofs.allocate_on.Reads as allocate-on-reads
+use Rattle.segment_steps.proofs.update_on.Reads as update-on-reads
 
 -- what the test of the page told, and the place that the page answered
 sound-here : (c : tie.Else1) → let a = c .before .before .before .before .before .before .args in sound (segView (now (a .segment)) .page (a .p)) ≡ true
@@ -35,18 +35,18 @@ sound-here c = let e : c .before .page-sound .result ≡ true = not-false _ (c .
 
 place-here : (c : tie.After-known-told)
     → let a = c .before .before .before .before .before .before .before .before .before .before .before .before .before .args in placeOf (allocate (segView (now (a .segment)) .page (a .p)) (a .size)) ≡ At (c .before .place .given .0 .0) (c .before .place .given .0 .1 .0)
-place-here c = sym (c .before .before .before .before .before .reserve-on .ensures .1) ∙ c .before .place .given .1
+place-here c = sym (c .before .before .before .before .before .allocate-on .ensures .1) ∙ c .before .place .given .1
 
 -- what the segment is once the bytes stand there
 written-here : (c : tie.After-fit-in)
     → let x = c .before .before .before .before .before .before .before in let a = x .before .before .before .before .before .before .before .before .args in
-    putMid (a .p * 16384) ((a .p + 1) * 16384 - a .p * 16384) (x .reserve-on .last .0) (c .fit-in .last .0)
+    putMid (a .p * 16384) ((a .p + 1) * 16384 - a .p * 16384) (x .allocate-on .last .0) (c .fit-in .last .0)
     ≡ put (now (a .segment)) (a .p * 16384) (pageAfter (filledAt (allocate (segView (now (a .segment)) .page (a .p)) (a .size)) (fit (a .size) (now (a .bytes)))) (pageOf (now (a .segment)) (a .p)))
 written-here c =
     let x = c .before .before .before .before .before .before .before in
     let z = x .before .before .before .before .before .before .before .before in
     let a = z .args in
-    bytes-written (now (a .segment)) (a .p) (z .pre .1 .0) (sound-here (x .before .before)) (a .size) (x .reserve-on .last .0) (x .reserve-on .ensures .0) _ _ (place-here (c .before .before))
+    bytes-written (now (a .segment)) (a .p) (z .pre .1 .0) (sound-here (x .before .before)) (a .size) (x .allocate-on .last .0) (x .allocate-on .ensures .0) _ _ (place-here (c .before .before))
     (fit (a .size) (now (a .bytes))) (length-fit (a .size) (now (a .bytes))) (c .fit-in .last .0) (c .fit-in .ensures)
 
 page-sound-requires : tie.Need-page-sound-requires
@@ -61,8 +61,8 @@ returns c =
     let e : c .before .page-sound .result ≡ false = not-true _ (c .if1 .taken) in
     at-damaged (now (a .segment)) (now (a .inventory)) (fit (a .size) (now (a .bytes))) (a .p) (sym (c .before .page-sound .ensures .0) ∙ e)
 
-reserve-on-requires : tie.Need-reserve-on-requires
-reserve-on-requires c κs =
+allocate-on-requires : tie.Need-allocate-on-requires
+allocate-on-requires c κs =
     let z = c .before .before .before .before .before .before .before in
     (z .pre .1 .0, sound-here (c .before), z .pre .1 .1)
 
@@ -83,9 +83,9 @@ returns-2 c =
     let s = now (a .segment) in
     let bs = fit (a .size) (now (a .bytes)) in
     let ok = sound-here (x .before .before) in
-    let e = sym (x .reserve-on .ensures .1) ∙ c .enum-told .given .1 in
-    at-stale s (now (a .inventory)) bs (a .size) (length-fit (a .size) (now (a .bytes))) (a .p) (z .pre .1 .0) ok (x .reserve-on .last .0)
-    (none-written s (a .p) (z .pre .1 .0) ok (a .size) (x .reserve-on .last .0) (x .reserve-on .ensures .0) e bs .0) e
+    let e = sym (x .allocate-on .ensures .1) ∙ c .enum-told .given .1 in
+    at-stale s (now (a .inventory)) bs (a .size) (length-fit (a .size) (now (a .bytes))) (a .p) (z .pre .1 .0) ok (x .allocate-on .last .0)
+    (none-written s (a .p) (z .pre .1 .0) ok (a .size) (x .allocate-on .last .0) (x .allocate-on .ensures .0) e bs .0) e
 
 mul-fit-in : tie.Need-mul-fit-in
 mul-fit-in c = search needs
@@ -110,8 +110,8 @@ fit-in-requires c κs =
     let x = c .before .before .before .before .before .before in
     let z = x .before .before .before .before .before .before .before .before in
     let a = z .args in
-    let h = subst (λ (y : Place). Inside y (a .size)) (c .before .before .place .given .1) (x .reserve-on .ensures .2) in
-    omega (arith, h, bare-whole (now (a .segment)) (a .p) (z .pre .1 .0) (sound-here (x .before .before)) (a .size) (x .reserve-on .last .0) (x .reserve-on .ensures .0))
+    let h = subst (λ (y : Place). Inside y (a .size)) (c .before .before .place .given .1) (x .allocate-on .ensures .2) in
+    omega (arith, h, bare-whole (now (a .segment)) (a .p) (z .pre .1 .0) (sound-here (x .before .before)) (a .size) (x .allocate-on .last .0) (x .allocate-on .ensures .0))
 
 update-on-requires : tie.Need-update-on-requires
 update-on-requires c κs =
@@ -122,7 +122,7 @@ update-on-requires c κs =
     let s = now (a .segment) in
     let v = now (a .inventory) in
     let h = written-here y in
-    let t = putMid (a .p * 16384) ((a .p + 1) * 16384 - a .p * 16384) (x .reserve-on .last .0) (y .fit-in .last .0) in
+    let t = putMid (a .p * 16384) ((a .p + 1) * 16384 - a .p * 16384) (x .allocate-on .last .0) (y .fit-in .last .0) in
     let l = ap length h ∙ length-put s (a .p * 16384) _ in (
       sizes-room s v t v (z .pre .0) l refl,
       (omega (arith, l, z .pre .1 .0), free-small s v _ (a .size) (length-fit (a .size) (now (a .bytes))) (a .p) (z .pre .1 .0) (sound-here (x .before .before)) _ h _ _ (place-here (y .before .before))),
@@ -161,7 +161,7 @@ insert-at-spec =
     page-sound-requires
     same-length
     returns
-    reserve-on-requires
+    allocate-on-requires
     enum-known-place
     enum-told
     same-length-2

@@ -11,7 +11,7 @@ use Rattle.store.specs.Inventory.{foundIn}
 use Rattle.store.specs.Segment.{sizeOk, invOk}
 use Rattle.store.specs.declared.Named.the-variants.{At}
 use Rattle.slotted_page.specs.Plans.{fit-all}
-use Rattle.lent_steps.specs.After.{sizes}
+use Rattle.segment_steps.specs.After.{sizes}
 use Rattle.segment_insert.specs.Words.{insertOn}
 use Rattle.segment_insert.proofs.Placed.{insert-size, insert-long, insert-full, insert-named, named-fits}
 use borrow.Author.Needs.{needs}
@@ -20,7 +20,7 @@ use Rattle.segment_insert.proofs.insert_record.Tie as tie
 use Rattle.segment_insert.proofs.insert_record.Reads as reads
 use Rattle.segment_insert.proofs.insert_record.Lts as lts
 use Rattle.free_space_inventory.proofs.find_page.Reads as find-page-reads
-use Rattle.lent_pages.proofs.sizes_ok.Reads as sizes-ok-reads
+use Rattle.segment_pages.proofs.sizes_ok.Reads as sizes-ok-reads
 use Rattle.segment_insert.proofs.insert_at.Reads as insert-at-reads
 
 -- what the test of the sizes told, and what the inventory named

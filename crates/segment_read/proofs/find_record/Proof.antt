@@ -10,9 +10,9 @@ use Rattle.segment_read.proofs.find_record.Statement.{statement}
 use Rattle.segment_read.proofs.find_record.Tie as tie
 use Rattle.segment_read.proofs.find_record.Reads as reads
 use Rattle.segment_read.proofs.find_record.Lts as lts
-use Rattle.lent_pages.proofs.is_segment.Reads as is-segment-reads
-use Rattle.lent_pages.proofs.page_sound.Reads as page-sound-reads
-use Rattle.lent_pages.proofs.slot_on.Reads as slot-on-reads
+use Rattle.segment_pages.proofs.is_segment.Reads as is-segment-reads
+use Rattle.segment_pages.proofs.page_sound.Reads as page-sound-reads
+use Rattle.segment_pages.proofs.slot_on.Reads as slot-on-reads
 use Rattle.segment_read.proofs.read_slot.Reads as read-slot-reads
 
 is-segment-requires : tie.Need-is-segment-requires

@@ -14,8 +14,8 @@ use Rattle.segment_read.proofs.follow.Statement.{statement}
 use Rattle.segment_read.proofs.follow.Tie as tie
 use Rattle.segment_read.proofs.follow.Reads as reads
 use Rattle.segment_read.proofs.follow.Lts as lts
-use Rattle.lent_pages.proofs.points_back.Reads as points-back-reads
-use Rattle.lent_pages.proofs.slot_on.Reads as slot-on-reads
+use Rattle.segment_pages.proofs.points_back.Reads as points-back-reads
+use Rattle.segment_pages.proofs.slot_on.Reads as slot-on-reads
 use Rattle.segment_read.proofs.target_part.Reads as target-part-reads
 
 points : (c : tie.Else1) → let a = c .before .before .before .args in pointsBack (segView (now (a .segment))) (a .i) (a .t) ≡ true

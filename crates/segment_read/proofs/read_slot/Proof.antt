@@ -4,7 +4,7 @@ use mathlib.Core.Path.{refl, sym, _∙_}
 use native.Mathlib.Omega.{arith}
 use denote.Ref.{now}
 use Rattle.store.specs.Numbers.{pageNo, slotNo}
-use Rattle.lent_pages.proofs.Seen.{slot-high, target-long}
+use Rattle.segment_pages.proofs.Seen.{slot-high, target-long}
 use Rattle.segment_read.specs.Parts.{locateBy}
 use borrow.Author.Needs.{needs}
 use Rattle.segment_read.proofs.read_slot.Statement.{statement}

@@ -8,7 +8,7 @@ use Rattle.segment_scan.proofs.damaged_on_reaching.Statement.{statement
 use Rattle.segment_scan.proofs.damaged_on_reaching.Tie as tie
 use Rattle.segment_scan.proofs.damaged_on_reaching.Reads as reads
 use Rattle.segment_scan.proofs.damaged_on_reaching.Lts as lts
-use Rattle.lent_pages.proofs.page_sound.Reads as page-sound-reads
+use Rattle.segment_pages.proofs.page_sound.Reads as page-sound-reads
 
 returns : tie.Need-returns
 returns c =

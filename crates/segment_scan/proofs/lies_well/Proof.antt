@@ -3,7 +3,7 @@ use mathlib.Core.Path.{_≡_, sym, _∙_}
 use mathlib.Core.Bool.{true, false}
 use native.Mathlib.Omega.{arith}
 use borrow.Author.Tests.{not-true, not-false}
-use Rattle.segment_scan.proofs.Records.{codable-place, well-no, well-plain, well-target}
+use Rattle.segment_scan.proofs.Records.{codable-position, well-no, well-plain, well-target}
 use borrow.Author.Needs.{needs}
 use Rattle.segment_scan.proofs.lies_well.Statement.{statement}
 use Rattle.segment_scan.proofs.lies_well.Tie as tie
@@ -23,7 +23,7 @@ len-of-requires c κs = search needs
 lies-at-requires : tie.Need-lies-at-requires
 lies-at-requires c κs =
     let a = c .before .before in
-    omega (arith, codable-place (a .args .s) (a .pre))
+    omega (arith, codable-position (a .args .s) (a .pre))
 
 returns : tie.Need-returns
 returns c =

@@ -6,12 +6,12 @@ use borrow.Author.Needs.{needs}
 use Rattle.store.specs.Slots.{isRecord}
 use Rattle.store.specs.Segment.{segView}
 use Rattle.store.specs.Scan.{nextRecord}
-use Rattle.segment_scan.proofs.Places.{next-here, next-turn, next-done}
+use Rattle.segment_scan.proofs.Positions.{next-here, next-turn, next-done}
 use Rattle.segment_scan.proofs.next_record.Statement.{statement}
 use Rattle.segment_scan.proofs.next_record.Tie as tie
 use Rattle.segment_scan.proofs.next_record.Reads as reads
 use Rattle.segment_scan.proofs.next_record.Lts as lts
-use Rattle.lent_pages.proofs.slot_on.Reads as slot-on-reads
+use Rattle.segment_pages.proofs.slot_on.Reads as slot-on-reads
 use Rattle.layout.proofs.slots.is_record.Reads as is-record-reads
 
 abbrev Inv-loop : tie.InvT-loop

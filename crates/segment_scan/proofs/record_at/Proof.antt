@@ -11,7 +11,7 @@ use Rattle.segment_scan.proofs.record_at.Reads as reads
 use Rattle.segment_scan.proofs.record_at.Lts as lts
 use Rattle.layout.proofs.slots.len_of.Reads as len-of-reads
 use Rattle.layout.proofs.slots.off_of.Reads as off-of-reads
-use Rattle.lent_pages.proofs.back_id_on.Reads as back-id-on-reads
+use Rattle.segment_pages.proofs.back_id_on.Reads as back-id-on-reads
 use Rattle.layout.proofs.slots.is_target.Reads as is-target-reads
 
 high : (c : tie.After-is-target) → c .before .before .off-of .result + c .before .len-of .result ≤ 16384

@@ -12,8 +12,8 @@ use Rattle.segment_scan.proofs.record_or_damage.Statement.{statement}
 use Rattle.segment_scan.proofs.record_or_damage.Tie as tie
 use Rattle.segment_scan.proofs.record_or_damage.Reads as reads
 use Rattle.segment_scan.proofs.record_or_damage.Lts as lts
-use Rattle.lent_pages.proofs.data_start_on.Reads as data-start-on-reads
-use Rattle.lent_pages.proofs.slot_on.Reads as slot-on-reads
+use Rattle.segment_pages.proofs.data_start_on.Reads as data-start-on-reads
+use Rattle.segment_pages.proofs.slot_on.Reads as slot-on-reads
 use Rattle.segment_scan.proofs.lies_well.Reads as lies-well-reads
 use Rattle.segment_scan.proofs.record_at.Reads as record-at-reads
 

@@ -4,13 +4,13 @@ use native.Mathlib.Omega.{arith}
 use denote.Ref.{now}
 use Rattle.store.specs.Segment.{segView}
 use Rattle.segment_scan.proofs.Records.{record-not-end}
-use Rattle.segment_scan.proofs.Places.{next-is, page-damaged, page-none, page-record}
+use Rattle.segment_scan.proofs.Positions.{next-is, page-damaged, page-none, page-record}
 use borrow.Author.Needs.{needs}
 use Rattle.segment_scan.proofs.scan_page.Statement.{statement}
 use Rattle.segment_scan.proofs.scan_page.Tie as tie
 use Rattle.segment_scan.proofs.scan_page.Reads as reads
 use Rattle.segment_scan.proofs.scan_page.Lts as lts
-use Rattle.lent_pages.proofs.slot_count_on.Reads as slot-count-on-reads
+use Rattle.segment_pages.proofs.slot_count_on.Reads as slot-count-on-reads
 use Rattle.segment_scan.proofs.damaged_on_reaching.Reads as damaged-on-reaching-reads
 use Rattle.segment_scan.proofs.next_record.Reads as next-record-reads
 use Rattle.segment_scan.proofs.record_or_damage.Reads as record-or-damage-reads

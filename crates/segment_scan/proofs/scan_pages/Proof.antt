@@ -8,7 +8,7 @@ use borrow.Author.Needs.{needs}
 use borrow.Author.Tests.{not-true, not-false}
 use Rattle.store.specs.Segment.{segView}
 use Rattle.store.specs.Scan.{scanFrom}
-use Rattle.segment_scan.proofs.Places.{later-no, later-yes, from-turn, from-done, plan-from}
+use Rattle.segment_scan.proofs.Positions.{later-no, later-yes, from-turn, from-done, plan-from}
 use Rattle.segment_scan.proofs.scan_pages.Statement.{statement}
 use Rattle.segment_scan.proofs.scan_pages.Tie as tie
 use Rattle.segment_scan.proofs.scan_pages.Reads as reads

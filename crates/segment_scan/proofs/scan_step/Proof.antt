@@ -4,13 +4,13 @@ use mathlib.Core.Bool.{true, false}
 use denote.Ref.{now}
 use borrow.Author.Tests.{not-true, not-false}
 use Rattle.store.specs.Laws.SoundSegment.{sized}
-use Rattle.segment_scan.proofs.Places.{step-over, step-size, step-plan}
+use Rattle.segment_scan.proofs.Positions.{step-over, step-size, step-plan}
 use borrow.Author.Needs.{needs}
 use Rattle.segment_scan.proofs.scan_step.Statement.{statement}
 use Rattle.segment_scan.proofs.scan_step.Tie as tie
 use Rattle.segment_scan.proofs.scan_step.Reads as reads
 use Rattle.segment_scan.proofs.scan_step.Lts as lts
-use Rattle.lent_pages.proofs.is_segment.Reads as is-segment-reads
+use Rattle.segment_pages.proofs.is_segment.Reads as is-segment-reads
 use Rattle.segment_scan.proofs.scan_pages.Reads as scan-pages-reads
 
 returns : tie.Need-returns

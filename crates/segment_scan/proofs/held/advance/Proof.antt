@@ -1,4 +1,4 @@
--- `segment_scan::held::advance` meets its contract: a walk of its MIR, by hand. The borrow is opened, the fields are copied out, `step_from` is called on them, the place that it found is stored, and the borrow is closed at the struct with that place; its step is the result.
+-- `segment_scan::held::advance` meets its contract: a walk of its MIR, by hand. The borrow is opened, the fields are copied out, `step_from` is called on them, the position that it found is stored, and the borrow is closed at the struct with that position; its step is the result.
 -- What the scan owns is had twice: of one copy the callee has what it asks, and of the other what segment owns is kept. The numbers' facts are made anew.
 -- Assumes nothing.
 use mathlib.Core.Path.{_≡_, refl, ap}
@@ -71,7 +71,7 @@ abbrev α : Lft → NamedLft
 abbrev B : Lft → RattleType
 B κ′ = T.the-row (α κ′)
 
--- `Scan<'a>`, as the referent's place in the signature
+-- `Scan<'a>`, as the referent's position in the signature
 abbrev behind : Slot 2
 behind = plain (λ κs. T.the-row (namedLft 2 1 tt κs))
 
@@ -94,7 +94,7 @@ module _ {M : Type 1} (𝓤 : URA M) (H : Heap 𝓤) (A : Atoms 𝓤) (W : Given
   abbrev low : Step → Val
   low = EL.val S.the-type S′.the-laws
 
-  -- what the callee says of its result, and the scan at the place that it found
+  -- what the callee says of its result, and the scan at the position that it found
   abbrev Went : Moved → Type 0
   Went r = Goes (now (h .segment)) (h .page) (h .slot) r
 
@@ -172,7 +172,7 @@ module _ {M : Type 1} (𝓤 : URA M) (H : Heap 𝓤) (A : Atoms 𝓤) (W : Given
         assigns ! (of-opd ! (load ! (from ! (fld ! refl (stop !))) (look-in ! 14 (sub ! 1 refl (whole !))))) (from ! (hop ! (look ! 16 refl) (fld ! refl (stop !)))) (store-in ! 3 (sub ! 1 refl (whole !)) (tt, record { fits = LL.owed F.the-type F′.the-laws r _ is .1 .0 .1 })) $
         assigns ! (of-opd ! (load ! (from ! (fld ! refl (stop !))) (look-in ! 14 (sub ! 2 refl (whole !))))) (from ! (hop ! (look ! 16 refl) (fld ! refl (stop !)))) (store-in ! 3 (sub ! 2 refl (whole !)) (tt, record { fits = LL.owed F.the-type F′.the-laws r _ is .1 .1 .0 .1 })) $
         assigns ! (of-opd ! (load ! (from ! (fld ! refl (stop !))) (look-in ! 14 (sub ! 0 refl (whole !))))) (from ! (stop !)) (init ! 18 refl (EL.lawful S.the-type S′.the-laws 𝓤 H A W tt .typed (r .step) _ (LL.owed F.the-type F′.the-laws r _ is .0) .0)) $
-        -- the borrow is closed at the new place
+        -- the borrow is closed at the new position
         move ! (2 ∷ []) $ use1 W (‵ (B κ′ .own (moved r) (T′.lowered (moved r) ∷ []))) (again r (LL.owed F.the-type F′.the-laws r _ is .1 .0 .1) (LL.owed F.the-type F′.the-laws r _ is .1 .1 .0 .1)) $
         move ! (3 ∷ []) $ use1 W (‵ (cellAt fullShare (B κ′ .mir) (T′.lowered (moved r) ∷ []) b o)) (W .laws .at-raw fullShare (T′.mir erased) b o (T′.lowered (moved r))) $
         move ! (0 ∷ 1 ∷ 4 ∷ 5 ∷ 6 ∷ []) $ closes ! tt (B κ′) (moved r) (T′.lowered (moved r) ∷ []) b o $

@@ -1,4 +1,4 @@
--- `segment_scan::held::new` meets its contract: a walk of its MIR, by hand. A `Scan` is made of the slice passed and the place 0, 0, in the result's local.
+-- `segment_scan::held::new` meets its contract: a walk of its MIR, by hand. A `Scan` is made of the slice passed and the position 0, 0, in the result's local.
 -- A `&[u8]` is Copy, so what it owns is had twice: once for segment at exit, and once inside the result, beside the facts of page and slot.
 -- Assumes nothing.
 use mathlib.Core.Path.{refl}

@@ -2,7 +2,7 @@
 use mathlib.Core.Path.{ap, _∙_}
 use denote.Ref.{now}
 use Rattle.store.specs.Scan.{Scanned}
-use Rattle.segment_scan.proofs.Places.{page-of, slot-of}
+use Rattle.segment_scan.proofs.Positions.{page-of, slot-of}
 use borrow.Author.Needs.{needs}
 use Rattle.segment_scan.proofs.held.step_from.Statement.{statement}
 use Rattle.segment_scan.proofs.held.step_from.Tie as tie

@@ -6,7 +6,7 @@ use Rattle.store.specs.PageSteps.{relocate}
 use Rattle.store.specs.Page.{view}
 use Rattle.store.specs.Laws.Relocate.{length-fit}
 use Rattle.store.specs.declared.Place.{Place}
-use Rattle.places.specs.Words.{Inside}
+use Rattle.page_places.specs.Words.{Inside}
 use Rattle.slotted_page.proofs.RecordLaws.{bytes-done}
 use Rattle.slotted_page.proofs.FillLaws.{refused-done}
 use borrow.Author.Needs.{needs}
@@ -15,7 +15,7 @@ use Rattle.slotted_page.proofs.record.rewrite.Tie as tie
 use Rattle.slotted_page.proofs.record.rewrite.Reads as reads
 use Rattle.slotted_page.proofs.record.rewrite.Lts as lts
 use Rattle.layout.proofs.fit_in.Reads as fit-in-reads
-use Rattle.places.proofs.relocation.move_slot.Reads as move-slot-reads
+use Rattle.page_places.proofs.relocation.move_slot.Reads as move-slot-reads
 
 move-slot-requires : tie.Need-move-slot-requires
 move-slot-requires c κs = search needs

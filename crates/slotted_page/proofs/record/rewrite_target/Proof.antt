@@ -9,7 +9,7 @@ use Rattle.store.specs.PageSteps.{relocate}
 use Rattle.store.specs.Page.{view}
 use Rattle.layout.proofs.Writes.{write-append}
 use Rattle.store.specs.declared.Place.{Place}
-use Rattle.places.specs.Words.{Inside}
+use Rattle.page_places.specs.Words.{Inside}
 use Rattle.slotted_page.proofs.RecordLaws.{bytes-done}
 use Rattle.slotted_page.proofs.FillLaws.{refused-done}
 use borrow.Author.Needs.{needs}
@@ -19,7 +19,7 @@ use Rattle.slotted_page.proofs.record.rewrite_target.Reads as reads
 use Rattle.slotted_page.proofs.record.rewrite_target.Lts as lts
 use Rattle.layout.proofs.copy_in.Reads as copy-in-reads
 use Rattle.layout.proofs.put_u64.Reads as put-u64-reads
-use Rattle.places.proofs.relocation.move_slot.Reads as move-slot-reads
+use Rattle.page_places.proofs.relocation.move_slot.Reads as move-slot-reads
 
 add-move-slot : tie.Need-add-move-slot
 add-move-slot c = search needs

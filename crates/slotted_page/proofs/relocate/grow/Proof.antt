@@ -5,7 +5,7 @@ use Rattle.store.specs.Slots.{len, off}
 use Rattle.store.specs.PageSteps.{relocate}
 use Rattle.store.specs.Page.{view}
 use Rattle.store.specs.declared.Place.{Place}
-use Rattle.places.specs.Words.{Inside}
+use Rattle.page_places.specs.Words.{Inside}
 use Rattle.slotted_page.proofs.RecordLaws.{grow-done, old-done}
 use Rattle.slotted_page.proofs.FillLaws.{refused-done}
 use borrow.Author.Needs.{needs}
@@ -17,7 +17,7 @@ use Rattle.layout.proofs.move_within.Reads as move-within-reads
 use Rattle.layout.proofs.slots.len_of.Reads as len-of-reads
 use Rattle.layout.proofs.slots.off_of.Reads as off-of-reads
 use Rattle.layout.proofs.zero_fill.Reads as zero-fill-reads
-use Rattle.places.proofs.relocation.move_slot.Reads as move-slot-reads
+use Rattle.page_places.proofs.relocation.move_slot.Reads as move-slot-reads
 
 len-of-requires : tie.Need-len-of-requires
 len-of-requires c κs = search needs

@@ -6,7 +6,7 @@ use Rattle.store.specs.Slots.{len, off}
 use Rattle.store.specs.PageSteps.{relocate}
 use Rattle.store.specs.Page.{view}
 use Rattle.store.specs.declared.Place.{Place}
-use Rattle.places.specs.Words.{Inside}
+use Rattle.page_places.specs.Words.{Inside}
 use Rattle.slotted_page.proofs.RecordLaws.{saved-old, old-done}
 use Rattle.slotted_page.proofs.FillLaws.{refused-done}
 use Rattle.store.specs.Laws.Numbers.{length-put}
@@ -18,7 +18,7 @@ use Rattle.slotted_page.proofs.relocate.grow_packed.Lts as lts
 use Rattle.layout.proofs.fit_in.Reads as fit-in-reads
 use Rattle.layout.proofs.slots.len_of.Reads as len-of-reads
 use Rattle.layout.proofs.slots.off_of.Reads as off-of-reads
-use Rattle.places.proofs.relocation.move_slot.Reads as move-slot-reads
+use Rattle.page_places.proofs.relocation.move_slot.Reads as move-slot-reads
 use Rattle.layout.proofs.save.Reads as save-reads
 
 len-of-requires : tie.Need-len-of-requires

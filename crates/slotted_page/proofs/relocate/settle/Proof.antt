@@ -9,7 +9,7 @@ use Rattle.slotted_page.proofs.relocate.settle.Statement.{statement}
 use Rattle.slotted_page.proofs.relocate.settle.Tie as tie
 use Rattle.slotted_page.proofs.relocate.settle.Reads as reads
 use Rattle.slotted_page.proofs.relocate.settle.Lts as lts
-use Rattle.places.proofs.relocation.move_slot.Reads as move-slot-reads
+use Rattle.page_places.proofs.relocation.move_slot.Reads as move-slot-reads
 
 move-slot-requires : tie.Need-move-slot-requires
 move-slot-requires c κs = search needs

@@ -1,0 +1,33 @@
+-- `page_check::map::claim_record` meets its contract. Assumes nothing.
+use native.Mathlib.Omega.{arith}
+use borrow.Author.Needs.{needs}
+use Rattle.page_check.proofs.SlotLaws.{tells-no, tells-yes, refuted}
+use Rattle.page_check.proofs.MapLaws.{claimed-none}
+use Rattle.page_check.proofs.map.claim_record.Statement.{statement}
+use Rattle.page_check.proofs.map.claim_record.Tie as tie
+use Rattle.page_check.proofs.map.claim_record.Reads as reads
+use Rattle.page_check.proofs.map.claim_record.Lts as lts
+use Rattle.page_check.proofs.map.claim.Reads as claim-reads
+
+returns : tie.Need-returns
+returns c = (tells-yes (λ p. omega arith, λ i f g. absurd (omega arith)), λ _. claimed-none _ _ _ (omega arith))
+
+returns-2 : tie.Need-returns-2
+returns-2 c = (tells-no (λ h. omega (arith, h .0 (omega arith))), refuted)
+
+add-claim : tie.Need-add-claim
+add-claim c = search needs
+
+claim-requires : tie.Need-claim-requires
+claim-requires c κs = search needs
+
+same-length : tie.Need-same-length
+same-length c = search needs
+
+returns-3 : tie.Need-returns-3
+returns-3 c =
+    let w = c .before .before .claim .ensures in
+    (record { yes = λ e. (λ p. omega arith, w .0 .yes e); back = λ h. w .0 .back (h .1) }, w .1)
+
+pub claim-record-spec : {M : Type 1} → statement M
+claim-record-spec = tie.close (tie.spec returns returns-2 add-claim claim-requires same-length returns-3)

@@ -1,0 +1,65 @@
+-- `page_compactify::compact::compactify` meets its contract. Assumes nothing.
+use mathlib.Core.Path.{_≡_, ap, _∙_}
+use Prim.Native.Nat.{ℕ}
+use native.Mathlib.Omega.{arith}
+use lib.ListN.{take}
+use Rattle.store.specs.Page.{view}
+use Rattle.store.specs.PageSteps.{compactify}
+use Rattle.page_compactify.specs.Keys.{keys}
+use Rattle.page_compactify.proofs.PackLaws.{keys-ready, keys-slots}
+use borrow.Author.Needs.{needs}
+use Rattle.page_compactify.proofs.compact.compactify.Statement.{statement}
+use Rattle.page_compactify.proofs.compact.compactify.Tie as tie
+use Rattle.page_compactify.proofs.compact.compactify.Reads as reads
+use Rattle.page_compactify.proofs.compact.compactify.Lts as lts
+use Rattle.page_compactify.proofs.compact.pack.Reads as pack-reads
+use Rattle.layout.proofs.header.get_slot_count.Reads as get-slot-count-reads
+use Rattle.page_compactify.proofs.table.collect.Reads as collect-reads
+
+-- the table's first entries are the keys of the page's records
+listed : (c : tie.After-collect) →
+    let v = view (c .before .before .before .before .before .before .args .page .now) in
+    take (c .collect .result) (c .collect .last .1 .0) ≡ keys (v .slotCount) (v .at)
+listed c =
+    let v = view (c .before .before .before .before .before .before .args .page .now) in
+    c .collect .ensures .0 .firstFree ∙ ap (λ (n : ℕ). keys n (v .at)) (c .before .before .before .get-slot-count .ensures .0)
+
+get-slot-count-requires : tie.Need-get-slot-count-requires
+get-slot-count-requires c κs = search needs
+
+slice-aggregate-collect : tie.Need-slice-aggregate-collect
+slice-aggregate-collect c = search needs
+
+collect-requires : tie.Need-collect-requires
+collect-requires c κs = search needs
+
+slice-aggregate-pack : tie.Need-slice-aggregate-pack
+slice-aggregate-pack c = search needs
+
+pack-requires : tie.Need-pack-requires
+pack-requires c κs =
+    let b = c .before .before .before in
+    let s = b .before .before .before .before .before .before in
+    (omega arith, omega arith, rw (listed b) (keys-ready (view (s .args .page .now)) (s .pre .1)))
+
+same-length : tie.Need-same-length
+same-length c = search needs
+
+returns : tie.Need-returns
+unfolding compactify
+returns c =
+    let b = c .before .before .before .before .before .before in
+    let s = b .before .before .before .before .before .before in
+    rw (listed b, keys-slots (view (s .args .page .now)) (s .pre .1)) at (c .before .before .pack .ensures)
+
+pub compactify-spec : {M : Type 1} → statement M
+compactify-spec =
+    tie.close
+    (tie.spec
+    get-slot-count-requires
+    slice-aggregate-collect
+    collect-requires
+    slice-aggregate-pack
+    pack-requires
+    same-length
+    returns)

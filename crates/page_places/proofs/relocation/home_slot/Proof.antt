@@ -1,0 +1,50 @@
+-- `page_places::relocation::home_slot` meets its contract. Assumes nothing.
+use Rattle.store.specs.Page.{view}
+use Rattle.page_places.proofs.RelocationLaws.{home-none, home-done}
+use borrow.Author.Needs.{needs}
+use Rattle.page_places.proofs.relocation.home_slot.Statement.{statement}
+use Rattle.page_places.proofs.relocation.home_slot.Tie as tie
+use Rattle.page_places.proofs.relocation.home_slot.Reads as reads
+use Rattle.page_places.proofs.relocation.home_slot.Lts as lts
+use Rattle.layout.proofs.header.get_free_space.Reads as get-free-space-reads
+use Rattle.page_places.proofs.relocation.put_under.Reads as put-under-reads
+
+get-free-space-requires : tie.Need-get-free-space-requires
+get-free-space-requires c κs = search needs
+
+same-length : tie.Need-same-length
+same-length c = search needs
+
+returns : tie.Need-returns
+returns c =
+    let r = c .before in
+    let a = r .before .before .before .args in
+    let y = home-none (view (a .page .now)) (a .k) (a .size) (r .get-free-space .result) (a .page .now) (r .get-free-space .ensures .0) (c .if1 .taken) in
+    (y .0, y .1, tt)
+
+put-under-requires : tie.Need-put-under-requires
+put-under-requires c κs = search needs
+
+same-length-2 : tie.Need-same-length-2
+same-length-2 c = search needs
+
+returns-2 : tie.Need-returns-2
+returns-2 c =
+    let u = c .before .before in
+    let e = u .before .before in
+    let r = e .before in
+    let a = r .before .before .before .args in
+    let y = home-done (view (a .page .now)) (a .k) (a .size) (r .get-free-space .result) (a .page .now) (r .get-free-space .ensures .0)
+    (u .put-under .result) (u .put-under .last .0) (e .if1 .left) (u .put-under .ensures .0) (u .put-under .ensures .1) in
+    (y .0, y .1, u .put-under .ensures .2)
+
+pub home-slot-spec : {M : Type 1} → statement M
+home-slot-spec =
+    tie.close
+    (tie.spec
+    get-free-space-requires
+    same-length
+    returns
+    put-under-requires
+    same-length-2
+    returns-2)

@@ -1,0 +1,50 @@
+-- `page_places::relocation::park` meets its contract. Assumes nothing.
+use borrow.Author.Needs.{needs}
+use Rattle.page_places.proofs.relocation.park.Statement.{statement}
+use Rattle.page_places.proofs.relocation.park.Tie as tie
+use Rattle.page_places.proofs.relocation.park.Reads as reads
+use Rattle.page_places.proofs.relocation.park.Lts as lts
+use Rattle.layout.proofs.header.get_slot_count.Reads as get-slot-count-reads
+use Rattle.layout.proofs.header.get_first_free_slot.Reads as get-first-free-slot-reads
+use Rattle.layout.proofs.header.get_free_space.Reads as get-free-space-reads
+use Rattle.layout.proofs.header.get_data_start.Reads as get-data-start-reads
+use Rattle.page_places.proofs.relocation.commit.Reads as commit-reads
+
+get-slot-count-requires : tie.Need-get-slot-count-requires
+get-slot-count-requires c κs = search needs
+
+get-first-free-slot-requires : tie.Need-get-first-free-slot-requires
+get-first-free-slot-requires c κs = search needs
+
+get-data-start-requires : tie.Need-get-data-start-requires
+get-data-start-requires c κs = search needs
+
+get-free-space-requires : tie.Need-get-free-space-requires
+get-free-space-requires c κs = search needs
+
+add-commit : tie.Need-add-commit
+add-commit c = search needs
+
+commit-requires : tie.Need-commit-requires
+commit-requires c κs = search needs
+
+same-length : tie.Need-same-length
+same-length c = search needs
+
+returns : tie.Need-returns
+returns c =
+    let z = c .before .before in
+    rw (z .commit .ensures, z .before .before .get-free-space .ensures .0, z .before .before .before .before .get-data-start .ensures .0, z .before .before .before .before .before .before .get-first-free-slot .ensures .0, z .before .before .before .before .before .before .before .before .get-slot-count .ensures .0)
+
+pub park-spec : {M : Type 1} → statement M
+park-spec =
+    tie.close
+    (tie.spec
+    get-slot-count-requires
+    get-first-free-slot-requires
+    get-data-start-requires
+    get-free-space-requires
+    add-commit
+    commit-requires
+    same-length
+    returns)

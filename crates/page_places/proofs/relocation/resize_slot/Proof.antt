@@ -1,0 +1,121 @@
+-- `page_places::relocation::resize_slot` meets its contract. Assumes nothing.
+use mathlib.Core.Path.{sym, ap, _∙_}
+use native.Mathlib.Omega.{arith}
+use Rattle.store.specs.Slots.{len, off, isRecord}
+use Rattle.store.specs.Page.{view}
+use Rattle.page_places.proofs.RelocationLaws.{resize-same, resize-less, resize-none, resize-more, parked-by, grow-done}
+use borrow.Author.Needs.{needs}
+use Rattle.page_places.proofs.relocation.resize_slot.Statement.{statement}
+use Rattle.page_places.proofs.relocation.resize_slot.Tie as tie
+use Rattle.page_places.proofs.relocation.resize_slot.Reads as reads
+use Rattle.page_places.proofs.relocation.resize_slot.Lts as lts
+use Rattle.layout.proofs.header.get_free_space.Reads as get-free-space-reads
+use Rattle.layout.proofs.slots.len_of.Reads as len-of-reads
+use Rattle.layout.proofs.slots.off_of.Reads as off-of-reads
+use Rattle.page_places.proofs.relocation.park.Reads as park-reads
+use Rattle.page_places.proofs.relocation.put_under.Reads as put-under-reads
+use Rattle.page_places.proofs.relocation.shrink.Reads as shrink-reads
+
+len-of-requires : tie.Need-len-of-requires
+len-of-requires c κs = search needs
+
+off-of-requires : tie.Need-off-of-requires
+off-of-requires c κs = search needs
+
+returns : tie.Need-returns
+returns c =
+    let o = c .before in
+    let l = o .before in
+    let b = l .before .before in
+    let a = b .args in
+    let y = resize-same (view (a .page .now)) (a .k) (a .size) (l .len-of .result) (o .off-of .result) (a .page .now) (a .page .now) (l .len-of .ensures ∙ ap len (b .pre .3)) (o .off-of .ensures ∙ ap off (b .pre .3))
+    (ap isRecord (sym (b .pre .3)) ∙ b .pre .4) (c .if1 .taken) in
+    (y .0, y .1, omega (arith, b .pre .1 .high (a .k), ap len (b .pre .3), ap off (b .pre .3), l .len-of .ensures, o .off-of .ensures))
+
+shrink-requires : tie.Need-shrink-requires
+shrink-requires c κs = search needs
+
+same-length : tie.Need-same-length
+same-length c = search needs
+
+returns-2 : tie.Need-returns-2
+returns-2 c =
+    let z = c .before .before in
+    let e = z .before .before in
+    let o = e .before .before in
+    let l = o .before in
+    let b = l .before .before in
+    let a = b .args in
+    let y = resize-less (view (a .page .now)) (a .k) (a .size) (l .len-of .result) (o .off-of .result) (a .page .now) (z .shrink .last .0) (l .len-of .ensures ∙ ap len (b .pre .3)) (o .off-of .ensures ∙ ap off (b .pre .3))
+    (ap isRecord (sym (b .pre .3)) ∙ b .pre .4) (e .if2 .taken) (z .shrink .ensures) in
+    (y .0, y .1, omega (arith, b .pre .1 .high (a .k), ap len (b .pre .3), ap off (b .pre .3), l .len-of .ensures, o .off-of .ensures))
+
+get-free-space-requires : tie.Need-get-free-space-requires
+get-free-space-requires c κs = search needs
+
+same-length-2 : tie.Need-same-length-2
+same-length-2 c = search needs
+
+returns-3 : tie.Need-returns-3
+returns-3 c =
+    let r = c .before in
+    let e = r .before .before in
+    let o = e .before .before in
+    let l = o .before in
+    let b = l .before .before in
+    let a = b .args in
+    let y = resize-none (view (a .page .now)) (a .k) (a .size) (l .len-of .result) (o .off-of .result) (a .page .now) (a .page .now) (l .len-of .ensures ∙ ap len (b .pre .3)) (o .off-of .ensures ∙ ap off (b .pre .3))
+    (ap isRecord (sym (b .pre .3)) ∙ b .pre .4) (r .get-free-space .result) (r .get-free-space .ensures .0) (omega arith) (c .if3 .taken) in
+    (y .0, y .1, tt)
+
+park-requires : tie.Need-park-requires
+park-requires c κs =
+    let l = c .before .before .before .before .before .before .before in
+    let b = l .before .before in
+    (b .pre .0, b .pre .1, b .pre .2, omega (arith, b .pre .1 .high (b .args .k), ap len (b .pre .3), l .len-of .ensures))
+
+put-under-requires : tie.Need-put-under-requires
+put-under-requires c κs =
+    let k = c .before .before .before in
+    let l = c .before .before .before .before .before .before .before .before .before .before .before in
+    let b = l .before .before in
+    let a = b .args in
+    let x = parked-by (a .page .now) (a .k) (l .len-of .result) (a .s) (k .park .last .0) (b .pre .0) (b .pre .1) (b .pre .2) (b .pre .3) (b .pre .4) (l .len-of .ensures) (k .park .ensures) in
+    (x .whole, rw (x .seen) (x .sound), rw (x .seen) (b .pre .2), rw (x .seen) (omega (arith, ap len (b .pre .3), l .len-of .ensures)))
+
+same-length-3 : tie.Need-same-length-3
+same-length-3 c = search needs
+
+returns-4 : tie.Need-returns-4
+returns-4 c =
+    let u = c .before .before in
+    let k = c .before .before .before .before .before .before in
+    let r = c .before .before .before .before .before .before .before .before .before in
+    let o = c .before .before .before .before .before .before .before .before .before .before .before .before .before in
+    let l = o .before in
+    let b = l .before .before in
+    let a = b .args in
+    let x = parked-by (a .page .now) (a .k) (l .len-of .result) (a .s) (k .park .last .0) (b .pre .0) (b .pre .1) (b .pre .2) (b .pre .3) (b .pre .4) (l .len-of .ensures) (k .park .ensures) in
+    let g = grow-done (a .page .now) (a .k) (l .len-of .result) (a .s) (k .park .last .0) (b .pre .0) (b .pre .1) (b .pre .2) (b .pre .3) (b .pre .4) (l .len-of .ensures)
+    (a .size) (u .put-under .last .0) (k .park .ensures) (u .put-under .ensures .0) in
+    let y = resize-more (view (a .page .now)) (a .k) (a .size) (l .len-of .result) (o .off-of .result) (a .page .now) (u .put-under .last .0) (l .len-of .ensures ∙ ap len (b .pre .3)) (o .off-of .ensures ∙ ap off (b .pre .3))
+    (ap isRecord (sym (b .pre .3)) ∙ b .pre .4) (r .get-free-space .result) (u .put-under .result) (r .get-free-space .ensures .0) (omega arith) (omega arith) g (rw (x .seen) at (u .put-under .ensures .1)) in
+    (y .0, y .1, u .put-under .ensures .2)
+
+pub resize-slot-spec : {M : Type 1} → statement M
+resize-slot-spec =
+    tie.close
+    (tie.spec
+    len-of-requires
+    off-of-requires
+    returns
+    shrink-requires
+    same-length
+    returns-2
+    get-free-space-requires
+    same-length-2
+    returns-3
+    park-requires
+    put-under-requires
+    same-length-3
+    returns-4)

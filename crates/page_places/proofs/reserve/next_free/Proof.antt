@@ -1,0 +1,70 @@
+-- `page_places::reserve::next_free` meets its contract. Assumes nothing.
+use mathlib.Core.Path.{_≡_, refl, sym, ap, _∙_}
+use Prim.Native.Nat.{_+_, _≤_, _-_}
+use native.Mathlib.Omega.{arith}
+use Rattle.store.specs.Slots.{isFree}
+use Rattle.store.specs.Page.{view}
+use Rattle.store.specs.PageSteps.{nextFree}
+use Rattle.page_places.proofs.ReserveLaws.{next-here, next-past, next-end}
+use Rattle.page_places.proofs.reserve.next_free.Statement.{statement}
+use Rattle.page_places.proofs.reserve.next_free.Tie as tie
+use Rattle.page_places.proofs.reserve.next_free.Reads as reads
+use Rattle.page_places.proofs.reserve.next_free.Lts as lts
+use Rattle.layout.proofs.slots.get_slot.Reads as get-slot-reads
+use Rattle.layout.proofs.slots.is_free.Reads as is-free-reads
+
+abbrev Inv-loop : tie.InvT-loop
+Inv-loop page k c i₀ i = (i ≤ c + 1) × (nextFree (c - i) (view page .at) i ≡ nextFree (c - k) (view page .at) k)
+
+abbrev μ-loop : tie.MeasureT-loop
+μ-loop page k c i₀ i = c - i
+
+loop-holds : tie.Need-loop-holds Inv-loop μ-loop
+loop-holds c = (omega arith, refl)
+
+get-slot-requires : tie.Need-get-slot-requires Inv-loop μ-loop
+get-slot-requires c κs = omega arith
+
+is-free-requires : tie.Need-is-free-requires Inv-loop μ-loop
+is-free-requires c κs = omega arith
+
+returns : tie.Need-returns Inv-loop μ-loop
+returns c =
+    let l = c .before .before .before .before .loop in
+    let s = c .before .before .before .before .before .before .args in
+    let e = sym (c .if1 .taken) ∙ c .before .is-free .ensures ∙ ap isFree (c .before .before .get-slot .ensures .0) in
+    sym (next-here (view (s .page .now) .at) (s .c) (l .i) (omega arith) e) ∙ l .inv .1
+
+add-i : tie.Need-add-i Inv-loop μ-loop
+add-i c = omega arith
+
+loop-less : tie.Need-loop-less Inv-loop μ-loop
+loop-less c = omega arith
+
+loop-again : tie.Need-loop-again Inv-loop μ-loop
+loop-again c =
+    let l = c .before .before .before .before .loop in
+    let s = c .before .before .before .before .before .before .args in
+    let e = sym (c .if1 .left) ∙ c .before .is-free .ensures ∙ ap isFree (c .before .before .get-slot .ensures .0) in
+    (omega arith, sym (next-past (view (s .page .now) .at) (s .c) (l .i) (omega arith) e) ∙ l .inv .1)
+
+returns-2 : tie.Need-returns-2 Inv-loop μ-loop
+returns-2 c =
+    let l = c .before .loop in
+    let s = c .before .before .before .args in
+    sym (next-end (view (s .page .now) .at) (s .c) (l .i) (omega arith)) ∙ l .inv .1
+
+pub next-free-spec : {M : Type 1} → statement M
+next-free-spec =
+    tie.close
+    (tie.spec
+    Inv-loop
+    μ-loop
+    loop-holds
+    get-slot-requires
+    is-free-requires
+    returns
+    add-i
+    loop-less
+    loop-again
+    returns-2)

@@ -1,0 +1,122 @@
+-- `page_places::reserve::reserve` meets its contract. Assumes nothing.
+use native.Mathlib.Omega.{arith}
+use Rattle.store.specs.Page.{view}
+use Rattle.page_places.proofs.ReserveLaws.{reserve-none, reserve-done}
+use borrow.Author.Needs.{needs}
+use Rattle.page_places.proofs.reserve.reserve.Statement.{statement}
+use Rattle.page_places.proofs.reserve.reserve.Tie as tie
+use Rattle.page_places.proofs.reserve.reserve.Reads as reads
+use Rattle.page_places.proofs.reserve.reserve.Lts as lts
+use Rattle.page_compactify.proofs.room.make_room.Reads as make-room-reads
+use Rattle.layout.proofs.header.get_first_free_slot.Reads as get-first-free-slot-reads
+use Rattle.layout.proofs.header.get_free_space.Reads as get-free-space-reads
+use Rattle.layout.proofs.header.get_slot_count.Reads as get-slot-count-reads
+use Rattle.layout.proofs.header.set_header.Reads as set-header-reads
+use Rattle.layout.proofs.slots.write_slot.Reads as write-slot-reads
+use Rattle.page_places.proofs.reserve.added_for.Reads as added-for-reads
+use Rattle.page_places.proofs.reserve.next_free.Reads as next-free-reads
+
+get-slot-count-requires : tie.Need-get-slot-count-requires
+get-slot-count-requires c κs = search needs
+
+get-first-free-slot-requires : tie.Need-get-first-free-slot-requires
+get-first-free-slot-requires c κs = search needs
+
+get-free-space-requires : tie.Need-get-free-space-requires
+get-free-space-requires c κs = search needs
+
+added-for-requires : tie.Need-added-for-requires
+added-for-requires c κs = search needs
+
+add-if1 : tie.Need-add-if1
+add-if1 c = search needs
+
+same-length : tie.Need-same-length
+same-length c = search needs
+
+returns : tie.Need-returns
+returns c =
+    let a = c .before in
+    let g = a .before in
+    let f = g .before .before in
+    let n = f .before .before in
+    let s = n .before .before .before .args in
+    let y = reserve-none (view (s .page .now)) (s .size) (n .get-slot-count .result) (f .get-first-free-slot .result) (g .get-free-space .result) (a .added-for .result)
+    (n .get-slot-count .ensures .0) (f .get-first-free-slot .ensures .0) (g .get-free-space .ensures .0) (a .added-for .ensures .0) (s .page .now) (c .if1 .taken) in
+    (y .0, y .1, tt, tt)
+
+add-next-free : tie.Need-add-next-free
+add-next-free c = search needs
+
+next-free-requires : tie.Need-next-free-requires
+next-free-requires c κs = search needs
+
+add-make-room : tie.Need-add-make-room
+add-make-room c = search needs
+
+make-room-requires : tie.Need-make-room-requires
+make-room-requires c κs = search needs
+
+sub-d : tie.Need-sub-d
+sub-d c = search needs
+
+add-set-header : tie.Need-add-set-header
+add-set-header c = search needs
+
+add-set-header-2 : tie.Need-add-set-header-2
+add-set-header-2 c = search needs
+
+sub-set-header : tie.Need-sub-set-header
+sub-set-header c = search needs
+
+set-header-requires : tie.Need-set-header-requires
+set-header-requires c κs = search needs
+
+write-slot-requires : tie.Need-write-slot-requires
+write-slot-requires c κs = search needs
+
+same-length-2 : tie.Need-same-length-2
+same-length-2 c = search needs
+
+returns-2 : tie.Need-returns-2
+returns-2 c =
+    let w = c .before .before in
+    let h = w .before .before .before .before in
+    let r = h .before .before .before .before in
+    let x = r .before .before in
+    let e = x .before .before in
+    let a = e .before in
+    let g = a .before in
+    let f = g .before .before in
+    let n = f .before .before in
+    let b = n .before .before .before in
+    let s = b .args in
+    let y = reserve-done (view (s .page .now)) (s .size) (n .get-slot-count .result) (f .get-first-free-slot .result) (g .get-free-space .result) (a .added-for .result)
+    (n .get-slot-count .ensures .0) (f .get-first-free-slot .ensures .0) (g .get-free-space .ensures .0) (a .added-for .ensures .0) (b .pre .1)
+    (r .make-room .result) (x .next-free .result) (s .page .now) (r .make-room .last .0) (h .set-header .last .0) (w .write-slot .last .0)
+    (e .if1 .left) (x .next-free .ensures) (r .make-room .ensures .is) (r .make-room .ensures .begins) (h .set-header .ensures) (w .write-slot .ensures) in
+    (y .0, y .1, omega (arith, r .make-room .ensures), omega (arith, r .make-room .ensures, a .added-for .ensures, n .get-slot-count .ensures))
+
+pub reserve-spec : {M : Type 1} → statement M
+reserve-spec =
+    tie.close
+    (tie.spec
+    get-slot-count-requires
+    get-first-free-slot-requires
+    get-free-space-requires
+    added-for-requires
+    add-if1
+    same-length
+    returns
+    add-next-free
+    next-free-requires
+    add-make-room
+    make-room-requires
+    sub-d
+    add-set-header
+    add-set-header-2
+    sub-set-header
+    set-header-requires
+    write-slot-requires
+    same-length-2
+    returns-2)

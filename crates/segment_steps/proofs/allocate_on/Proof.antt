@@ -1,0 +1,72 @@
+-- `segment_steps::allocate_on` meets its contract. Assumes nothing.
+use denote.Ref.{now}
+use mathlib.Core.Path.{sym}
+use mathlib.Core.List.{List}
+use Prim.Native.Nat.{ℕ}
+use Rattle.store.specs.Page.{View, view}
+use Rattle.store.specs.PageSteps.{opened, allocate}
+use Rattle.store.specs.Laws.SoundSegment.{seen-page}
+use Rattle.slotted_page.specs.Words.{pageBare, placeOf}
+use Rattle.segment_steps.specs.Lent.{length-bare, lent-whole, lent-sound, lent-answer, lent-step}
+use borrow.Author.Needs.{needs}
+use Rattle.segment_steps.proofs.allocate_on.Statement.{statement}
+use Rattle.segment_steps.proofs.allocate_on.Tie as tie
+use Rattle.segment_steps.proofs.allocate_on.Reads as reads
+use Rattle.segment_steps.proofs.allocate_on.Lts as lts
+use Rattle.slotted_page.proofs.allocate.allocate.Reads as allocate-reads
+
+mul-allocate : tie.Need-mul-allocate
+mul-allocate c = search needs
+
+add-allocate : tie.Need-add-allocate
+add-allocate c = search needs
+
+mul-allocate-2 : tie.Need-mul-allocate-2
+mul-allocate-2 c = search needs
+
+sub-allocate : tie.Need-sub-allocate
+sub-allocate c = search needs
+
+part-allocate-start : tie.Need-part-allocate-start
+part-allocate-start c = search needs
+
+part-allocate-end : tie.Need-part-allocate-end
+part-allocate-end c = search needs
+
+allocate-requires : tie.Need-allocate-requires
+allocate-requires c κs =
+    let z = c .before .before in
+    let s = now (z .args .segment) in
+    (lent-whole s (z .args .p) (z .pre .0), lent-sound s (z .args .p) (z .pre .0) (z .pre .1), z .pre .2)
+
+same-length : tie.Need-same-length
+same-length c = search needs
+
+returns : tie.Need-returns
+returns c =
+    let z = c .before .before .before .before .before in
+    let s = now (z .args .segment) in
+    let p = z .args .p in
+    let n = z .args .size in
+    let x = c .before .before .allocate in
+    let see : List ℕ → View = λ q. opened (view q) in (
+      lent-step s p (z .pre .0) see (sym (seen-page s p)) (λ (v : View) (q : List ℕ). pageBare (allocate v n) q)
+          (λ (v : View) (q : List ℕ). length-bare (allocate v n) q) (x .last .0) (x .ensures .0),
+      lent-answer s p (z .pre .0) see (sym (seen-page s p)) (λ (v : View). placeOf (allocate v n)) _ (x .ensures .1),
+      x .ensures .2,
+      x .ensures .3,
+    )
+
+pub allocate-on-spec : {M : Type 1} → statement M
+allocate-on-spec =
+    tie.close
+    (tie.spec
+    mul-allocate
+    add-allocate
+    mul-allocate-2
+    sub-allocate
+    part-allocate-start
+    part-allocate-end
+    allocate-requires
+    same-length
+    returns)

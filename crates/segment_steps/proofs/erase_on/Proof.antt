@@ -1,0 +1,59 @@
+-- `segment_steps::erase_on` meets its contract. Assumes nothing.
+use denote.Ref.{now}
+use Rattle.store.specs.Page.{View, view}
+use Rattle.store.specs.PageSteps.{erase}
+use Rattle.store.specs.Laws.Calls.{page-ok}
+use Rattle.segment_steps.specs.Lent.{lent-taken, lent-plan}
+use borrow.Author.Needs.{needs}
+use Rattle.segment_steps.proofs.erase_on.Statement.{statement}
+use Rattle.segment_steps.proofs.erase_on.Tie as tie
+use Rattle.segment_steps.proofs.erase_on.Reads as reads
+use Rattle.segment_steps.proofs.erase_on.Lts as lts
+use Rattle.slotted_page.proofs.erase.erase.Reads as erase-reads
+
+mul-erase : tie.Need-mul-erase
+mul-erase c = search needs
+
+add-erase : tie.Need-add-erase
+add-erase c = search needs
+
+mul-erase-2 : tie.Need-mul-erase-2
+mul-erase-2 c = search needs
+
+sub-erase : tie.Need-sub-erase
+sub-erase c = search needs
+
+part-erase-start : tie.Need-part-erase-start
+part-erase-start c = search needs
+
+part-erase-end : tie.Need-part-erase-end
+part-erase-end c = search needs
+
+erase-requires : tie.Need-erase-requires
+erase-requires c κs =
+    let z = c .before .before in
+    lent-taken (now (z .args .segment)) (z .args .p) (z .args .k) (z .pre .0) (z .pre .1) (z .pre .2)
+
+same-length : tie.Need-same-length
+same-length c = search needs
+
+returns : tie.Need-returns
+returns c =
+    let z = c .before .before .before .before .before in
+    let s = now (z .args .segment) in
+    let o = page-ok s (z .args .p) (z .args .k) (z .pre .0) (z .pre .1) (z .pre .2) in
+    lent-plan s (z .args .p) (z .pre .0) view (o .seen) (λ (v : View). erase v (z .args .k)) (c .before .before .erase .last .0) (c .before .before .erase .ensures)
+
+pub erase-on-spec : {M : Type 1} → statement M
+erase-on-spec =
+    tie.close
+    (tie.spec
+    mul-erase
+    add-erase
+    mul-erase-2
+    sub-erase
+    part-erase-start
+    part-erase-end
+    erase-requires
+    same-length
+    returns)

@@ -1,0 +1,19 @@
+-- The words of the contracts: a page as a call sees it, and what a step on it leaves of the segment. Assumes nothing.
+use Prim.Native.Nat.{ℕ, _*_}
+use mathlib.Core.List.{List}
+use Rattle.store.specs.Numbers.{put}
+use Rattle.store.specs.Page.{View}
+use Rattle.store.specs.PageSteps.{Alloc, Relocated}
+use Rattle.store.specs.Segment.{pageOf, segView}
+use Rattle.slotted_page.specs.Words.{pageBare, pageMoved}
+
+abbrev pub seen : List ℕ → ℕ → View
+seen s p = segView s .page p
+
+-- a place has been made on page p; the record's bytes are still to be written
+abbrev pub allocatedOn : List ℕ → ℕ → Alloc → List ℕ
+allocatedOn s p a = put s (p * 16384) (pageBare a (pageOf s p))
+
+-- a record of page p has been relocated
+abbrev pub relocatedOn : List ℕ → ℕ → Relocated → List ℕ
+relocatedOn s p r = put s (p * 16384) (pageMoved r (pageOf s p))

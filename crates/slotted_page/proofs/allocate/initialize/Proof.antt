@@ -1,0 +1,21 @@
+-- `slotted_page::allocate::initialize` meets its contract. Assumes nothing.
+use mathlib.Core.Path.{_∙_}
+use Rattle.slotted_page.proofs.OpenLaws.{head-init}
+use borrow.Author.Needs.{needs}
+use Rattle.slotted_page.proofs.allocate.initialize.Statement.{statement}
+use Rattle.slotted_page.proofs.allocate.initialize.Tie as tie
+use Rattle.slotted_page.proofs.allocate.initialize.Reads as reads
+use Rattle.slotted_page.proofs.allocate.initialize.Lts as lts
+use Rattle.layout.proofs.header.set_header.Reads as set-header-reads
+
+set-header-requires : tie.Need-set-header-requires
+set-header-requires c κs = search needs
+
+same-length : tie.Need-same-length
+same-length c = search needs
+
+returns : tie.Need-returns
+returns c = c .before .before .set-header .ensures ∙ head-init (c .before .before .before .before .before .args .page .now)
+
+pub initialize-spec : {M : Type 1} → statement M
+initialize-spec = tie.close (tie.spec set-header-requires same-length returns)

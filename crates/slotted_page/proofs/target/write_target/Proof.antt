@@ -1,0 +1,54 @@
+-- `slotted_page::target::write_target` meets its contract. Assumes nothing.
+use mathlib.Core.Path.{sym, ap, _∙_}
+use mathlib.Core.List.{List, _++_}
+use Prim.Native.Nat.{ℕ}
+use Rattle.store.specs.Numbers.{put, toBE, fit}
+use Rattle.layout.proofs.Writes.{write-append}
+use borrow.Author.Needs.{needs}
+use Rattle.slotted_page.proofs.target.write_target.Statement.{statement}
+use Rattle.slotted_page.proofs.target.write_target.Tie as tie
+use Rattle.slotted_page.proofs.target.write_target.Reads as reads
+use Rattle.slotted_page.proofs.target.write_target.Lts as lts
+use Rattle.layout.proofs.fit_in.Reads as fit-in-reads
+use Rattle.layout.proofs.put_u64.Reads as put-u64-reads
+use Rattle.layout.proofs.slots.write_slot.Reads as write-slot-reads
+
+add-fit-in : tie.Need-add-fit-in
+add-fit-in c = search needs
+
+write-slot-requires : tie.Need-write-slot-requires
+write-slot-requires c κs = search needs
+
+put-u64-requires : tie.Need-put-u64-requires
+put-u64-requires c κs = search needs
+
+add-fit-in-2 : tie.Need-add-fit-in-2
+add-fit-in-2 c = search needs
+
+fit-in-requires : tie.Need-fit-in-requires
+fit-in-requires c κs = search needs
+
+same-length : tie.Need-same-length
+same-length c = search needs
+
+returns : tie.Need-returns
+returns c =
+    let z = c .before .before in
+    let i = z .before .before .before .before in
+    let w = i .before .before .before .before in
+    let a = w .before .before .before .before .args in
+    let bs = toBE 8 (a .id) ++ fit (a .size) (a .bytes .now) in
+    z .fit-in .ensures ∙ rw (i .put-u64 .ensures) (sym (write-append (a .offset) (toBE 8 (a .id)) (fit (a .size) (a .bytes .now)) (w .write-slot .last .0)))
+    ∙ ap (λ (q : List ℕ). put q (a .offset) bs) (w .write-slot .ensures)
+
+pub write-target-spec : {M : Type 1} → statement M
+write-target-spec =
+    tie.close
+    (tie.spec
+    add-fit-in
+    write-slot-requires
+    put-u64-requires
+    add-fit-in-2
+    fit-in-requires
+    same-length
+    returns)
