@@ -1,5 +1,4 @@
 -- The search for the next pages: what holds at the head of the loop over pages and of the loop over entries, and how a turn keeps it.
--- Assumes nothing.
 use Prim.Native.Nat.{ℕ, zero, suc, _+_, _-_, _≤_, _<_}
 use mathlib.Core.Path.{_≡_, refl, _∙_, sym, ap}
 use mathlib.Core.List.{List}

@@ -1,5 +1,4 @@
 -- One turn, and the end, of each loop of the inventory, as a law of the definition that the loop runs.
--- Assumes nothing.
 use Prim.Native.Nat.{ℕ, suc, _+_, _-_, _≤_, _<_}
 use mathlib.Core.Path.{_≡_, _∙_, ap}
 use mathlib.Core.List.{List}

@@ -1,5 +1,4 @@
 -- The update as a whole: its steps make the definition, and its class stays in range.
--- Assumes nothing.
 use Prim.Native.Nat.{ℕ, _+_, _-_, _≤_}
 use mathlib.Core.Path.{_≡_, _∙_, sym}
 use mathlib.Core.List.{List}

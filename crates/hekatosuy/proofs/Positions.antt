@@ -1,5 +1,5 @@
 -- The position that a step of the scan leaves fits one number: its slot is below 65,536, and its page no later than where it began or the
--- scan's end. Assumes nothing.
+-- scan's end.
 use Prim.Native.Nat.{ℕ, zero, suc, _+_, _-_, _*_, _^_, _≤_, _<_}
 use mathlib.Core.Path.{_≡_}
 use mathlib.Core.Bool.{true, not, _&&_}

@@ -1,4 +1,4 @@
--- What a call hands to C: its number, and what stands behind each pointer afterwards. Assumes nothing.
+-- What a call hands to C: its number, and what stands behind each pointer afterwards.
 use Prim.Native.Nat.{ℕ, _^_, _<_}
 use mathlib.Core.Bool.{cond}
 use lib.Dec.{eqb}

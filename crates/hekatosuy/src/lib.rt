@@ -242,7 +242,14 @@ pub extern "C" fn hk_scan_step(
     offset: &mut u64,
     length: &mut u64,
 ) -> u64
-    ensures { λ r. ⌜ record { answer = r; position = now (position .exit); found = now (found .exit); id = now (id .exit); offset = now (offset .exit); length = now (length .exit) }
+    ensures { λ r. ⌜ record {
+      answer = r;
+      position = now (position .exit);
+      found = now (found .exit);
+      id = now (id .exit);
+      offset = now (offset .exit);
+      length = now (length .exit);
+    }
         ≡ stepped (scanStep (now (segment .entry)) (pageNo (now (position .entry))) (slotNo (now (position .entry)))) ⌝ }
 {
     let h = step_from(segment, *position);

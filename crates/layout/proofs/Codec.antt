@@ -1,4 +1,4 @@
--- The leaves against the store's codec and header. Assumes nothing.
+-- The leaves against the store's codec and header.
 use mathlib.Core.Path.{_≡_, refl, sym, _∙_}
 use mathlib.Core.List.{List, _++_}
 use Prim.Native.Nat.{ℕ, zero, suc, _+_, _*_, _/_, _%_, _^_, _≤_, _<_}
@@ -34,7 +34,8 @@ module _ (h l : ℕ) (small : l < 2 ^ 32) where
   half-low = omega arith
 
 -- a slot that is counted
-pub counted-slot : (p : List ℕ) (k h l : ℕ) → 12 + 8 * k + 8 ≤ length p → k < view p .slotCount → h ≡ be (cut p (12 + 8 * k) 4) → l ≡ be (cut p (12 + 8 * k + 4) 4)
+pub counted-slot : (p : List ℕ) (k h l : ℕ) → 12 + 8 * k + 8 ≤ length p → k < view p .slotCount → h ≡ be (cut p (12 + 8 * k) 4)
+    → l ≡ be (cut p (12 + 8 * k + 4) 4)
     → slotOf (h * 2 ^ 32 + l) ≡ view p .at k
 unfolding view
 counted-slot p k h l f i eh el = sym (rw (lt-ltb k (count p) i, num8 (12 + 8 * k) p f, eh, el))

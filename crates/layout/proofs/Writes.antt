@@ -1,4 +1,4 @@
--- The laws of `write`, which every proof on pages cites. Assumes nothing.
+-- The laws of `write`, which every proof on pages cites.
 use mathlib.Core.Path.{_≡_, sym, ap, _∙_}
 use mathlib.Core.List.{List, [], _∷_, _++_, append-assoc, append-nil}
 use Prim.Native.Nat.{ℕ, zero, suc, _+_, _-_, _≤_, _<_}
@@ -42,19 +42,22 @@ write-append at (b ∷ v) w p =
 pub write-set-before : (at i b : ℕ) (v p : List ℕ) → i < at → write at v (set p i b) ≡ set (write at v p) i b
 write-set-before at i b [] p h = rw (put-nil (set p i b) at, put-nil p at)
 write-set-before at i b (a ∷ v) p h =
-    write-cons at a v (set p i b) ∙ ap (λ (l : List ℕ). write (suc at) v l) (set-comm p i at b a (λ e. omega arith)) ∙ write-set-before (suc at) i b v (set p at a) (omega arith)
+    write-cons at a v (set p i b) ∙ ap (λ (l : List ℕ). write (suc at) v l) (set-comm p i at b a (λ e. omega arith))
+    ∙ write-set-before (suc at) i b v (set p at a) (omega arith)
     ∙ ap (λ (l : List ℕ). set l i b) (sym (write-cons at a v p))
 
 -- a byte outside of the run is as it was
 pub getD-write-before : (at k : ℕ) (v p : List ℕ) → k < at → getD (write at v p) k 0 ≡ getD p k 0
 getD-write-before at k [] p h = rw (put-nil p at)
 getD-write-before at k (b ∷ v) p h =
-    ap (λ (l : List ℕ). getD l k 0) (write-cons at b v p) ∙ getD-write-before (suc at) k v (set p at b) (omega arith) ∙ getD-set-other p at k b 0 (λ e. omega arith)
+    ap (λ (l : List ℕ). getD l k 0) (write-cons at b v p) ∙ getD-write-before (suc at) k v (set p at b) (omega arith)
+    ∙ getD-set-other p at k b 0 (λ e. omega arith)
 
 pub getD-write-after : (at k : ℕ) (v p : List ℕ) → at + length v ≤ k → getD (write at v p) k 0 ≡ getD p k 0
 getD-write-after at k [] p h = rw (put-nil p at)
 getD-write-after at k (b ∷ v) p h =
-    ap (λ (l : List ℕ). getD l k 0) (write-cons at b v p) ∙ getD-write-after (suc at) k v (set p at b) (omega arith) ∙ getD-set-other p at k b 0 (λ e. omega arith)
+    ap (λ (l : List ℕ). getD l k 0) (write-cons at b v p) ∙ getD-write-after (suc at) k v (set p at b) (omega arith)
+    ∙ getD-set-other p at k b 0 (λ e. omega arith)
 
 -- a byte of the run is the one written
 pub getD-write-in : (at j : ℕ) (v p : List ℕ) → j < length v → at + j < length p → getD (write at v p) (at + j) 0 ≡ getD v j 0
@@ -62,7 +65,8 @@ getD-write-in at j [] p h k = absurd (omega arith)
 getD-write-in at zero (b ∷ v) p h k =
     rw (add-zero, write-cons at b v p) (getD-write-before (suc at) at v (set p at b) (omega arith) ∙ getD-set-same p at b 0 (omega arith))
 getD-write-in at (suc j) (b ∷ v) p h k =
-    ap (λ (l : List ℕ). getD l (at + suc j) 0) (write-cons at b v p) ∙ ap (λ (n : ℕ). getD (write (suc at) v (set p at b)) n 0) (omega arith) ∙ getD-write-in (suc at) j v (set p at b) (omega arith) (rw length-set (omega arith))
+    ap (λ (l : List ℕ). getD l (at + suc j) 0) (write-cons at b v p) ∙ ap (λ (n : ℕ). getD (write (suc at) v (set p at b)) n 0) (omega arith)
+    ∙ getD-write-in (suc at) j v (set p at b) (omega arith) (rw length-set (omega arith))
 
 -- one byte more, behind
 pub write-snoc : (at b : ℕ) (v p : List ℕ) → set (write at v p) (at + length v) b ≡ write at (v ++ b ∷ []) p
@@ -78,7 +82,8 @@ write-take-more at j s p h =
     ∙ rw (add-one, take-suc s j 0)
 
 -- a turn of a loop that copies backwards
-pub write-drop-more : (at j : ℕ) (s p : List ℕ) → j < length s → at + j < length p → set (write (at + suc j) (drop (suc j) s) p) (at + j) (getD s j 0) ≡ write (at + j) (drop j s) p
+pub write-drop-more : (at j : ℕ) (s p : List ℕ) → j < length s → at + j < length p
+    → set (write (at + suc j) (drop (suc j) s) p) (at + j) (getD s j 0) ≡ write (at + j) (drop j s) p
 write-drop-more at j s p h k =
     sym (write-set-before (at + suc j) (at + j) (getD s j 0) (drop (suc j) s) p (omega arith))
     ∙ rw (drop-cons s j 0, write-cons, add-suc)
@@ -86,7 +91,8 @@ write-drop-more at j s p h k =
 -- a turn of a loop that clears
 pub cleared-more : (at j : ℕ) (p : List ℕ) → set (cleared at j p) (at + j) 0 ≡ cleared at (j + 1) p
 cleared-more at j p =
-    ap (λ (k : ℕ). set (cleared at j p) (at + k) 0) (sym (length-replicate j 0)) ∙ write-snoc at 0 (replicate j 0) p ∙ ap (λ (l : List ℕ). write at l p) (snoc j)
+    ap (λ (k : ℕ). set (cleared at j p) (at + k) 0) (sym (length-replicate j 0)) ∙ write-snoc at 0 (replicate j 0) p
+    ∙ ap (λ (l : List ℕ). write at l p) (snoc j)
   where
     snoc : (n : ℕ) → _++_ {A = ℕ} (replicate n 0) (0 ∷ []) ≡ replicate (n + 1) 0
     snoc n = replicate-append-replicate n 1 0
@@ -103,7 +109,8 @@ pub move-down-more : (from n to j : ℕ) (p : List ℕ) → to ≤ from → from
 move-down-more from n to j p h k l =
     let e : length (part from n p) ≡ n = length-part from n p k in
     let f : length (take j (part from n p)) ≡ j = length-take-le j (part from n p) (omega arith) in
-    ap (set (write to (take j (part from n p)) p) (to + j)) (getD-write-after to (from + j) (take j (part from n p)) p (omega arith) ∙ sym (getD-part from n j p l))
+    ap (set (write to (take j (part from n p)) p) (to + j))
+    (getD-write-after to (from + j) (take j (part from n p)) p (omega arith) ∙ sym (getD-part from n j p l))
     ∙ write-take-more to j (part from n p) p (omega arith)
 
 pub move-up-more : (from n to j : ℕ) (p : List ℕ) → from ≤ to → to + n ≤ length p → j ≤ n → 0 < j
@@ -113,7 +120,8 @@ move-up-more from n to zero p h k l z = absurd (omega arith)
 move-up-more from n to (suc j) p h k l z =
     let o : suc j - 1 ≡ j = omega arith in
     let e : length (part from n p) ≡ n = length-part from n p (omega arith) in
-    rw o (ap (set (write (to + suc j) (drop (suc j) (part from n p)) p) (to + j)) (getD-write-before (to + suc j) (from + j) (drop (suc j) (part from n p)) p (omega arith) ∙ sym (getD-part from n j p l))
+    rw o (ap (set (write (to + suc j) (drop (suc j) (part from n p)) p) (to + j))
+    (getD-write-before (to + suc j) (from + j) (drop (suc j) (part from n p)) p (omega arith) ∙ sym (getD-part from n j p l))
     ∙ write-drop-more to j (part from n p) p (omega arith) (omega arith))
 
 -- the list up to the end of the run that was written

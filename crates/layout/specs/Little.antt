@@ -1,4 +1,4 @@
--- A little-endian number byte by byte, at every width: one more byte read, one more byte written. Assumes nothing.
+-- A little-endian number byte by byte, at every width: one more byte read, one more byte written.
 use Prim.Native.Nat.{ℕ, zero, suc, _+_, _*_, _/_, _%_, _^_, _≤_, _<_}
 use mathlib.Core.Path.{_≡_, refl, sym, ap, _∙_}
 use mathlib.Core.List.{List, [], _∷_, _++_, reverse-append, reverse-cons}

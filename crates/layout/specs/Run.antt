@@ -1,4 +1,4 @@
--- What the leaves read and write, in the store's own words: `cut`, `put`, `be`, `toBE`. Assumes nothing.
+-- What the leaves read and write, in the store's own words: `cut`, `put`, `be`, `toBE`.
 use mathlib.Core.Path.{_≡_}
 use mathlib.Core.List.{List, _++_}
 use Prim.Native.Nat.{ℕ, _^_, _<_}

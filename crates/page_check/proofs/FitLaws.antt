@@ -1,4 +1,4 @@
--- All slots: one more slot, and the whole page. Assumes nothing.
+-- All slots: one more slot, and the whole page.
 use Prim.Native.Nat.{ℕ, _+_, _*_, _≤_, _<_}
 use mathlib.Core.Path.{_≡_, refl, sym, ap, _∙_}
 use mathlib.Core.Bool.{Bool, true, false}
@@ -28,7 +28,8 @@ fit-none v f d = record { allowed = λ j h. absurd (omega arith); above = λ j h
 pub fit-lower : (v : View) (n f d e : ℕ) → RecordsFit v n f d → e ≤ d → RecordsFit v n f e
 fit-lower v n f d e r h = record { allowed = r .allowed; above = λ j g p. omega (arith, r .above j g p); apart = r .apart }
 
-pub fit-more : (v : View) (k f d : ℕ) → RecordsFit v k f d → Allowed (v .at k) k f 16384 → (0 < len (v .at k) → d ≤ off (v .at k)) → ((i : ℕ) → i < k → Apart (v .at i) (v .at k)) → RecordsFit v (k + 1) f d
+pub fit-more : (v : View) (k f d : ℕ) → RecordsFit v k f d → Allowed (v .at k) k f 16384 → (0 < len (v .at k) → d ≤ off (v .at k))
+    → ((i : ℕ) → i < k → Apart (v .at i) (v .at k)) → RecordsFit v (k + 1) f d
 fit-more v k f d r a o s = record {
   allowed = λ j h. allowed j h (ℕ-discrete j k);
   above = λ j h. above j h (ℕ-discrete j k);
@@ -52,12 +53,14 @@ total-none v = record { is = refl; small = omega arith }
 
 pub total-more : (v : View) (k t l : ℕ) → Total v k t → l ≡ len (v .at k) → l ≤ 16384 → Total v (k + 1) (t + l)
 total-more v k t l s e h = record {
-  is = let g : sum (k + 1) (λ j. len (v .at j)) ≡ len (v .at k) + sum k (λ j. len (v .at j)) = ap (λ (m : ℕ). sum m (λ j. len (v .at j))) (add-one k) in omega (arith, s .is, g);
+  is = let g : sum (k + 1) (λ j. len (v .at j)) ≡ len (v .at k) + sum k (λ j. len (v .at j)) =
+      ap (λ (m : ℕ). sum m (λ j. len (v .at j))) (add-one k) in omega (arith, s .is, g);
   small = omega (arith, s .small);
 }
 
 -- the record of slot k lies below all before
-pub fit-under : (v : View) (k f low o l : ℕ) → low ≤ 16384 → RecordsFit v k f low → Allowed (v .at k) k f low → Runs (v .at k) low o l → RecordsFit v (k + 1) f o
+pub fit-under : (v : View) (k f low o l : ℕ) → low ≤ 16384 → RecordsFit v k f low → Allowed (v .at k) k f low → Runs (v .at k) low o l
+    → RecordsFit v (k + 1) f o
 fit-under v k f low o l h r a s =
     fit-more v k f o (fit-lower v k f low o r (omega (arith, s .down)))
     (record { under = omega (arith, a .under); long = a .long; used = a .used })

@@ -1,4 +1,4 @@
--- Bits of a word, and the marks of a run of bytes. Assumes nothing.
+-- Bits of a word, and the marks of a run of bytes.
 use Prim.Native.Nat.{ℕ, zero, suc, _+_, _-_, _*_, _/_, _%_, _^_, _<_, _≤_, min, max}
 use mathlib.Core.Path.{_≡_, refl, sym, ap, subst, _∙_}
 use mathlib.Core.Bool.{Bool, true}
@@ -93,7 +93,9 @@ ones-shr b h = go (64 - b) (omega arith)
   where
     go : (k : ℕ) → b + k ≡ 64 → (2 ^ 64 - 1) / 2 ^ k ≡ 2 ^ b - 1
     go k e =
-        let f : 2 ^ 64 - 1 ≡ (2 ^ b - 1) * 2 ^ k + (2 ^ k - 1) = subst (λ (x : ℕ). 2 ^ x - 1 ≡ (2 ^ b - 1) * 2 ^ k + (2 ^ k - 1)) e (omega (arith, high-ones b k, pow-pos k, pow-mono {i = k} {j = b + k} (omega arith))) in
+        let f : 2 ^ 64 - 1 ≡ (2 ^ b - 1) * 2 ^ k + (2 ^ k - 1) =
+        subst (λ (x : ℕ). 2 ^ x - 1 ≡ (2 ^ b - 1) * 2 ^ k + (2 ^ k - 1)) e
+        (omega (arith, high-ones b k, pow-pos k, pow-mono {i = k} {j = b + k} (omega arith))) in
         rw f (high (2 ^ b - 1) k (omega (arith, pow-pos k)))
 
 pub one-shl : (a : ℕ) → a < 64 → (1 * 2 ^ a) % 2 ^ 64 ≡ 2 ^ a
@@ -128,7 +130,8 @@ module _ (u : List ℕ) (i a b m : ℕ) (mask : Mask m a b) (top : b ≤ 64) (in
       clear : (x : ℕ) → 64 * i + a ≤ x → x < 64 * i + b → bit (x % 64) (getD u (x / 64) 0) ≡ 0
       clear x f g =
           let e : x / 64 ≡ i = omega arith in
-          let z : min (bit (x % 64) (getD u i 0)) 1 ≡ 0 = rw (← within x f g) (sym (bit-and (x % 64) (getD u i 0) m) ∙ ap (bit (x % 64)) h ∙ bit-zero (x % 64)) in
+          let z : min (bit (x % 64) (getD u i 0)) 1 ≡ 0 =
+          rw (← within x f g) (sym (bit-and (x % 64) (getD u i 0) m) ∙ ap (bit (x % 64)) h ∙ bit-zero (x % 64)) in
           rw e (sym (min-eq-left (bit-one (x % 64) (getD u i 0))) ∙ z)
 
       taken : (x : ℕ) → 64 * i + a ≤ x → x < 64 * i + b → bit (x % 64) (getD (set u i (bitOr (getD u i 0) m)) (x / 64) 0) ≡ 1
@@ -136,10 +139,12 @@ module _ (u : List ℕ) (i a b m : ℕ) (mask : Mask m a b) (top : b ≤ 64) (in
           let e : x / 64 ≡ i = omega arith in
           rw (new x e, bit-or (x % 64) (getD u i 0) m, within x f g) (max-eq-right (bit-one (x % 64) (getD u i 0)))
 
-      keeps : (x : ℕ) → (64 * i + a ≤ x → x < 64 * i + b → ⊥) → Dec (x / 64 ≡ i) → bit (x % 64) (getD (set u i (bitOr (getD u i 0) m)) (x / 64) 0) ≡ bit (x % 64) (getD u (x / 64) 0)
+      keeps : (x : ℕ) → (64 * i + a ≤ x → x < 64 * i + b → ⊥) → Dec (x / 64 ≡ i)
+          → bit (x % 64) (getD (set u i (bitOr (getD u i 0) m)) (x / 64) 0) ≡ bit (x % 64) (getD u (x / 64) 0)
       keeps x f (yes e) =
           let z : bit (x % 64) m ≡ 0 = mask .outside (x % 64) (λ p q. f (omega arith) (omega arith)) in
-          ap (bit (x % 64)) (new x e) ∙ bit-or (x % 64) (getD u i 0) m ∙ ap (max (bit (x % 64) (getD u i 0))) z ∙ max-zero (bit (x % 64) (getD u i 0)) ∙ ap (λ (y : ℕ). bit (x % 64) (getD u y 0)) (sym e)
+          ap (bit (x % 64)) (new x e) ∙ bit-or (x % 64) (getD u i 0) m ∙ ap (max (bit (x % 64) (getD u i 0))) z ∙ max-zero (bit (x % 64) (getD u i 0))
+          ∙ ap (λ (y : ℕ). bit (x % 64) (getD u y 0)) (sym e)
       keeps x f (no e) = ap (bit (x % 64)) (getD-set-other u i (x / 64) (bitOr (getD u i 0) m) 0 e)
 
 -- ---- a run of bytes
@@ -163,13 +168,21 @@ claimed-join u v w o m e p q s t = record {
     taken i f g (no l) = t .taken i (omega arith) g
 
 -- the bytes from o on that are claimed so far, and those of one word more
-pub claim-more : (u v w : List ℕ) (o e i a b m : ℕ) (r : Bool) → Mask m a b → b ≤ 64 → i < length v → o ≤ 64 * i + a → a ≤ b → 64 * i + b ≡ e → Claimed u v o (64 * i + a)
+pub claim-more : (u v w : List ℕ) (o e i a b m : ℕ) (r : Bool) → Mask m a b → b ≤ 64 → i < length v → o ≤ 64 * i + a → a ≤ b → 64 * i + b ≡ e
+    → Claimed u v o (64 * i + a)
     → Tells r (bitAnd (getD v i 0) m ≡ 0) × (r ≡ true → w ≡ set v i (bitOr (getD v i 0) m)) → Tells r (Clear u o e) × (r ≡ true → Claimed u w o e)
-claim-more u v w o e i a b m r mask top inside p q at s t =
-    (record { yes = λ x. claimed x .clear; back = λ h. t .0 .back (word-clear v i a b m mask top inside (λ x f g. s .keeps x (λ c d. omega arith) ∙ h x (omega arith) (omega arith))) }, claimed)
+claim-more u v w o e i a b m r mask top inside p q at s t = (
+  record {
+    yes = λ x. claimed x .clear;
+    back = λ h. t .0 .back (word-clear v i a b m mask top inside
+        (λ x f g. s .keeps x (λ c d. omega arith) ∙ h x (omega arith) (omega arith)));
+  },
+  claimed,
+)
   where
     claimed : r ≡ true → Claimed u w o e
-    claimed x = rw (t .1 x, ← at) (claimed-join u v (set v i (bitOr (getD v i 0) m)) o (64 * i + a) (64 * i + b) p (omega arith) s (claimed-word v i a b m mask top inside (t .0 .yes x)))
+    claimed x = rw (t .1 x, ← at) (claimed-join u v (set v i (bitOr (getD v i 0) m)) o (64 * i + a) (64 * i + b) p (omega arith) s
+        (claimed-word v i a b m mask top inside (t .0 .yes x)))
 
 pub blank : Blank (replicate 256 0)
 unfolding mark
@@ -177,4 +190,5 @@ blank i = go (decLt (i / 64) 256)
   where
     go : Dec (i / 64 < 256) → bit (i % 64) (getD (replicate {A = ℕ} 256 0) (i / 64) 0) ≡ 0
     go (yes h) = ap (bit (i % 64)) (getD-replicate {A = ℕ} 256 (i / 64) 0 0 h) ∙ bit-zero (i % 64)
-    go (no h) = ap (bit (i % 64)) (List·getD-eq-default (replicate {A = ℕ} 256 0) 0 {n = i / 64} (omega (arith, length-replicate {A = ℕ} 256 0))) ∙ bit-zero (i % 64)
+    go (no h) = ap (bit (i % 64)) (List·getD-eq-default (replicate {A = ℕ} 256 0) 0 {n = i / 64} (omega (arith, length-replicate {A = ℕ} 256 0)))
+        ∙ bit-zero (i % 64)

@@ -1,4 +1,4 @@
--- Records on the map: what is marked is just the bytes of the records so far. Assumes nothing.
+-- Records on the map: what is marked is just the bytes of the records so far.
 use Prim.Native.Nat.{ℕ, _+_, _≤_, _<_}
 use mathlib.Core.Path.{_≡_, subst, _∙_}
 use mathlib.Core.List.{List}

@@ -1,4 +1,4 @@
--- One slot: its entry in two halves of 32 bits, and what `run_of` finds of each kind. Assumes nothing.
+-- One slot: its entry in two halves of 32 bits, and what `run_of` finds of each kind.
 use Prim.Native.Nat.{ℕ, _+_, _-_, _*_, _/_, _%_, _^_, _≤_, _<_}
 use mathlib.Core.Path.{_≡_, refl, sym, ap, subst, _∙_}
 use mathlib.Core.Bool.{Bool, true, false}
@@ -36,7 +36,8 @@ told r t e x = refuted (sym e ∙ t .back x)
 -- ---- the entry
 
 -- what is found of the two halves of slot k is found of the slot
-pub found-at : (p : List ℕ) (k o l f low : ℕ) (fits : Bool) (q m : ℕ) → length p ≡ 16384 → k < view p .slotCount → k < 2046 → o ≡ be (cut p (12 + 8 * k) 4) → l ≡ be (cut p (16 + 8 * k) 4)
+pub found-at : (p : List ℕ) (k o l f low : ℕ) (fits : Bool) (q m : ℕ) → length p ≡ 16384 → k < view p .slotCount → k < 2046
+    → o ≡ be (cut p (12 + 8 * k) 4) → l ≡ be (cut p (16 + 8 * k) 4)
     → Found (slotOf (o * 2 ^ 32 + l)) k f low fits q m → Found (view p .at k) k f low fits q m
 found-at p k o l f low fits q m whole h few eo el x =
     let at : 16 + 8 * k ≡ 12 + 8 * k + 4 = omega arith in

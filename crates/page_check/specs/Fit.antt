@@ -1,4 +1,4 @@
--- What the parts of the check find out, as statements over the view. Together they are document 01's sound page. Assumes nothing.
+-- What the parts of the check find out, as statements over the view. Together they are document 01's sound page.
 use Prim.Native.Nat.{ℕ, _+_, _*_, _≤_, _<_}
 use mathlib.Core.Path.{_≡_}
 use mathlib.Core.Bool.{Bool, true, false}

@@ -1,4 +1,4 @@
--- One bit for each byte of the page, in 256 words. Assumes nothing.
+-- One bit for each byte of the page, in 256 words.
 use Prim.Native.Nat.{ℕ, zero, suc, _/_, _%_, _≤_, _<_}
 use mathlib.Core.Path.{_≡_}
 use mathlib.Core.List.{List}

@@ -29,7 +29,8 @@ fn bits_to(b: usize) -> usize
 // Sets the bits m of word i, if none of them is set.
 fn claim_word(used: &mut [usize], i: usize, m: usize) -> bool
     requires { ⌜ (length (now used) ≡ 256) × (i < 256) ⌝ }
-    ensures { λ r. ⌜ Tells r (bitAnd (getD (now (used .entry)) i 0) m ≡ 0) × (r ≡ true → now (used .exit) ≡ set (now (used .entry)) i (bitOr (getD (now (used .entry)) i 0) m)) ⌝ }
+    ensures { λ r. ⌜ Tells r (bitAnd (getD (now (used .entry)) i 0) m ≡ 0)
+        × (r ≡ true → now (used .exit) ≡ set (now (used .entry)) i (bitOr (getD (now (used .entry)) i 0) m)) ⌝ }
 {
     let w = used[i];
     if w & m != 0 {

@@ -1,4 +1,4 @@
--- Making room against the store's plan. Assumes nothing.
+-- Making room against the store's plan.
 use mathlib.Core.Path.{_≡_, refl}
 use mathlib.Core.Bool.{Bool, true, false, cond}
 use mathlib.Core.List.{List}
@@ -14,7 +14,8 @@ use Rattle.store.specs.Laws.Compactify.{Kept, compact-exact, compact-keeps, com
 use Rattle.page_compactify.specs.Room.{Roomed}
 
 module _ (p : List ℕ) (n r : ℕ) (whole : length p ≡ 16384) (s : Sound (view p)) where
-  pub room-made : (q : List ℕ) → n ≤ view p .freeSpace → gap (view p) < n → q ≡ run (compactify (view p) .edits) p → r ≡ compactify (view p) .after .dataStart → Roomed n p q r
+  pub room-made : (q : List ℕ) → n ≤ view p .freeSpace → gap (view p) < n → q ≡ run (compactify (view p) .edits) p
+      → r ≡ compactify (view p) .after .dataStart → Roomed n p q r
   room-made q h g e b =
       let x = compact-exact p (view p) whole refl s .sound in
       let k = compact-keeps (view p) s in

@@ -1,4 +1,4 @@
--- Room on a page. Assumes nothing.
+-- Room on a page.
 use mathlib.Core.Path.{_≡_}
 use mathlib.Core.List.{List}
 use Prim.Native.Nat.{ℕ, _+_, _*_, _≤_}

@@ -1,4 +1,4 @@
--- A plan but for its record's bytes. Assumes nothing.
+-- A plan but for its record's bytes.
 use mathlib.Core.Path.{_≡_, refl, ap, _∙_}
 use mathlib.Core.List.{List, [], _∷_, _++_}
 use Prim.Native.Nat.{ℕ, _+_, _*_}
@@ -16,7 +16,8 @@ use Rattle.page_places.specs.Words.{bare, unfilled}
 
 -- one commit as the code does it: the header, the entry, the bytes
 pub commit-writes : (w : View) (k : ℕ) (s : Slot) (bs p : List ℕ)
-    → apply (commit k (withSlot w k s bs)) p ≡ put (put (put p 0 (headOf (w .slotCount) (w .firstFree) (w .dataStart) (w .freeSpace))) (12 + 8 * k) (slotBytes s)) (off s) bs
+    → apply (commit k (withSlot w k s bs)) p
+    ≡ put (put (put p 0 (headOf (w .slotCount) (w .firstFree) (w .dataStart) (w .freeSpace))) (12 + 8 * k) (slotBytes s)) (off s) bs
 unfolding apply headOf
 commit-writes w k s bs p = rw (eq-eqb k k refl)
 

@@ -1,4 +1,4 @@
--- Relocate but for the record's bytes, against the store's plans. Assumes nothing.
+-- Relocate but for the record's bytes, against the store's plans.
 use mathlib.Core.Path.{_≡_, refl, sym, ap, _∙_}
 use mathlib.Core.Bool.{true, false}
 use mathlib.Core.List.{List, [], _∷_, _++_}
@@ -84,11 +84,13 @@ pub record Parked (p : List ℕ) (k : ℕ) (q : List ℕ) : Type 0 where
   pub seen : view q ≡ parked (view p) k
   pub sound : Sound (parked (view p) k)
 
-module _ (p : List ℕ) (k l : ℕ) (s : Slot) (q : List ℕ) (whole : length p ≡ 16384) (h : Sound (view p)) (inside : k < view p .slotCount) (es : s ≡ view p .at k) (rec : isRecord s ≡ true) (el : l ≡ len s) where
+module _ (p : List ℕ) (k l : ℕ) (s : Slot) (q : List ℕ) (whole : length p ≡ 16384) (h : Sound (view p)) (inside : k < view p .slotCount)
+    (es : s ≡ view p .at k) (rec : isRecord s ≡ true) (el : l ≡ len s) where
   rec-at : isRecord (view p .at k) ≡ true
   rec-at = ap isRecord (sym es) ∙ rec
 
-  pub parked-by : q ≡ put (put p 0 (headOf (view p .slotCount) (view p .firstFree) (view p .dataStart) (view p .freeSpace + l))) (12 + 8 * k) (slotBytes (Redirect 0)) → Parked p k q
+  pub parked-by : q ≡ put (put p 0 (headOf (view p .slotCount) (view p .firstFree) (view p .dataStart) (view p .freeSpace + l))) (12 + 8 * k)
+      (slotBytes (Redirect 0)) → Parked p k q
   parked-by e =
       let v = view p in
       let u : View = withHead v (v .slotCount) (v .firstFree) (v .dataStart) (v .freeSpace + len (v .at k)) in
@@ -116,7 +118,8 @@ module _ (v : View) (k n l o : ℕ) (p q : List ℕ) (el : l ≡ len (v .at k)) 
   pub resize-same : n ≡ l → (p ≡ pageBare (allocOf k (resized v k n)) p) × (At k o ≡ placeOf (allocOf k (resized v k n)))
   resize-same e = rw (eq-eqb n (len (v .at k)) (e ∙ el)) (refl, ap (At k) eo)
 
-  pub resize-less : n < l → q ≡ run (unfilled (shrinkPlan v k n .edits)) p → (q ≡ pageBare (allocOf k (resized v k n)) p) × (At k o ≡ placeOf (allocOf k (resized v k n)))
+  pub resize-less : n < l → q ≡ run (unfilled (shrinkPlan v k n .edits)) p
+      → (q ≡ pageBare (allocOf k (resized v k n)) p) × (At k o ≡ placeOf (allocOf k (resized v k n)))
   resize-less h e =
       let a : n ≢ len (v .at k) = omega arith in
       let b : n < len (v .at k) = omega arith in
@@ -124,14 +127,16 @@ module _ (v : View) (k n l o : ℕ) (p q : List ℕ) (el : l ≡ len (v .at k)) 
       rw (ne-eqb n (len (v .at k)) a, lt-ltb n (len (v .at k)) b)
       (e, ap (At k) (eo ∙ sym (ap off (upd-same (v .at) k y) ∙ placed-is (v .at k) (off (v .at k)) n rec .off)))
 
-  pub resize-none : (m : ℕ) → m ≡ v .freeSpace → l < n → m < n - l → (p ≡ pageBare (allocOf k (resized v k n)) p) × (NoRoom ≡ placeOf (allocOf k (resized v k n)))
+  pub resize-none : (m : ℕ) → m ≡ v .freeSpace → l < n → m < n - l
+      → (p ≡ pageBare (allocOf k (resized v k n)) p) × (NoRoom ≡ placeOf (allocOf k (resized v k n)))
   resize-none m em h g =
       let a : n ≢ len (v .at k) = omega arith in
       let b : len (v .at k) ≤ n = omega arith in
       let d : v .freeSpace < n - len (v .at k) = omega arith in
       rw (ne-eqb n (len (v .at k)) a, le-ltb n (len (v .at k)) b, lt-ltb (v .freeSpace) (n - len (v .at k)) d) (refl, refl)
 
-  pub resize-more : (m r : ℕ) → m ≡ v .freeSpace → l < n → n - l ≤ m → q ≡ run (unfilled (growPlan v k n .edits)) p → r ≡ makeRoom (parked v k) n .after .dataStart - n
+  pub resize-more : (m r : ℕ) → m ≡ v .freeSpace → l < n → n - l ≤ m → q ≡ run (unfilled (growPlan v k n .edits)) p
+      → r ≡ makeRoom (parked v k) n .after .dataStart - n
       → (q ≡ pageBare (allocOf k (resized v k n)) p) × (At k r ≡ placeOf (allocOf k (resized v k n)))
   resize-more m r em h g e er =
       let a : n ≢ len (v .at k) = omega arith in

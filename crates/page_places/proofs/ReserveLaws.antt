@@ -1,4 +1,4 @@
--- Allocate against the store's plan. Assumes nothing.
+-- Allocate against the store's plan.
 use mathlib.Core.Path.{_≡_, refl, sym, ap, _∙_}
 use mathlib.Core.Bool.{Bool, true, false, cond}
 use mathlib.Core.List.{List, [], _∷_, _++_}
@@ -52,7 +52,8 @@ new-cost false n = omega arith
 -- the header that allocate leaves
 abbrev pub headAfter : View → ℕ → View
 headAfter w n =
-    withHead w (cond (isNew w) (w .slotCount + 1) (w .slotCount)) (nextFree (w .slotCount - (w .firstFree + 1)) (w .at) (w .firstFree + 1)) (w .dataStart - n) (w .freeSpace - cost w n)
+    withHead w (cond (isNew w) (w .slotCount + 1) (w .slotCount)) (nextFree (w .slotCount - (w .firstFree + 1)) (w .at) (w .firstFree + 1))
+    (w .dataStart - n) (w .freeSpace - cost w n)
 
 module _ (v : View) (size c f n m : ℕ) (ec : c ≡ v .slotCount) (ef : f ≡ v .firstFree) (en : n ≡ v .freeSpace) (em : m ≡ cond (eqb f c) 8 0) where
   cost-is : cost v size ≡ size + m
@@ -76,7 +77,8 @@ module _ (v : View) (size c f n m : ℕ) (ec : c ≡ v .slotCount) (ef : f ≡ v
       let y : w .freeSpace ≡ n = k .freeSpace ∙ sym en in
       let g : cond (isNew w) (w .slotCount + 1) (w .slotCount) ≡ c + m / 8 = rw (a, b, em) (new-count (eqb f c) c) in
       let h : cost w size ≡ size + m = rw (a, b, em) (new-cost (eqb f c) size) in
-      let x : nextFree (w .slotCount - (w .firstFree + 1)) (w .at) (w .firstFree + 1) ≡ next = rw (a, b) (next-same (c - (f + 1)) (v .at) (w .at) (f + 1) (k .kinds) ∙ sym ex) in
+      let x : nextFree (w .slotCount - (w .firstFree + 1)) (w .at) (w .firstFree + 1) ≡ next =
+      rw (a, b) (next-same (c - (f + 1)) (v .at) (w .at) (f + 1) (k .kinds) ∙ sym ex) in
       sym (run-bare es (headAfter w size) (w .firstFree) (Ordinary (w .dataStart - size) size) (zeros size) p ∙ rw (g, x, h, a, y, ← er, ← e₁, ← e₂) (sym e₃))
 
   pub reserve-done : Sound v → (r next : ℕ) (p q₁ q₂ q₃ : List ℕ) → size + m ≤ n

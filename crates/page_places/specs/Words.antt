@@ -1,4 +1,4 @@
--- Words for the place of a record, before its bytes are written. Assumes nothing.
+-- Words for the place of a record, before its bytes are written.
 use mathlib.Core.List.{List, [], _∷_}
 use mathlib.Core.Bool.{cond}
 use Prim.Native.Nat.{ℕ, _+_, _-_, _*_, _≤_}
@@ -7,7 +7,8 @@ use Rattle.store.specs.Numbers.{put, zeros, fit}
 use Rattle.layout.specs.Run.{headOf}
 use Rattle.store.specs.Slots.{off, slotBytes, placed}
 use Rattle.store.specs.Page.{View}
-use Rattle.store.specs.PageSteps.{Edit, head, move, commit, fill, Plan, run, withSlot, andThen, makeRoom, moveUnder, shrunk, parked, Alloc, noRoom, got, Relocated, refused, moved, plan}
+use Rattle.store.specs.PageSteps.{Edit, head, move, commit, fill, Plan, run, withSlot, andThen, makeRoom, moveUnder, shrunk, parked, Alloc, noRoom}
+use Rattle.store.specs.PageSteps.{got, Relocated, refused, moved, plan}
 use Rattle.store.specs.declared.Slot.{Slot}
 use Rattle.store.specs.declared.Slot.the-variants.{Ordinary}
 use Rattle.store.specs.declared.Place.{Place}
@@ -63,4 +64,5 @@ allocOf k (moved a) = got k a
 unfoldable pub underPage : View → ℕ → Slot → ℕ → List ℕ → List ℕ
 underPage v k s n p =
     let w = makeRoom v n .after in
-    put (put (run (makeRoom v n .edits) p) 0 (headOf (w .slotCount) (w .firstFree) (w .dataStart - n) (w .freeSpace - n))) (12 + 8 * k) (slotBytes (placed s (w .dataStart - n) n))
+    put (put (run (makeRoom v n .edits) p) 0 (headOf (w .slotCount) (w .firstFree) (w .dataStart - n) (w .freeSpace - n))) (12 + 8 * k)
+    (slotBytes (placed s (w .dataStart - n) n))

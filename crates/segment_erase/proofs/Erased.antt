@@ -1,4 +1,4 @@
--- Erase: what the code did is what the plan says. Assumes nothing.
+-- Erase: what the code did is what the plan says.
 use Prim.Native.Nat.{ℕ, _+_, _*_, _/_, _≤_, _<_}
 use mathlib.Core.Path.{_≡_, refl, sym, ap, _∙_}
 use mathlib.Core.Bool.{true, false, _&&_}
@@ -84,7 +84,8 @@ module _ (s v : List ℕ) (i : ℕ) where
       target-free = target-taken (segView s .page (pageNo j) .at (slotNo j)) (back-ok s i j back .1)
 
       -- the root's step did not touch the target's page
-      pub target-asks : (pageNo j * 16384 + 16384 ≤ length t) × (sound (segView t .page (pageNo j)) ≡ true) × (isFree (segView t .page (pageNo j) .at (slotNo j)) ≡ false)
+      pub target-asks : (pageNo j * 16384 + 16384 ≤ length t) × (sound (segView t .page (pageNo j)) ≡ true)
+          × (isFree (segView t .page (pageNo j) .at (slotNo j)) ≡ false)
       target-asks =
           let b = back-ok s i j back .0 in (
             omega (arith, took-length s rootStep t x, b .fits),
@@ -114,4 +115,9 @@ module _ (s v : List ℕ) (i : ℕ) where
             let f = left-update s r (pageNo j) (targetStep .plan .after) target-left both-length v w ew in
             let g = left-update s r (pageNo i) (rootStep .plan .after) root-left both-length w y ey in
             let h : r ≡ carried (rootStep ∷ targetStep ∷ []) s = took .is ∙ ap (carriedOn targetStep) (x .is) in
-            rw back (λ z. record { answer = 0; id = i; seg = h z; inv = (g ∙ ap (λ (m : List ℕ). update m (segView s .pages) (pageNo i) (rootStep .plan .after .freeSpace)) f) z })
+            rw back (λ z. record {
+              answer = 0;
+              id = i;
+              seg = h z;
+              inv = (g ∙ ap (λ (m : List ℕ). update m (segView s .pages) (pageNo i) (rootStep .plan .after .freeSpace)) f) z;
+            })

@@ -1,4 +1,4 @@
--- Forwarding: what the code did after the search is what the plan says. Assumes nothing.
+-- Forwarding: what the code did after the search is what the plan says.
 use Prim.Native.Nat.{ℕ, _+_, _*_, _/_, _^_, _≤_, _<_}
 use mathlib.Core.Path.{_≡_, refl, sym, ap, _∙_}
 use mathlib.Core.Bool.{Bool, true, false, not, cond, _||_}
@@ -14,7 +14,8 @@ use Rattle.store.specs.Numbers.{toBE, idOf, pageNo, slotNo}
 use Rattle.store.specs.Page.{View, view, sound}
 use Rattle.store.specs.PageSteps.{Plan, Alloc, noRoom, got, allocate, erase, eraseForRedirect}
 use Rattle.store.specs.Inventory.{foundIn, update}
-use Rattle.store.specs.Segment.{segView, pageOf, OnPage, on, carriedOn, Result, result, Found, nowhere, found, taken, find, findOn, pointsBack, forwarded, forwardedAgain}
+use Rattle.store.specs.Segment.{segView, pageOf, OnPage, on, carriedOn, Result, result, Found, nowhere, found, taken, find, findOn, pointsBack}
+use Rattle.store.specs.Segment.{forwarded, forwardedAgain}
 use Rattle.store.specs.Answers.{outcome, answerNo}
 use Rattle.store.specs.Laws.Segments.{ExactOn}
 use Rattle.store.specs.Laws.Calls.{by-test, NamedOk, named-ok}
@@ -26,9 +27,11 @@ use Rattle.store.specs.declared.Answer.{Answer}
 use Rattle.store.specs.declared.Answer.the-variants as answer
 use Rattle.store.proofs.Answer as answers
 use Rattle.slotted_page.specs.Words.{targetPlan, redirectPlan}
-use Rattle.segment_steps.specs.After.{Took, took-length, Left, left-own, left-other, other-seen, next-took, target-on-page, small-id, for-redirect-on-page, redirect-on-page, target-length}
+use Rattle.segment_steps.specs.After.{Took, took-length, Left, left-own, left-other, other-seen, next-took, target-on-page, small-id}
+use Rattle.segment_steps.specs.After.{for-redirect-on-page, redirect-on-page, target-length}
 use Rattle.segment_forward.specs.Words.{rootOrOld, newTarget}
-use Rattle.segment_forward.proofs.Steps.{Asks, asks-still, exact-still, two-length, first-left, two-swapped, three-swapped, told-both, clash, oldStep, old-away, old-asks, old-exact}
+use Rattle.segment_forward.proofs.Steps.{Asks, asks-still, exact-still, two-length, first-left, two-swapped, three-swapped, told-both, clash}
+use Rattle.segment_forward.proofs.Steps.{oldStep, old-away, old-asks, old-exact}
 use Rattle.segment_forward.proofs.Search.{got-small, placing}
 
 -- ---- what the search answered: refused, or a target at k
@@ -37,7 +40,8 @@ not-done : (y : Answer) → OneOf (1 ∷ 2 ∷ 3 ∷ 4 ∷ 5 ∷ 6 ∷ 7 ∷ 8 �
 not-done (answer.Done k) h =
     absurd
     (⊎-elim (λ e. omega arith)
-    (⊎-elim (λ e. omega arith) (⊎-elim (λ e. omega arith) (⊎-elim (λ e. omega arith) (⊎-elim (λ e. omega arith) (⊎-elim (λ e. omega arith) (⊎-elim (λ e. omega arith) (λ e. omega arith)))))))
+    (⊎-elim (λ e. omega arith) (⊎-elim (λ e. omega arith)
+    (⊎-elim (λ e. omega arith) (⊎-elim (λ e. omega arith) (⊎-elim (λ e. omega arith) (⊎-elim (λ e. omega arith) (λ e. omega arith)))))))
     h)
 not-done answer.Size h = omega arith
 not-done answer.NoPage h = omega arith
@@ -60,7 +64,8 @@ found-by s v m ex = go (foundIn v (segView s .pages) (m + 8)) (named-ok v (segVi
     go : (x : Named) → NamedOk (segView s .pages) x → FoundBy s m ex (findOn (segView s) m ex x)
     go Full h = omega arith
     go (At p) h =
-        by-test (FoundBy s m ex) (not (sound (segView s .page p))) (nowhere 4) (cond (ex p) (nowhere 8) (taken p (allocate (segView s .page p) m))) (λ f. omega arith)
+        by-test (FoundBy s m ex) (not (sound (segView s .page p))) (nowhere 4) (cond (ex p) (nowhere 8) (taken p (allocate (segView s .page p) m)))
+        (λ f. omega arith)
         (λ f. by-test (FoundBy s m ex) (ex p) (nowhere 8) (taken p (allocate (segView s .page p) m)) (λ x. omega arith)
         (λ x. at-place (allocate (segView s .page p) m) refl (not-false (sound (segView s .page p)) f) x))
       where
@@ -85,12 +90,14 @@ module _ (s v : List ℕ) (i n : ℕ) (bs : List ℕ) (t : List ℕ) where
     forward-refused (nowhere a) e = e
     forward-refused (found q j a) e = let z : answerNo y ≡ 0 = ap (λ (r : Result). r .answer) e in absurd (omega (arith, z, not-done y refused))
 
-    pub again-refused : (j : ℕ) (f : Found) → outcome y t v ≡ result s (newTarget v i bs f) → outcome y t v ≡ result s (forwardedAgain (segView s) v i n (λ o. bs) j [] f)
+    pub again-refused : (j : ℕ) (f : Found) → outcome y t v ≡ result s (newTarget v i bs f)
+        → outcome y t v ≡ result s (forwardedAgain (segView s) v i n (λ o. bs) j [] f)
     unfolding result
     again-refused j (nowhere a) e = e
     again-refused j (found q k a) e = let z : answerNo y ≡ 0 = ap (λ (r : Result). r .answer) e in absurd (omega (arith, z, not-done y refused))
 
-  pub placed-at : (few : length s / 16384 ≤ 32527) (size : length bs ≡ n) (ex : ℕ → Bool) (y : Answer) (k : ℕ) → y ≡ answer.Done k → outcome y t v ≡ placing s v i n bs ex
+  pub placed-at : (few : length s / 16384 ≤ 32527) (size : length bs ≡ n) (ex : ℕ → Bool) (y : Answer) (k : ℕ) → y ≡ answer.Done k
+      → outcome y t v ≡ placing s v i n bs ex
       → Placed s i bs ex (find foundIn (segView s) v (n + 8) ex) k t
   unfolding result
   placed-at few size ex y k is e = go (find foundIn (segView s) v (n + 8) ex) (found-by s v (n + 8) ex) (ap (λ (x : Answer). outcome x t v) (sym is) ∙ e)
@@ -107,7 +114,11 @@ module _ (s v : List ℕ) (i n : ℕ) (bs : List ℕ) (t : List ℕ) where
             plan = a;
             is = rw (p, m);
             fits = rw p (o .0);
-            took = rw (p, m) (record { exact = target-on-page s q (o .0) (o .1) (n + 8) j a (o .3) (omega arith) (toBE 8 i ++ bs) (target-length i bs n size); is = et });
+            took = rw (p, m) (record {
+              exact =
+                  target-on-page s q (o .0) (o .1) (n + 8) j a (o .3) (omega arith) (toBE 8 i ++ bs) (target-length i bs n size);
+              is = et;
+            });
             away = rw p (o .2);
             small = omega (arith, ek, small-id s q (o .0) (o .1) (n + 8) j a (o .3) few);
           }
@@ -137,7 +148,8 @@ module _ (s : List ℕ) (i : ℕ) (bs : List ℕ) (j : ℕ) (f : Found) (k : ℕ
   root-asks = asks-still s newStep t (o .took) (pageNo i) (others .0) (slotNo i)
 
   -- the first forwarding: the root's step left r
-  module _ (asks : Asks s (pageNo i) (slotNo i)) (r : List ℕ) (er : r ≡ carriedOn (on (pageNo i) (eraseForRedirect (segView t .page (pageNo i)) (slotNo i) k)) t) where
+  module _ (asks : Asks s (pageNo i) (slotNo i)) (r : List ℕ)
+      (er : r ≡ carriedOn (on (pageNo i) (eraseForRedirect (segView t .page (pageNo i)) (slotNo i) k)) t) where
     abbrev pub rootStep : OnPage
     rootStep = on (pageNo i) (eraseForRedirect (segView s .page (pageNo i)) (slotNo i) (idOf (pageNo k) (slotNo k)))
 
@@ -165,14 +177,17 @@ module _ (s : List ℕ) (i : ℕ) (bs : List ℕ) (j : ℕ) (f : Found) (k : ℕ
     forward-done v n w y ew ey =
         let h = two-swapped s newStep rootStep t r (o .took) root-took (others .0) root-exact in
         let g = told-both s v r forward-length (pageNo i) (rootStep .plan .after) root-left (pageNo k) (newStep .plan .after) new-left w y ew ey in
-        let d : outcome (answer.Done i) r y ≡ result s (forwarded (segView s) v i n (λ b. bs) [] (found (pageNo k) (slotNo k) (o .plan))) = λ z. record { answer = 0; id = i; seg = h z; inv = g z } in
+        let d : outcome (answer.Done i) r y ≡ result s (forwarded (segView s) v i n (λ b. bs) [] (found (pageNo k) (slotNo k) (o .plan))) =
+        λ z. record { answer = 0; id = i; seg = h z; inv = g z } in
         d ∙ ap (λ (x : Found). result s (forwarded (segView s) v i n (λ b. bs) [] x)) (sym (o .is))
 
 -- ---- the second forwarding: the root's entry names the new target, which left r
 
 module _ (s : List ℕ) (i : ℕ) (bs : List ℕ) (j : ℕ) (f : Found) (k : ℕ) (t : List ℕ) (o : Placed s i bs (rootOrOld i j) f k t)
-    (fits : pageNo i * 16384 + 16384 ≤ length s) (ok : sound (segView s .page (pageNo i)) ≡ true) (here : segView s .page (pageNo i) .at (slotNo i) ≡ Redirect j)
-    (back : pointsBack (segView s) i j ≡ true) (r : List ℕ) (er : r ≡ carriedOn (on (pageNo i) (redirectPlan (segView t .page (pageNo i)) (slotNo i) k)) t) where
+    (fits : pageNo i * 16384 + 16384 ≤ length s) (ok : sound (segView s .page (pageNo i)) ≡ true)
+    (here : segView s .page (pageNo i) .at (slotNo i) ≡ Redirect j)
+    (back : pointsBack (segView s) i j ≡ true) (r : List ℕ)
+    (er : r ≡ carriedOn (on (pageNo i) (redirectPlan (segView t .page (pageNo i)) (slotNo i) k)) t) where
   abbrev freshStep : OnPage
   freshStep = newStep s i bs j f k t o
 
@@ -224,7 +239,10 @@ module _ (s : List ℕ) (i : ℕ) (bs : List ℕ) (j : ℕ) (f : Found) (k : ℕ
         → outcome (answer.Done i) q y ≡ result s (forwardedAgain (segView s) v i n (λ b. bs) j [] f)
     unfolding result
     again-done v n w y ew ey =
-        let h = three-swapped s freshStep entryStep t r (o .took) entry-took (apart .0) entry-exact (oldStep s i j back) q freed (old-exact s i j back) (apart .1) (old-away s i j back) in
-        let g = told-both s v q again-length (pageNo j) (oldStep s i j back .plan .after) again-old-left (pageNo k) (freshStep .plan .after) again-new-left w y ew ey in
-        let d : outcome (answer.Done i) q y ≡ result s (forwardedAgain (segView s) v i n (λ b. bs) j [] (found (pageNo k) (slotNo k) (o .plan))) = λ z. record { answer = 0; id = i; seg = h z; inv = g z } in
+        let h = three-swapped s freshStep entryStep t r (o .took) entry-took (apart .0) entry-exact (oldStep s i j back) q freed
+        (old-exact s i j back) (apart .1) (old-away s i j back) in
+        let g = told-both s v q again-length (pageNo j) (oldStep s i j back .plan .after) again-old-left (pageNo k)
+        (freshStep .plan .after) again-new-left w y ew ey in
+        let d : outcome (answer.Done i) q y ≡ result s (forwardedAgain (segView s) v i n (λ b. bs) j [] (found (pageNo k) (slotNo k) (o .plan))) =
+        λ z. record { answer = 0; id = i; seg = h z; inv = g z } in
         d ∙ ap (λ (x : Found). result s (forwardedAgain (segView s) v i n (λ b. bs) j [] x)) (sym (o .is))

@@ -1,4 +1,4 @@
--- "Moving home frees the target": what the code did is what the plan says. Assumes nothing.
+-- "Moving home frees the target": what the code did is what the plan says.
 use Prim.Native.Nat.{ℕ, _+_, _*_, _/_, _≤_}
 use mathlib.Core.Path.{_≡_, sym, ap, _∙_}
 use mathlib.Core.Bool.{true, false}
@@ -23,7 +23,8 @@ module _ (s : List ℕ) (i n : ℕ) (bs : List ℕ) (j : ℕ) (fits : pageNo i *
   pub home-stays : wasMoved (relocate (segView s .page (pageNo i)) (slotNo i) n) ≡ false → t ≡ s
   home-stays e = refused-same s (pageNo i) fits t (slotNo i) n (not-moved (relocate (segView s .page (pageNo i)) (slotNo i) n) e) bs et
 
-  module _ (ok : sound (segView s .page (pageNo i)) ≡ true) (here : segView s .page (pageNo i) .at (slotNo i) ≡ Redirect j) (back : pointsBack (segView s) i j ≡ true)
+  module _ (ok : sound (segView s .page (pageNo i)) ≡ true) (here : segView s .page (pageNo i) .at (slotNo i) ≡ Redirect j)
+      (back : pointsBack (segView s) i j ≡ true)
       (size : length bs ≡ n) (went : wasMoved (relocate (segView s .page (pageNo i)) (slotNo i) n) ≡ true) where
     pub home : MovedTo (relocate (segView s .page (pageNo i)) (slotNo i) n)
     home = moved-to (relocate (segView s .page (pageNo i)) (slotNo i) n) went
@@ -33,7 +34,8 @@ module _ (s : List ℕ) (i n : ℕ) (bs : List ℕ) (j : ℕ) (fits : pageNo i *
 
     home-took : Took s homeStep t
     home-took =
-        took-filled s (pageNo i) (slotNo i) fits ok (ap isFree here) n (no-target (segView s .page (pageNo i) .at (slotNo i)) n (ap isTarget here)) (home .to) (home .is) bs size t et
+        took-filled s (pageNo i) (slotNo i) fits ok (ap isFree here) n (no-target (segView s .page (pageNo i) .at (slotNo i)) n (ap isTarget here))
+        (home .to) (home .is) bs size t et
 
     pub home-asks : Asks t (pageNo j) (slotNo j)
     home-asks = asks-still s homeStep t home-took (pageNo j) (old-away s i j back) (slotNo j) (old-asks s i j back)
@@ -58,6 +60,8 @@ module _ (s : List ℕ) (i n : ℕ) (bs : List ℕ) (j : ℕ) (fits : pageNo i *
       unfolding result
       home-done v w y ew ey =
           let h : r ≡ carried (homeStep ∷ oldStep s i j back ∷ []) s = left-behind .is ∙ ap (carriedOn (oldStep s i j back)) (home-took .is) in
-          let g = told-both s v r home-length (pageNo i) (homeStep .plan .after) home-left (pageNo j) (oldStep s i j back .plan .after) home-old-left w y ew ey in
-          let d : outcome (answer.Done i) r y ≡ result s (atHome (segView s) v i n (λ b. bs) j [] (moved (home .to))) = λ z. record { answer = 0; id = i; seg = h z; inv = g z } in
+          let g = told-both s v r home-length (pageNo i) (homeStep .plan .after) home-left (pageNo j)
+          (oldStep s i j back .plan .after) home-old-left w y ew ey in
+          let d : outcome (answer.Done i) r y ≡ result s (atHome (segView s) v i n (λ b. bs) j [] (moved (home .to))) =
+          λ z. record { answer = 0; id = i; seg = h z; inv = g z } in
           d ∙ ap (λ (x : Relocated). result s (atHome (segView s) v i n (λ b. bs) j [] x)) (sym (home .is))

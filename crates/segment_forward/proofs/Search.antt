@@ -1,4 +1,4 @@
--- The search for a new target's page: what the code answered is what the plan says. Assumes nothing.
+-- The search for a new target's page: what the code answered is what the plan says.
 use Prim.Native.Nat.{ℕ, _+_, _*_, _/_, _≤_, _<_}
 use mathlib.Core.Path.{_≡_, refl, sym, ap, subst, _∙_}
 use mathlib.Core.Bool.{Bool, true, false, cond, _||_}
@@ -90,7 +90,8 @@ module _ (s v : List ℕ) (i n : ℕ) (bs : List ℕ) (ex : ℕ → Bool) where
           at-page = rw (ok, e)
 
       -- t is what the page step left, and it answered with no place or with slot k
-      module _ (away : ex p ≡ false) (t : List ℕ) (et : t ≡ put s (p * 16384) (pageAfter (targetAt (allocate (segView s .page p) (n + 8)) (toBE 8 i ++ bs)) (pageOf s p))) where
+      module _ (away : ex p ≡ false) (t : List ℕ)
+          (et : t ≡ put s (p * 16384) (pageAfter (targetAt (allocate (segView s .page p) (n + 8)) (toBE 8 i ++ bs)) (pageOf s p))) where
         by-place : (x : Alloc) → allocate (segView s .page p) (n + 8) ≡ x → result s (newTarget v i bs (taken p x)) ≡ placing
         by-place x e = sym at-page ∙ by-named (At p) named
           where

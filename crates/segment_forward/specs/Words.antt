@@ -1,4 +1,4 @@
--- Words for the contract of the search that both forwardings make. Assumes nothing.
+-- Words for the contract of the search that both forwardings make.
 use Prim.Native.Nat.{ℕ}
 use mathlib.Core.Bool.{Bool, _||_}
 use mathlib.Core.List.{List, [], _∷_, _++_}

@@ -106,7 +106,8 @@ pub fn forward_again(
     requires { ⌜ (pageNo id * 16384 + 16384 ≤ length (now segment)) × (sound (seen (now segment) (pageNo id)) ≡ true)
         × (seen (now segment) (pageNo id) .at (slotNo id) ≡ Slot.Redirect t) × (pointsBack (segView (now segment)) id t ≡ true) × (size ≤ 16364) ⌝ }
     ensures { λ r. ⌜ outcome r (now (segment .exit)) (now (inventory .exit))
-        ≡ result (now (segment .entry)) (forwardedAgain (segView (now (segment .entry))) (now (inventory .entry)) id size (λ o. fit size (now (bytes .entry))) t []
+        ≡ result (now (segment .entry))
+        (forwardedAgain (segView (now (segment .entry))) (now (inventory .entry)) id size (λ o. fit size (now (bytes .entry))) t []
         (find foundIn (segView (now (segment .entry))) (now (inventory .entry)) (size + 8) (λ p. eqb p (pageNo id) || eqb p (pageNo t)))) ⌝ }
 {
     let placed = place_target(segment, inventory, id, t, bytes, size);

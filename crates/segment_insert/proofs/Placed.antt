@@ -1,4 +1,4 @@
--- Insert and allocate: what the code did is what the plan says. Assumes nothing.
+-- Insert and allocate: what the code did is what the plan says.
 use Prim.Native.Nat.{ℕ, zero, suc, _+_, _-_, _*_, _/_, _≤_, _<_}
 use mathlib.Core.Path.{_≡_, refl, sym, ap, subst, _∙_}
 use mathlib.Core.Bool.{true, false, _&&_}

@@ -1,4 +1,4 @@
--- A word for the contract of the function that insert and allocate share. Assumes nothing.
+-- A word for the contract of the function that insert and allocate share.
 use Prim.Native.Nat.{ℕ}
 use mathlib.Core.Bool.{false}
 use mathlib.Core.List.{List}

@@ -45,7 +45,8 @@ fn insert_at(
 }
 
 pub fn insert_record(segment: &mut [u8], inventory: &mut [u8], record: &[u8]) -> Answer
-    ensures { λ r. ⌜ outcome r (now (segment .exit)) (now (inventory .exit)) ≡ insertStep (now (segment .entry)) (now (inventory .entry)) (now («record» .entry)) ⌝ }
+    ensures { λ r. ⌜ outcome r (now (segment .exit)) (now (inventory .exit))
+        ≡ insertStep (now (segment .entry)) (now (inventory .entry)) (now («record» .entry)) ⌝ }
 {
     if !segment_pages::sizes_ok(segment, inventory) {
         return Answer::Size;

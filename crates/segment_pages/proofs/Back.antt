@@ -1,4 +1,4 @@
--- "its target on another page pointing back", test by test. Assumes nothing.
+-- "its target on another page pointing back", test by test.
 use Prim.Native.Nat.{ℕ, _+_, _*_, _/_, _≤_, _<_}
 use mathlib.Core.Path.{_≡_, refl, sym, ap, _∙_}
 use mathlib.Core.Bool.{true, false}

@@ -1,4 +1,4 @@
--- What is seen of a page of the segment, against what stands on it. Assumes nothing.
+-- What is seen of a page of the segment, against what stands on it.
 use Prim.Native.Nat.{ℕ, _+_, _*_, _≤_}
 use mathlib.Core.Path.{_≡_, sym, ap, subst, _∙_}
 use mathlib.Core.Bool.{true}

@@ -1,4 +1,4 @@
--- Slots that a damaged page counts and has not all the bytes for. Assumes nothing.
+-- Slots that a damaged page counts and has not all the bytes for.
 use Prim.Native.Nat.{ℕ, _+_, _*_, _/_, _%_, _^_, _≤_, _<_}
 use mathlib.Core.Path.{_≡_, sym, ap, _∙_}
 use mathlib.Core.List.{List}

@@ -1,4 +1,4 @@
--- The read's definition, test by test, and that the part it answers lies in the segment. Assumes nothing.
+-- The read's definition, test by test, and that the part it answers lies in the segment.
 use Prim.Native.Nat.{ℕ, _+_, _-_, _*_, _/_, _≤_, _<_}
 use mathlib.Core.Path.{_≡_, refl, sym, ap, subst, _∙_}
 use mathlib.Core.Bool.{Bool, true, false, cond}
@@ -14,7 +14,8 @@ use borrow.Author.Tests.{le-leb, lt-leb}
 use Rattle.store.specs.Numbers.{cut, pageNo, slotNo}
 use Rattle.store.specs.Slots.{off, len, isTarget}
 use Rattle.store.specs.Page.{sound}
-use Rattle.store.specs.Segment.{SegView, segView, sizeOk, pointsBack, Read, noRead, readBy, readPlan, readStep, Part, noPart, partOn, partBy, Located, locateStep}
+use Rattle.store.specs.Segment.{SegView, segView, sizeOk, pointsBack, Read, noRead, readBy, readPlan, readStep, Part, noPart, partOn, partBy, Located}
+use Rattle.store.specs.Segment.{locateStep}
 use Rattle.store.specs.Answers.{readingNo, readingPart, located}
 use Rattle.store.specs.Laws.Views.{Sound}
 use Rattle.store.specs.Laws.Calls.{by-test, back-ok}
@@ -62,7 +63,8 @@ module _ (s : List ℕ) (i : ℕ) where
       unfolding locateStep readStep readPlan
       locate-damaged e = rw (whole, seen-pages s, lt-leb (length s / 16384) (pageNo i) inside, e)
 
-      pub locate-slot : sound (segView s .page (pageNo i)) ≡ true → (x : Slot) → x ≡ segView s .page (pageNo i) .at (slotNo i) → locateBy (segView s) i x ≡ locateStep s i
+      pub locate-slot : sound (segView s .page (pageNo i)) ≡ true → (x : Slot) → x ≡ segView s .page (pageNo i) .at (slotNo i)
+          → locateBy (segView s) i x ≡ locateStep s i
       unfolding locateStep readStep readPlan
       locate-slot e x q =
           let l : leb (segView s .pages) (pageNo i) ≡ false = ap (λ (n : ℕ). leb n (pageNo i)) (seen-pages s) ∙ lt-leb (length s / 16384) (pageNo i) inside in
@@ -92,8 +94,10 @@ module _ (s : List ℕ) where
       by-kind f w (Ordinary o l) e = part-inside (pageNo i) (slotNo i) f w (Ordinary o l) e
       by-kind f w Free e = omega arith
       by-kind f w (Redirect t) e =
-          by-test (λ (d : Located). Inside (d .part)) (pointsBack (segView s) i t) (foundAt (partOn (pageNo t) (segView s .page (pageNo t) .at (slotNo t)))) (notFound 4)
-          (λ b. let k = back-ok s i t b .0 in part-inside (pageNo t) (slotNo t) (k .fits) (k .sound) (segView s .page (pageNo t) .at (slotNo t)) refl) (λ b. omega arith)
+          by-test (λ (d : Located). Inside (d .part)) (pointsBack (segView s) i t)
+          (foundAt (partOn (pageNo t) (segView s .page (pageNo t) .at (slotNo t)))) (notFound 4)
+          (λ b. let k = back-ok s i t b .0 in part-inside (pageNo t) (slotNo t) (k .fits) (k .sound) (segView s .page (pageNo t) .at (slotNo t)) refl)
+          (λ b. omega arith)
       by-kind f w (Target o l) e = part-inside (pageNo i) (slotNo i) f w (Target o l) e
 
       by-page : sizeOk s ≡ true → pageNo i < length s / 16384 → (b : Bool) → sound (segView s .page (pageNo i)) ≡ b → Inside (locateStep s i .part)
@@ -167,5 +171,7 @@ module _ (s : List ℕ) (i t : ℕ) where
       pub target-inside : (8 ≤ l) × (o + l ≤ 16384)
       target-inside =
           let w = back-ok s i t back .0 .sound in
-          let g : segView s .page (pageNo t) .at (slotNo t) ≡ Target o l = sym e ∙ q in
-          (subst (λ (y : Slot). isTarget y ≡ true → 8 ≤ len y) g (w .targets (slotNo t)) refl, subst (λ (y : Slot). off y + len y ≤ 16384) g (w .high (slotNo t)))
+          let g : segView s .page (pageNo t) .at (slotNo t) ≡ Target o l = sym e ∙ q in (
+            subst (λ (y : Slot). isTarget y ≡ true → 8 ≤ len y) g (w .targets (slotNo t)) refl,
+            subst (λ (y : Slot). off y + len y ≤ 16384) g (w .high (slotNo t)),
+          )

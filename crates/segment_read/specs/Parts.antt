@@ -1,4 +1,4 @@
--- Where a read finds its record, in the order in which the code asks. Assumes nothing.
+-- Where a read finds its record, in the order in which the code asks.
 use Prim.Native.Nat.{ℕ}
 use mathlib.Core.Bool.{cond}
 use Rattle.store.specs.Numbers.{pageNo, slotNo}

@@ -1,4 +1,4 @@
--- The scan's position: from slot to slot and from page to page. Assumes nothing.
+-- The scan's position: from slot to slot and from page to page.
 use Prim.Native.Nat.{ℕ, zero, suc, _+_, _-_, _/_, _≤_, _<_}
 use mathlib.Core.Path.{_≡_, refl, sym, ap, subst, _∙_}
 use mathlib.Core.Bool.{Bool, true, false, cond, not, _&&_}

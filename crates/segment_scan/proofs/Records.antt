@@ -1,4 +1,4 @@
--- A record that the scan answers: how it lies, and its step. Assumes nothing.
+-- A record that the scan answers: how it lies, and its step.
 use Prim.Native.Nat.{ℕ, _+_, _-_, _*_, _≤_, _<_}
 use mathlib.Core.Path.{_≡_, refl, sym, ap, subst, _∙_}
 use mathlib.Core.Bool.{Bool, true, false, not, _&&_, _||_}

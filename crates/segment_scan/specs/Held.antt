@@ -1,4 +1,4 @@
--- A scan that holds its segment and its position. Assumes nothing.
+-- A scan that holds its segment and its position.
 use Prim.Native.Nat.{ℕ}
 use mathlib.Core.Path.{_≡_}
 use mathlib.Core.List.{List}

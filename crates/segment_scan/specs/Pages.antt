@@ -1,4 +1,4 @@
--- The scan's step, page by page as the code makes it. Assumes nothing.
+-- The scan's step, page by page as the code makes it.
 use Prim.Native.Nat.{ℕ, _+_, _-_}
 use mathlib.Core.Bool.{Bool, true, false, cond, not, _&&_, _||_}
 use mathlib.Core.List.{List}

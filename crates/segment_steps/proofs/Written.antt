@@ -1,4 +1,4 @@
--- A place made on page p of the segment, and what the call then writes there: the page is lent a second time. Assumes nothing.
+-- A place made on page p of the segment, and what the call then writes there: the page is lent a second time.
 use Prim.Native.Nat.{ℕ, _+_, _-_, _*_, _≤_}
 use mathlib.Core.Path.{_≡_, refl, sym, ap, _∙_}
 use mathlib.Core.Bool.{true}
@@ -59,7 +59,8 @@ module _ (s : List ℕ) (p : ℕ) (fits : p * 16384 + 16384 ≤ length s) (ok : 
     bytes-written f =
         let g : out ≡ put page o bs = f ∙ ap (λ (q : List ℕ). put q o bs) lent-again in
         back (ap length g ∙ length-put page o bs ∙ whole) _
-        (fill-done k o (zeros n) (pageOf s p) page out (allocate (segView s .page p) n) bs (allocate-ended (pageOf s p) (segView s .page p) n (page-right s p fits ok)) (size ∙ sym (length-zeros n)) (sym e) refl g)
+        (fill-done k o (zeros n) (pageOf s p) page out (allocate (segView s .page p) n) bs
+        (allocate-ended (pageOf s p) (segView s .page p) n (page-right s p fits ok)) (size ∙ sym (length-zeros n)) (sym e) refl g)
 
     -- the entry of a target, and its bytes
     pub target-written : 20 + 8 * k ≤ o → out ≡ put (put (lentPart t p) (12 + 8 * k) (slotBytes (Target o n))) o bs
@@ -69,5 +70,6 @@ module _ (s : List ℕ) (p : ℕ) (fits : p * 16384 + 16384 ≤ length s) (ok : 
         let g : out ≡ put (put page (12 + 8 * k) x) o bs = f ∙ ap (λ (q : List ℕ). put (put q (12 + 8 * k) x) o bs) lent-again in
         let v = segView s .page p in
         back (ap length g ∙ length-put (put page (12 + 8 * k) x) o bs ∙ length-put page (12 + 8 * k) x ∙ whole) _
-        (target-done k o (zeros n) (pageOf s p) page (put page (12 + 8 * k) x) (allocate v n) n bs out (allocate-ended (pageOf s p) v n (page-right s p fits ok)) (allocate-sized v n (page-right s p fits ok))
+        (target-done k o (zeros n) (pageOf s p) page (put page (12 + 8 * k) x) (allocate v n) n bs out
+        (allocate-ended (pageOf s p) v n (page-right s p fits ok)) (allocate-sized v n (page-right s p fits ok))
         (size ∙ sym (length-zeros n)) past (sym e) refl refl g)

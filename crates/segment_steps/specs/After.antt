@@ -1,4 +1,4 @@
--- What is known of a segment after page steps, for the calls that take several. Assumes nothing.
+-- What is known of a segment after page steps, for the calls that take several.
 use Prim.Native.Nat.{ℕ, suc, _+_, _*_, _/_, _^_, _≤_, _<_}
 use mathlib.Core.Path.{_≡_, refl, sym, ap, subst, _∙_}
 use mathlib.Core.Bool.{true, false, _&&_}
@@ -11,7 +11,8 @@ use borrow.Author.Tests.{eqb-true}
 use Rattle.store.specs.Numbers.{put, toBE, idOf}
 use Rattle.store.specs.Slots.{off, len, isFree, isTarget}
 use Rattle.store.specs.Page.{View, view, sound}
-use Rattle.store.specs.PageSteps.{opened, move, run, Plan, plan, stay, withSlot, filled, erase, eraseForRedirect, Alloc, noRoom, got, allocate, Relocated, refused, moved, relocate}
+use Rattle.store.specs.PageSteps.{opened, move, run, Plan, plan, stay, withSlot, filled, erase, eraseForRedirect, Alloc, noRoom, got, allocate}
+use Rattle.store.specs.PageSteps.{Relocated, refused, moved, relocate}
 use Rattle.store.specs.Inventory.{Room, update}
 use Rattle.store.specs.Segment.{segView, pageOf, OnPage, on, carriedOn, sizeOk, invOk}
 use Rattle.store.specs.Laws.Numbers.{length-put, put-own, put-swap}
@@ -103,7 +104,8 @@ module _ (s : List ℕ) (e : OnPage) (t : List ℕ) (x : Took s e t) where
         → Took t (on q (f (segView s .page q))) w
     next-took f y w ew =
         record {
-          exact = subst (λ (l : List ℕ). ExactOn l (on q (f (segView s .page q)))) (sym (x .is)) (exact-skip s e (on q (f (segView s .page q))) (x .exact) y away);
+          exact = subst (λ (l : List ℕ). ExactOn l (on q (f (segView s .page q)))) (sym (x .is))
+              (exact-skip s e (on q (f (segView s .page q))) (x .exact) y away);
           is = ew ∙ ap (λ (v : View). carriedOn (on q (f v)) t) other-seen;
         }
 
@@ -154,7 +156,8 @@ got-none (got k a) e = let z : suc k ≡ 0 = ap slotIn e in absurd (omega arith)
 
 -- ---- steps by name: on a slot that is not free
 
-module _ (s : List ℕ) (p k : ℕ) (fits : p * 16384 + 16384 ≤ length s) (ok : sound (segView s .page p) ≡ true) (taken : isFree (segView s .page p .at k) ≡ false) where
+module _ (s : List ℕ) (p k : ℕ) (fits : p * 16384 + 16384 ≤ length s) (ok : sound (segView s .page p) ≡ true)
+    (taken : isFree (segView s .page p .at k) ≡ false) where
   page : PageOk s p k
   page = page-ok s p k fits ok taken
 
@@ -180,7 +183,8 @@ module _ (s : List ℕ) (p k : ℕ) (fits : p * 16384 + 16384 ≤ length s) (ok 
           let m : Moved (pageOf s p) (segView s .page p) k n a = subst (Answered (pageOf s p) (segView s .page p) k n) way moves in
           record { inside = fits; exact = fill-exact (pageOf s p) a (length-page s p fits) (m .exact) k (m .inside) (m .free) bs (size ∙ sym (m .size)) }
 
-      pub took-filled : (t : List ℕ) → t ≡ put s (p * 16384) (pageMoved (refilled (relocate (segView s .page p) k n) k bs) (pageOf s p)) → Took s (on p (filled a k bs)) t
+      pub took-filled : (t : List ℕ) → t ≡ put s (p * 16384) (pageMoved (refilled (relocate (segView s .page p) k n) k bs) (pageOf s p))
+          → Took s (on p (filled a k bs)) t
       took-filled t e = record { exact = filled-on-page; is = e ∙ ap (λ (r : Relocated). put s (p * 16384) (pageMoved (refilled r k bs) (pageOf s p))) way }
 
 -- what is no target's may have any size
@@ -192,14 +196,16 @@ pub target-length : (id : ℕ) (bs : List ℕ) (n : ℕ) → length bs ≡ n →
 target-length id bs n e = length-append (toBE 8 id) bs ∙ omega (arith, e)
 
 -- the entry of a redirect names another id
-module _ (s : List ℕ) (p k : ℕ) (fits : p * 16384 + 16384 ≤ length s) (ok : sound (segView s .page p) ≡ true) (i : ℕ) (here : segView s .page p .at k ≡ Redirect i)
+module _ (s : List ℕ) (p k : ℕ) (fits : p * 16384 + 16384 ≤ length s) (ok : sound (segView s .page p) ≡ true) (i : ℕ)
+    (here : segView s .page p .at k ≡ Redirect i)
     (id : ℕ) (small : id < 2 ^ 62) where
   pub redirect-on-page : ExactOn s (on p (redirectPlan (segView s .page p) k id))
   redirect-on-page =
       let o = page-ok s p k fits ok (ap isFree here) in
       record {
         inside = fits;
-        exact = retype-exact (pageOf s p) (stay (segView s .page p)) (length-page s p fits) (record { seen = o .seen; sound = o .sound }) k (o .counted) (ap isFree here) (Redirect id)
+        exact = retype-exact (pageOf s p) (stay (segView s .page p)) (length-page s p fits) (record { seen = o .seen; sound = o .sound }) k
+            (o .counted) (ap isFree here) (Redirect id)
             (sym (ap off here)) (sym (ap len here)) refl small (λ e. let z : _≡_ {A = ℕ} 0 1 = cc in omega arith) [] refl;
       }
 
@@ -207,7 +213,8 @@ module _ (s : List ℕ) (p k : ℕ) (fits : p * 16384 + 16384 ≤ length s) (ok 
   took-redirect t e = record { exact = redirect-on-page; is = e }
 
 -- a new place of n bytes on a sound page, fresh or in use
-module _ (s : List ℕ) (p : ℕ) (fits : p * 16384 + 16384 ≤ length s) (ok : sound (segView s .page p) ≡ true) (n j : ℕ) (a : Plan) (way : allocate (segView s .page p) n ≡ got j a) where
+module _ (s : List ℕ) (p : ℕ) (fits : p * 16384 + 16384 ≤ length s) (ok : sound (segView s .page p) ≡ true) (n j : ℕ) (a : Plan)
+    (way : allocate (segView s .page p) n ≡ got j a) where
   place : AllocOk (pageOf s p) n (got j a)
   unfolding segView
   place = subst (AllocOk (pageOf s p) n) way (alloc-ok (pageOf s p) n (length-page s p fits) ok)
@@ -225,11 +232,13 @@ module _ (s : List ℕ) (p : ℕ) (fits : p * 16384 + 16384 ≤ length s) (ok : 
         record {
           inside = fits;
           exact = exact-then (pageOf s p) a (λ u. let x = withSlot u j (Target (off (u .at j)) (len (u .at j))) bs in plan (move j x ∷ []) x)
-              (retype-exact (pageOf s p) a (length-page s p fits) (o .0) j (o .1) (o .2) (Target (off (w .at j)) (len (w .at j))) refl refl refl (omega arith, omega arith)
+              (retype-exact (pageOf s p) a (length-page s p fits) (o .0) j (o .1) (o .2) (Target (off (w .at j)) (len (w .at j))) refl refl refl
+              (omega arith, omega arith)
               (λ e. omega (arith, o .3)) bs (size ∙ sym (o .3)));
         }
 
-    pub took-target : (t : List ℕ) → t ≡ put s (p * 16384) (pageAfter (targetAt (allocate (segView s .page p) n) bs) (pageOf s p)) → Took s (on p (targetPlan j a bs)) t
+    pub took-target : (t : List ℕ) → t ≡ put s (p * 16384) (pageAfter (targetAt (allocate (segView s .page p) n) bs) (pageOf s p))
+        → Took s (on p (targetPlan j a bs)) t
     took-target t e = record { exact = target-on-page; is = e ∙ ap (λ (x : Alloc). put s (p * 16384) (pageAfter (targetAt x bs) (pageOf s p))) way }
 
 -- ---- a step refused leaves the segment as it was

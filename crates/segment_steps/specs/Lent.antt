@@ -1,5 +1,4 @@
 -- One page of the segment lent on from its middle, to be written: what the borrow checker says of it, in the words of the plans.
--- Assumes nothing.
 use Prim.Native.Nat.{ℕ, _+_, _-_, _*_, _≤_, _<_}
 use mathlib.Core.Path.{_≡_, refl, sym, ap, subst, _∙_}
 use mathlib.Core.Bool.{Bool, true, false}
@@ -69,7 +68,8 @@ module _ (s : List ℕ) (p : ℕ) (fits : p * 16384 + 16384 ≤ length s) where
 
 -- ---- a page with a slot that is not free, as the steps on that slot ask for it
 
-module _ (s : List ℕ) (p k : ℕ) (fits : p * 16384 + 16384 ≤ length s) (ok : sound (segView s .page p) ≡ true) (taken : isFree (segView s .page p .at k) ≡ false) where
+module _ (s : List ℕ) (p k : ℕ) (fits : p * 16384 + 16384 ≤ length s) (ok : sound (segView s .page p) ≡ true)
+    (taken : isFree (segView s .page p .at k) ≡ false) where
   pub lent-taken : (length (lentPart s p) ≡ 16384) × Sound (view (lentPart s p)) × (k < view (lentPart s p) .slotCount)
   lent-taken =
       let o = page-ok s p k fits ok taken in
@@ -83,8 +83,10 @@ module _ (s : List ℕ) (p k : ℕ) (fits : p * 16384 + 16384 ≤ length s) (ok 
 
   -- the slot's record at another size n: what is left and answered, where the bytes written are told from the page
   pub lent-moved : (n : ℕ) (bs : View → List ℕ) (out : List ℕ) (r : Bool)
-      → (out ≡ pageMoved (refilled (relocate (view (lentPart s p)) k n) k (bs (view (lentPart s p)))) (lentPart s p)) × (r ≡ wasMoved (relocate (view (lentPart s p)) k n))
-      → (putMid (p * 16384) ((p + 1) * 16384 - p * 16384) s out ≡ put s (p * 16384) (pageMoved (refilled (relocate (segView s .page p) k n) k (bs (segView s .page p))) (pageOf s p)))
+      → (out ≡ pageMoved (refilled (relocate (view (lentPart s p)) k n) k (bs (view (lentPart s p)))) (lentPart s p))
+      × (r ≡ wasMoved (relocate (view (lentPart s p)) k n))
+      → (putMid (p * 16384) ((p + 1) * 16384 - p * 16384) s out
+      ≡ put s (p * 16384) (pageMoved (refilled (relocate (segView s .page p) k n) k (bs (segView s .page p))) (pageOf s p)))
       × (r ≡ wasMoved (relocate (segView s .page p) k n))
   lent-moved n bs out r e =
       let o = page-ok s p k fits ok taken in (

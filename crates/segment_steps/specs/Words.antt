@@ -1,4 +1,4 @@
--- The words of the contracts: a page as a call sees it, and what a step on it leaves of the segment. Assumes nothing.
+-- The words of the contracts: a page as a call sees it, and what a step on it leaves of the segment.
 use Prim.Native.Nat.{ℕ, _*_}
 use mathlib.Core.List.{List}
 use Rattle.store.specs.Numbers.{put}

@@ -39,7 +39,8 @@ pub fn resize_on(segment: &mut [u8], p: usize, k: usize, size: usize) -> bool
     requires { ⌜ (p * 16384 + 16384 ≤ length (now segment)) × (sound (seen (now segment) p) ≡ true)
         × (isFree (seen (now segment) p .at k) ≡ false) ⌝ }
     ensures { λ r. ⌜ (now (segment .exit)
-        ≡ relocatedOn (now (segment .entry)) p (refilled (relocate (seen (now (segment .entry)) p) k size) k (fit size (seen (now (segment .entry)) p .bytes k))))
+        ≡ relocatedOn (now (segment .entry)) p
+        (refilled (relocate (seen (now (segment .entry)) p) k size) k (fit size (seen (now (segment .entry)) p .bytes k))))
         × (r ≡ wasMoved (relocate (seen (now (segment .entry)) p) k size)) ⌝ }
 {
     slotted_page::record::resize(&mut segment[p * 16384..(p + 1) * 16384], k, size)
@@ -50,7 +51,8 @@ pub fn rewrite_target_on(segment: &mut [u8], p: usize, k: usize, id: usize, byte
     requires { ⌜ (p * 16384 + 16384 ≤ length (now segment)) × (sound (seen (now segment) p) ≡ true) × (isFree (seen (now segment) p .at k) ≡ false)
         × (length (now bytes) ≤ 16364) ⌝ }
     ensures { λ r. ⌜ (now (segment .exit)
-        ≡ relocatedOn (now (segment .entry)) p (refilled (relocate (seen (now (segment .entry)) p) k (length (now (bytes .entry)) + 8)) k (toBE 8 id ++ now (bytes .entry))))
+        ≡ relocatedOn (now (segment .entry)) p
+        (refilled (relocate (seen (now (segment .entry)) p) k (length (now (bytes .entry)) + 8)) k (toBE 8 id ++ now (bytes .entry))))
         × (r ≡ wasMoved (relocate (seen (now (segment .entry)) p) k (length (now (bytes .entry)) + 8))) ⌝ }
 {
     slotted_page::record::rewrite_target(&mut segment[p * 16384..(p + 1) * 16384], k, id, bytes)
@@ -61,7 +63,9 @@ pub fn resize_target_on(segment: &mut [u8], p: usize, k: usize, id: usize, size:
     requires { ⌜ (p * 16384 + 16384 ≤ length (now segment)) × (sound (seen (now segment) p) ≡ true) × (isFree (seen (now segment) p .at k) ≡ false)
         × (size ≤ 16364) ⌝ }
     ensures { λ r. ⌜ (now (segment .exit)
-        ≡ relocatedOn (now (segment .entry)) p (refilled (relocate (seen (now (segment .entry)) p) k (size + 8)) k (toBE 8 id ++ fit size (drop 8 (seen (now (segment .entry)) p .bytes k)))))
+        ≡ relocatedOn (now (segment .entry)) p
+        (refilled (relocate (seen (now (segment .entry)) p) k (size + 8)) k
+        (toBE 8 id ++ fit size (drop 8 (seen (now (segment .entry)) p .bytes k)))))
         × (r ≡ wasMoved (relocate (seen (now (segment .entry)) p) k (size + 8))) ⌝ }
 {
     slotted_page::record::resize_target(&mut segment[p * 16384..(p + 1) * 16384], k, id, size)

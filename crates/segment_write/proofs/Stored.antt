@@ -1,5 +1,4 @@
 -- Write and resize: what the code did is what the plan says. `size` is the record's new size, and `new` what becomes of its old bytes.
--- Assumes nothing.
 use Prim.Native.Nat.{ℕ, _+_, _-_, _*_, _/_, _≤_, _<_}
 use mathlib.Core.Path.{_≡_, refl, sym, ap, subst, _∙_}
 use mathlib.Core.Bool.{true, false, _&&_, _||_}
@@ -14,7 +13,8 @@ use Rattle.store.specs.Slots.{off, len, isFree, isTarget}
 use Rattle.store.specs.Page.{view, sound}
 use Rattle.store.specs.PageSteps.{Plan, filled, Relocated, moved, relocate}
 use Rattle.store.specs.Inventory.{Room, update, foundIn}
-use Rattle.store.specs.Segment.{segView, pageOf, sizeOk, invOk, OnPage, on, Result, result, step, Found, nowhere, found, find, pointsBack, forwarded, forwardedAgain, atHome, atTarget, storeBy, storePlan, writeStep, resizeStep}
+use Rattle.store.specs.Segment.{segView, pageOf, sizeOk, invOk, OnPage, on, Result, result, step, Found, nowhere, found, find, pointsBack, forwarded}
+use Rattle.store.specs.Segment.{forwardedAgain, atHome, atTarget, storeBy, storePlan, writeStep, resizeStep}
 use Rattle.store.specs.Answers.{outcome}
 use Rattle.store.specs.Laws.Numbers.{cut-same, cut-drop}
 use Rattle.store.specs.Laws.SoundPage.{sound-test}
@@ -60,7 +60,8 @@ told-asks s v t w e x z ew =
 
 abbrev pub TargetAsks : List ℕ → ℕ → ℕ → Type 0
 TargetAsks s j size =
-    (pageNo j * 16384 + 16384 ≤ length s) × (sound (segView s .page (pageNo j)) ≡ true) × (isFree (segView s .page (pageNo j) .at (slotNo j)) ≡ false) × (size ≤ 16364)
+    (pageNo j * 16384 + 16384 ≤ length s) × (sound (segView s .page (pageNo j)) ≡ true) × (isFree (segView s .page (pageNo j) .at (slotNo j)) ≡ false)
+    × (size ≤ 16364)
 
 abbrev pub ForwardAsks : List ℕ → List ℕ → ℕ → ℕ → Type 0
 ForwardAsks s v i size = Sizes s v × TargetAsks s i size
@@ -68,7 +69,8 @@ ForwardAsks s v i size = Sizes s v × TargetAsks s i size
 abbrev pub AgainAsks : List ℕ → List ℕ → ℕ → ℕ → ℕ → Type 0
 AgainAsks s v i j size =
     Sizes s v
-    × ((pageNo i * 16384 + 16384 ≤ length s) × (sound (segView s .page (pageNo i)) ≡ true) × (segView s .page (pageNo i) .at (slotNo i) ≡ Redirect j) × (pointsBack (segView s) i j ≡ true) × (size ≤ 16364))
+    × ((pageNo i * 16384 + 16384 ≤ length s) × (sound (segView s .page (pageNo i)) ≡ true) × (segView s .page (pageNo i) .at (slotNo i) ≡ Redirect j)
+    × (pointsBack (segView s) i j ≡ true) × (size ≤ 16364))
 
 pub again-asks : (s v : List ℕ) (i j size : ℕ) (t w : List ℕ) → t ≡ s → w ≡ v → AgainAsks s v i j size → AgainAsks t w i j size
 again-asks s v i j size t w et ew x = subst (λ (l : List ℕ). AgainAsks l w i j size) (sym et) (subst (λ (m : List ℕ). AgainAsks s m i j size) (sym ew) x)
@@ -146,13 +148,15 @@ module _ (s v : List ℕ) (i size : ℕ) (new : List ℕ → List ℕ) where
         rw (m .by) (λ z. record { answer = 0; id = i; seg = m .took .is z; inv = h z })
 
     -- t is s: the page step refused, and left every byte
-    pub by-forward : wasMoved (relocate (segView s .page (pageNo i)) (slotNo i) size) ≡ false → (b : List ℕ) → b ≡ new (segView s .page (pageNo i) .bytes (slotNo i))
+    pub by-forward : wasMoved (relocate (segView s .page (pageNo i)) (slotNo i) size) ≡ false → (b : List ℕ)
+        → b ≡ new (segView s .page (pageNo i) .bytes (slotNo i))
         → (t : List ℕ) → t ≡ s → (x : Result)
         → x ≡ result t (forwarded (segView t) v i size (λ o. b) [] (find foundIn (segView t) v (size + 8) (λ p. eqb p (pageNo i))))
         → x ≡ result s (storeBy (segView s) v i size new (Ordinary o l))
     by-forward f b eb t et x ex =
         ex ∙ ap (λ (m : List ℕ). result m (forwarded (segView m) v i size (λ o. b) [] (find foundIn (segView m) v (size + 8) (λ p. eqb p (pageNo i))))) et
-        ∙ ap (result s) (same (find foundIn (segView s) v (size + 8) (λ p. eqb p (pageNo i))) ∙ rw (not-moved (relocate (segView s .page (pageNo i)) (slotNo i) size) f))
+        ∙ ap (result s) (same (find foundIn (segView s) v (size + 8) (λ p. eqb p (pageNo i)))
+        ∙ rw (not-moved (relocate (segView s .page (pageNo i)) (slotNo i) size) f))
       where
         old : List ℕ
         old = segView s .page (pageNo i) .bytes (slotNo i)
@@ -183,7 +187,8 @@ module _ (s v : List ℕ) (i size : ℕ) (new : List ℕ → List ℕ) where
           ∙ rw back refl
 
       module _ (away : wasMoved (relocate (segView s .page (pageNo i)) (slotNo i) size) ≡ false) where
-        not-home : atTarget (segView s) v i size new j oldBytes (relocate (segView s .page (pageNo j)) (slotNo j) (size + 8)) ≡ storeBy (segView s) v i size new (Redirect j)
+        not-home : atTarget (segView s) v i size new j oldBytes (relocate (segView s .page (pageNo j)) (slotNo j) (size + 8))
+            ≡ storeBy (segView s) v i size new (Redirect j)
         not-home = rw (back, not-moved (relocate (segView s .page (pageNo i)) (slotNo i) size) away)
 
         pub by-stay : (t w : List ℕ) → Moves s (pageNo j) (slotNo j) (size + 8) (toBE 8 i ++ new oldBytes) t
@@ -199,11 +204,15 @@ module _ (s v : List ℕ) (i size : ℕ) (new : List ℕ → List ℕ) where
 
         pub by-again : wasMoved (relocate (segView s .page (pageNo j)) (slotNo j) (size + 8)) ≡ false → (b : List ℕ) → b ≡ new oldBytes
             → (t w : List ℕ) → t ≡ s → w ≡ v → (x : Result)
-            → x ≡ result t (forwardedAgain (segView t) w i size (λ o. b) j [] (find foundIn (segView t) w (size + 8) (λ p. eqb p (pageNo i) || eqb p (pageNo j))))
+            → x ≡ result t (forwardedAgain (segView t) w i size (λ o. b) j []
+            (find foundIn (segView t) w (size + 8) (λ p. eqb p (pageNo i) || eqb p (pageNo j))))
             → x ≡ result s (storeBy (segView s) v i size new (Redirect j))
         by-again f b eb t w et ew x ex =
-            ex ∙ ap (λ (m : List ℕ). result m (forwardedAgain (segView m) w i size (λ o. b) j [] (find foundIn (segView m) w (size + 8) (λ p. eqb p (pageNo i) || eqb p (pageNo j))))) et
-            ∙ ap (λ (m : List ℕ). result s (forwardedAgain (segView s) m i size (λ o. b) j [] (find foundIn (segView s) m (size + 8) (λ p. eqb p (pageNo i) || eqb p (pageNo j))))) ew
+            ex ∙ ap (λ (m : List ℕ). result m
+            (forwardedAgain (segView m) w i size (λ o. b) j []
+            (find foundIn (segView m) w (size + 8) (λ p. eqb p (pageNo i) || eqb p (pageNo j))))) et
+            ∙ ap (λ (m : List ℕ). result s (forwardedAgain (segView s) m i size (λ o. b) j []
+            (find foundIn (segView s) m (size + 8) (λ p. eqb p (pageNo i) || eqb p (pageNo j))))) ew
             ∙ ap (result s)
             (same (find foundIn (segView s) v (size + 8) (λ p. eqb p (pageNo i) || eqb p (pageNo j)))
             ∙ ap (atTarget (segView s) v i size new j oldBytes) (sym (not-moved (relocate (segView s .page (pageNo j)) (slotNo j) (size + 8)) f))

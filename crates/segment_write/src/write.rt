@@ -20,7 +20,9 @@ fn write_ordinary(segment: &mut [u8], inventory: &mut [u8], id: usize, bytes: &[
         × (isFree (seen (now segment) (pageNo id) .at (slotNo id)) ≡ false)
         × (isTarget (seen (now segment) (pageNo id) .at (slotNo id)) ≡ false) × (length (now bytes) ≤ 16364) ⌝ }
     ensures { λ r. ⌜ outcome r (now (segment .exit)) (now (inventory .exit))
-        ≡ result (now (segment .entry)) (storeBy (segView (now (segment .entry))) (now (inventory .entry)) id (length (now (bytes .entry))) (λ old. now (bytes .entry)) (Slot.Ordinary 0 0)) ⌝ }
+        ≡ result (now (segment .entry))
+        (storeBy (segView (now (segment .entry))) (now (inventory .entry)) id (length (now (bytes .entry))) (λ old. now (bytes .entry))
+        (Slot.Ordinary 0 0)) ⌝ }
 {
     if segment_steps::rewrite_on(segment, id / 65536, id % 65536, bytes, bytes.len()) {
         segment_steps::update_on(segment, inventory, id / 65536);
@@ -42,7 +44,9 @@ fn write_forwarded(
         × (seen (now segment) (pageNo id) .at (slotNo id) ≡ Slot.Redirect t)
         × (length (now bytes) ≤ 16364) ⌝ }
     ensures { λ r. ⌜ outcome r (now (segment .exit)) (now (inventory .exit))
-        ≡ result (now (segment .entry)) (storeBy (segView (now (segment .entry))) (now (inventory .entry)) id (length (now (bytes .entry))) (λ old. now (bytes .entry)) (Slot.Redirect t)) ⌝ }
+        ≡ result (now (segment .entry))
+        (storeBy (segView (now (segment .entry))) (now (inventory .entry)) id (length (now (bytes .entry))) (λ old. now (bytes .entry))
+        (Slot.Redirect t)) ⌝ }
 {
     if !segment_pages::points_back(segment, id, t) {
         return Answer::Damaged;
@@ -58,7 +62,8 @@ fn write_forwarded(
 }
 
 pub fn write_record(segment: &mut [u8], inventory: &mut [u8], id: usize, bytes: &[u8]) -> Answer
-    ensures { λ r. ⌜ outcome r (now (segment .exit)) (now (inventory .exit)) ≡ writeStep (now (segment .entry)) (now (inventory .entry)) id (now (bytes .entry)) ⌝ }
+    ensures { λ r. ⌜ outcome r (now (segment .exit)) (now (inventory .exit))
+        ≡ writeStep (now (segment .entry)) (now (inventory .entry)) id (now (bytes .entry)) ⌝ }
 {
     if !segment_pages::sizes_ok(segment, inventory) {
         return Answer::Size;

@@ -1,4 +1,4 @@
--- Allocate's plan: its own bytes, and others in their place. Assumes nothing.
+-- Allocate's plan: its own bytes, and others in their place.
 use mathlib.Core.Path.{sym, ap, _∙_, subst}
 use mathlib.Core.List.{List, [], _∷_, _++_}
 use Prim.Native.Nat.{ℕ, _-_}
@@ -18,7 +18,8 @@ use Rattle.page_places.proofs.ReserveLaws.{headAfter}
 pub allocate-ended : (p : List ℕ) (v : View) (n : ℕ) → Sound v → Ended p (zeros n) (allocate v n)
 unfolding allocate
 allocate-ended p v n s =
-    by-test (Ended p (zeros n)) (ltb (v .freeSpace) (cost v n)) noRoom (got (v .firstFree) (andThen (makeRoom v (cost v n)) (λ u. plan (commit (u .firstFree) (allocated u n) ∷ []) (allocated u n))))
+    by-test (Ended p (zeros n)) (ltb (v .freeSpace) (cost v n)) noRoom
+    (got (v .firstFree) (andThen (makeRoom v (cost v n)) (λ u. plan (commit (u .firstFree) (allocated u n) ∷ []) (allocated u n))))
     (λ e. tt)
     (λ e.
     let w : View = makeRoom v (cost v n) .after in
@@ -29,8 +30,10 @@ allocate-ended p v n s =
 pub allocate-sized : (v : View) (n : ℕ) → Sound v → Sized n (allocate v n)
 unfolding allocate
 allocate-sized v n s =
-    by-test (Sized n) (ltb (v .freeSpace) (cost v n)) noRoom (got (v .firstFree) (andThen (makeRoom v (cost v n)) (λ u. plan (commit (u .firstFree) (allocated u n) ∷ []) (allocated u n))))
+    by-test (Sized n) (ltb (v .freeSpace) (cost v n)) noRoom
+    (got (v .firstFree) (andThen (makeRoom v (cost v n)) (λ u. plan (commit (u .firstFree) (allocated u n) ∷ []) (allocated u n))))
     (λ e. tt)
     (λ e.
     let w : View = makeRoom v (cost v n) .after in
-    ap (λ (j : ℕ). len (allocated w n .at j)) (sym (roomy-keeps v (cost v n) s .firstFree)) ∙ ap len (upd-same (w .at) (w .firstFree) (Ordinary (w .dataStart - n) n)))
+    ap (λ (j : ℕ). len (allocated w n .at j)) (sym (roomy-keeps v (cost v n) s .firstFree))
+    ∙ ap len (upd-same (w .at) (w .firstFree) (Ordinary (w .dataStart - n) n)))

@@ -1,4 +1,4 @@
--- Erase against the store's plans: each law takes what the calls of a function ensure, and ends in `run (plan .edits) p`. Assumes nothing.
+-- Erase against the store's plans: each law takes what the calls of a function ensure, and ends in `run (plan .edits) p`.
 use mathlib.Core.Path.{_≡_, sym, ap, _∙_}
 use mathlib.Core.Bool.{true, false, cond}
 use mathlib.Core.List.{List, []}
@@ -50,5 +50,6 @@ redirect-done v k id c f n l up p q₁ q₂ ec ef en el eu e₁ e₂ =
     e₂ ∙ rw (e₁, ec, ef, en, el, eu) (sym (commit-writes w k (Redirect id) [] p ∙ put-nil _ 0))
 
 -- data start without the record, from the slot that was read
-pub start-done : (v : View) (k o l d up : ℕ) (s : Slot) → s ≡ v .at k → o ≡ off s → l ≡ len s → d ≡ v .dataStart → up ≡ cond (eqb o d) (d + l) d → up ≡ startWithout v k
+pub start-done : (v : View) (k o l d up : ℕ) (s : Slot) → s ≡ v .at k → o ≡ off s → l ≡ len s → d ≡ v .dataStart → up ≡ cond (eqb o d) (d + l) d
+    → up ≡ startWithout v k
 start-done v k o l d up s es eo el ed eu = eu ∙ rw (eo, el, ed, es)

@@ -1,4 +1,4 @@
--- A plan but for its record's bytes, and those bytes written afterwards. Assumes nothing.
+-- A plan but for its record's bytes, and those bytes written afterwards.
 use mathlib.Core.Path.{_≡_, refl, sym, ap, _∙_}
 use mathlib.Core.Bool.{true, false}
 use mathlib.Core.List.{List, [], _∷_, _++_}
@@ -57,11 +57,13 @@ ends-by p k own es v w =
           ∙ rw w (put-over (run (unfilled es) p) (off (v .at k)) own bs (omega arith));
     }
 
-pub commit-ends : (p : List ℕ) (es : List Edit) (w : View) (k : ℕ) (s : Slot) (own : List ℕ) → Ends p k own (es ++ commit k (withSlot w k s own) ∷ []) (withSlot w k s own)
+pub commit-ends : (p : List ℕ) (es : List Edit) (w : View) (k : ℕ) (s : Slot) (own : List ℕ)
+    → Ends p k own (es ++ commit k (withSlot w k s own) ∷ []) (withSlot w k s own)
 commit-ends p es w k s own =
     let fs : List Edit = es ++ commit k (withSlot w k s own) ∷ [] in
     ends-by p k own fs (withSlot w k s own)
-    (run-append es (commit k (withSlot w k s own) ∷ []) p ∙ commit-writes w k s own (run es p) ∙ ap (λ (q : List ℕ). put q (off s) own) (sym (run-bare es w k s own p))
+    (run-append es (commit k (withSlot w k s own) ∷ []) p ∙ commit-writes w k s own (run es p)
+    ∙ ap (λ (q : List ℕ). put q (off s) own) (sym (run-bare es w k s own p))
     ∙ ap (λ (x : Slot). put (run (unfilled fs) p) (off x) own) (sym (upd-same (w .at) k s)))
 
 -- ---- what the code finds: the place, and the page without the bytes
@@ -83,12 +85,14 @@ module _ (k o : ℕ) (own p q₁ q₂ : List ℕ) where
   written-done noRoom f e e₁ e₂ = let z : _≡_ {A = ℕ} 0 1 = ap tag e in absurd (omega arith)
   written-done (got j a) f e e₁ e₂ = e₂ ∙ rw (e₁, ap offsetOf e) (sym (f .written))
 
-  pub fill-done : (a : Alloc) (bs : List ℕ) → Ended p own a → length bs ≡ length own → At k o ≡ placeOf a → q₁ ≡ pageBare a p → q₂ ≡ put q₁ o bs → q₂ ≡ pageAfter (filledAt a bs) p
+  pub fill-done : (a : Alloc) (bs : List ℕ) → Ended p own a → length bs ≡ length own → At k o ≡ placeOf a → q₁ ≡ pageBare a p → q₂ ≡ put q₁ o bs
+      → q₂ ≡ pageAfter (filledAt a bs) p
   fill-done noRoom bs f l e e₁ e₂ = let z : _≡_ {A = ℕ} 0 1 = ap tag e in absurd (omega arith)
   fill-done (got j a) bs f l e e₁ e₂ = e₂ ∙ rw (e₁, ap offsetOf e) (sym (f .fills bs l))
 
   -- its entry a target's, of the same place and length
-  pub target-done : (a : Alloc) (n : ℕ) (bs q₃ : List ℕ) → Ended p own a → Sized n a → length bs ≡ length own → 20 + 8 * k ≤ o → At k o ≡ placeOf a → q₁ ≡ pageBare a p
+  pub target-done : (a : Alloc) (n : ℕ) (bs q₃ : List ℕ) → Ended p own a → Sized n a → length bs ≡ length own → 20 + 8 * k ≤ o → At k o ≡ placeOf a
+      → q₁ ≡ pageBare a p
       → q₂ ≡ put q₁ (12 + 8 * k) (slotBytes (Target o n)) → q₃ ≡ put q₂ o bs → q₃ ≡ pageAfter (targetAt a bs) p
   target-done noRoom n bs q₃ f s l h e e₁ e₂ e₃ = let z : _≡_ {A = ℕ} 0 1 = ap tag e in absurd (omega arith)
   target-done (got j a) n bs q₃ f s l h e e₁ e₂ e₃ =
@@ -97,7 +101,8 @@ module _ (k o : ℕ) (own p q₁ q₂ : List ℕ) where
       let x : Slot = Target o n in
       let w : run (a .edits) p ≡ put q₁ o own = f .written ∙ rw (e₁, ap offsetOf e) in
       let g : put (put (put q₁ o own) (12 + 8 * k) (slotBytes x)) o bs ≡ q₃ =
-      ap (λ (q : List ℕ). put q o bs) (put-swap q₁ (12 + 8 * k) o (slotBytes x) own i) ∙ put-over (put q₁ (12 + 8 * k) (slotBytes x)) o own bs (omega arith) ∙ sym (rw (e₃, e₂)) in
+      ap (λ (q : List ℕ). put q o bs) (put-swap q₁ (12 + 8 * k) o (slotBytes x) own i)
+      ∙ put-over (put q₁ (12 + 8 * k) (slotBytes x)) o own bs (omega arith) ∙ sym (rw (e₃, e₂)) in
       sym (run-append (a .edits) (move j (withSlot v j (Target (off (v .at j)) (len (v .at j))) bs) ∷ []) p
       ∙ move-writes v j (Target (off (v .at j)) (len (v .at j))) bs (run (a .edits) p) ∙ rw (s, w, ← ap offsetOf e, ← ap slotOf e) g)
 
@@ -108,14 +113,16 @@ module _ (k : ℕ) (p q : List ℕ) where
   moved-done refused j o e x = let z : _≡_ {A = ℕ} 0 1 = ap tag e in absurd (omega arith)
   moved-done (moved a) j o e x = (x, refl)
 
-  pub refilled-done : (r : Relocated) (j o : ℕ) (bs : List ℕ) → At j o ≡ placeOf (allocOf k r) → q ≡ pageAfter (filledAt (allocOf k r) bs) p → (q ≡ pageMoved (refilled r k bs) p) × (true ≡ wasMoved r)
+  pub refilled-done : (r : Relocated) (j o : ℕ) (bs : List ℕ) → At j o ≡ placeOf (allocOf k r) → q ≡ pageAfter (filledAt (allocOf k r) bs) p
+      → (q ≡ pageMoved (refilled r k bs) p) × (true ≡ wasMoved r)
   refilled-done refused j o bs e x = let z : _≡_ {A = ℕ} 0 1 = ap tag e in absurd (omega arith)
   refilled-done (moved a) j o bs e x = (x, refl)
 
 -- ---- a refusal leaves the page
 
 module _ (p q : List ℕ) where
-  pub none-done : (a : Alloc) → NoRoom ≡ placeOf a → q ≡ pageBare a p → (q ≡ pageAfter a p) × ((bs : List ℕ) → (q ≡ pageAfter (filledAt a bs) p) × (q ≡ pageAfter (targetAt a bs) p))
+  pub none-done : (a : Alloc) → NoRoom ≡ placeOf a → q ≡ pageBare a p
+      → (q ≡ pageAfter a p) × ((bs : List ℕ) → (q ≡ pageAfter (filledAt a bs) p) × (q ≡ pageAfter (targetAt a bs) p))
   none-done noRoom e e₁ = (e₁, λ bs. (e₁, e₁))
   none-done (got j a) e e₁ = let z : _≡_ {A = ℕ} 1 0 = ap tag e in absurd (omega arith)
 

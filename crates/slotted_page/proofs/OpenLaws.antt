@@ -1,4 +1,4 @@
--- A fresh page: initialised, then as any other. Assumes nothing.
+-- A fresh page: initialised, then as any other.
 use mathlib.Core.Path.{_≡_, refl, sym, ap, _∙_}
 use mathlib.Core.Bool.{true, false}
 use mathlib.Core.List.{List, [], _++_}
@@ -42,7 +42,8 @@ init-reserve p n h =
     let t : ltb 16372 (n + 8) ≡ false = le-ltb 16372 (n + 8) (omega arith) in
     let u : View = withHead initialised 1 1 (16384 - n) (16372 - (n + 8)) in
     let s : Slot = Ordinary (16384 - n) n in
-    rw t (run-bare [] u 0 s (zeros n) (putHead initialised p) ∙ ap (λ (q : List ℕ). put q 12 (slotBytes s)) (head-over p 1 1 (16384 - n) (16372 - (n + 8))) ∙ sym (run-bare [] u 0 s (zeros n) p))
+    rw t (run-bare [] u 0 s (zeros n) (putHead initialised p)
+    ∙ ap (λ (q : List ℕ). put q 12 (slotBytes s)) (head-over p 1 1 (16384 - n) (16372 - (n + 8))) ∙ sym (run-bare [] u 0 s (zeros n) p))
 
 module _ (p : List ℕ) (n c : ℕ) (ec : c ≡ view p .slotCount) where
   pub fresh-done : (q₁ q₂ : List ℕ) (r : Place) → length p ≡ 16384 → n ≤ 16364 → c ≡ 0 → q₁ ≡ putHead initialised p

@@ -1,4 +1,4 @@
--- A relocated record's bytes: the old ones, cut off or filled up with zeros, are what the plan writes. Assumes nothing.
+-- A relocated record's bytes: the old ones, cut off or filled up with zeros, are what the plan writes.
 use mathlib.Core.Path.{_≡_, refl, sym, ap, _∙_, subst}
 use mathlib.Core.Bool.{true, false}
 use mathlib.Core.List.{List, [], _∷_, _++_, append-assoc}
@@ -14,7 +14,8 @@ use borrow.Author.Tests.{ltb-true, ltb-false, eqb-true, eqb-false, le-ltb}
 use Rattle.store.specs.Numbers.{put, cut, zeros, fit}
 use Rattle.store.specs.Slots.{slotBytes, off, len, isRecord, placed}
 use Rattle.store.specs.Page.{View, view}
-use Rattle.store.specs.PageSteps.{Edit, commit, run, withHead, stay, makeRoom, gap, moveUnder, parked, shrunk, resized, relocateBy, relocate, got, Relocated, refused, moved}
+use Rattle.store.specs.PageSteps.{Edit, commit, run, withHead, stay, makeRoom, gap, moveUnder, parked, shrunk, resized, relocateBy, relocate, got}
+use Rattle.store.specs.PageSteps.{Relocated, refused, moved}
 use Rattle.store.specs.Laws.Numbers.{put-nil, put-own, put-over, put-swap, length-put, cut-apart, cut-same}
 use Rattle.store.specs.Laws.Views.{Sound, upd-same}
 use Rattle.store.specs.Laws.Calls.{by-test}
@@ -37,7 +38,8 @@ unfolding headOf
 length-head c f d n = refl
 
 -- a record is not touched by the header and a slot's entry
-cut-past : (p : List ℕ) (k c f d r o n : ℕ) (x : Slot) → (0 < n → 20 + 8 * k ≤ o) → cut (put (put p 0 (headOf c f d r)) (12 + 8 * k) (slotBytes x)) o n ≡ cut p o n
+cut-past : (p : List ℕ) (k c f d r o n : ℕ) (x : Slot) → (0 < n → 20 + 8 * k ≤ o)
+    → cut (put (put p 0 (headOf c f d r)) (12 + 8 * k) (slotBytes x)) o n ≡ cut p o n
 cut-past p k c f d r o n x h =
     cut-apart (put p 0 (headOf c f d r)) (12 + 8 * k) (slotBytes x) o n (λ b w. inr (omega (arith, h w)))
     ∙ cut-apart p 0 (headOf c f d r) o n (λ b w. inr (omega (arith, h w, length-head c f d r)))
@@ -53,7 +55,14 @@ fit-add a b bs = go (decLt (length bs) a)
     go (yes h) =
         let e : a + b - length bs ≡ (a - length bs) + b = omega arith in
         fit-filled (a + b) bs (omega arith)
-        ∙ rw (e, ← replicate-append-replicate {A = ℕ} (a - length bs) b 0, fit-filled a bs (omega arith), drop-of-length-le bs {i = a} (omega arith), ← fit-none b, append-assoc)
+        ∙ rw (
+          e,
+          ← replicate-append-replicate {A = ℕ} (a - length bs) b 0,
+          fit-filled a bs (omega arith),
+          drop-of-length-le bs {i = a} (omega arith),
+          ← fit-none b,
+          append-assoc,
+        )
     go (no h) =
         let e : b - (length bs - a) ≡ a + b - length bs = omega arith in
         rw (take-add a b bs, fit-cut a bs (omega arith), append-assoc, length-drop, e)
@@ -90,7 +99,8 @@ module _ (p : List ℕ) (k n : ℕ) (whole : length p ≡ 16384) (s : Sound (vie
   same-ended : n ≡ len (v .at k) → Ends p k old [] v
   unfolding v old
   same-ended e =
-      let f : fit n (v .bytes k) ≡ cut p (off (v .at k)) (len (v .at k)) = fit-cut n (v .bytes k) (omega (arith, s .lens k)) ∙ take-all n (v .bytes k) (omega (arith, s .lens k)) ∙ sym (shown-bytes p k) in
+      let f : fit n (v .bytes k) ≡ cut p (off (v .at k)) (len (v .at k)) = fit-cut n (v .bytes k) (omega (arith, s .lens k))
+      ∙ take-all n (v .bytes k) (omega (arith, s .lens k)) ∙ sym (shown-bytes p k) in
       ends-by p k old [] v (sym (rw f (put-own p (off (v .at k)) (len (v .at k)) (omega (arith, s .high k)))))
 
   less-ended : n < len (v .at k) → Ends p k old (shrinkPlan v k n .edits) (shrunk v k n)
@@ -98,13 +108,15 @@ module _ (p : List ℕ) (k n : ℕ) (whole : length p ≡ 16384) (s : Sound (vie
   less-ended h =
       let f : take n (v .bytes k) ≡ fit n (v .bytes k) = sym (fit-cut n (v .bytes k) (omega (arith, s .lens k))) in
       subst (λ (bs : List ℕ). Ends p k bs (shrinkPlan v k n .edits) (shrunk v k n)) f
-      (commit-ends p [] (withHead v (v .slotCount) (v .firstFree) (v .dataStart) (v .freeSpace + (len (v .at k) - n))) k (placed (v .at k) (off (v .at k)) n) (take n (v .bytes k)))
+      (commit-ends p [] (withHead v (v .slotCount) (v .firstFree) (v .dataStart) (v .freeSpace + (len (v .at k) - n))) k
+      (placed (v .at k) (off (v .at k)) n) (take n (v .bytes k)))
 
   more-ended : Ends p k old (growPlan v k n .edits) (growPlan v k n .after)
   unfolding v old
   more-ended =
       let w : View = makeRoom (parked v k) n .after in
-      commit-ends p (commit k (parked v k) ∷ makeRoom (parked v k) n .edits) (withHead w (w .slotCount) (w .firstFree) (w .dataStart - n) (w .freeSpace - n)) k (placed (v .at k) (w .dataStart - n) n) old
+      commit-ends p (commit k (parked v k) ∷ makeRoom (parked v k) n .edits)
+      (withHead w (w .slotCount) (w .firstFree) (w .dataStart - n) (w .freeSpace - n)) k (placed (v .at k) (w .dataStart - n) n) old
 
   home-ended : (i : ℕ) → v .at k ≡ Redirect i → Ends p k old (moveUnder v k (Ordinary 0 0) n (zeros n) .edits) (moveUnder v k (Ordinary 0 0) n (zeros n) .after)
   unfolding v old
@@ -112,11 +124,13 @@ module _ (p : List ℕ) (k n : ℕ) (whole : length p ≡ 16384) (s : Sound (vie
       let w : View = makeRoom v n .after in
       let f : zeros n ≡ fit n (v .bytes k) = fit-none n ∙ ap (fit n) (sym (no-bytes i e)) in
       subst (λ (bs : List ℕ). Ends p k bs (moveUnder v k (Ordinary 0 0) n (zeros n) .edits) (moveUnder v k (Ordinary 0 0) n (zeros n) .after)) f
-      (commit-ends p (makeRoom v n .edits) (withHead w (w .slotCount) (w .firstFree) (w .dataStart - n) (w .freeSpace - n)) k (Ordinary (w .dataStart - n) n) (zeros n))
+      (commit-ends p (makeRoom v n .edits) (withHead w (w .slotCount) (w .firstFree) (w .dataStart - n) (w .freeSpace - n)) k
+      (Ordinary (w .dataStart - n) n) (zeros n))
 
   -- ---- the cases of relocate
 
-  relocate-cases : (P : Relocated → Type 0) → P refused → (n ≡ len (v .at k) → P (moved (stay v))) → (n < len (v .at k) → P (moved (shrinkPlan v k n))) → (len (v .at k) < n → n - len (v .at k) ≤ v .freeSpace → P (moved (growPlan v k n)))
+  relocate-cases : (P : Relocated → Type 0) → P refused → (n ≡ len (v .at k) → P (moved (stay v)))
+      → (n < len (v .at k) → P (moved (shrinkPlan v k n))) → (len (v .at k) < n → n - len (v .at k) ≤ v .freeSpace → P (moved (growPlan v k n)))
       → ((i : ℕ) → v .at k ≡ Redirect i → n ≤ v .freeSpace → P (moved (moveUnder v k (Ordinary 0 0) n (zeros n)))) → P (relocate v k n)
   unfolding relocate
   relocate-cases P none same less more home = go (v .at k) refl
@@ -131,7 +145,8 @@ module _ (p : List ℕ) (k n : ℕ) (whole : length p ≡ 16384) (s : Sound (vie
       go : (x : Slot) → v .at k ≡ x → P (relocateBy x v k n)
       go (Ordinary o l) e = sized
       go Free e = none
-      go (Redirect i) e = by-test P (ltb (v .freeSpace) n) refused (moved (moveUnder v k (Ordinary 0 0) n (zeros n))) (λ r. none) (λ r. home i e (ltb-false (v .freeSpace) n r))
+      go (Redirect i) e = by-test P (ltb (v .freeSpace) n) refused (moved (moveUnder v k (Ordinary 0 0) n (zeros n))) (λ r. none)
+          (λ r. home i e (ltb-false (v .freeSpace) n r))
       go (Target o l) e = sized
 
   pub relocate-ended : Ended p (fit n (view p .bytes k)) (allocOf k (relocate (view p) k n))
@@ -141,7 +156,8 @@ module _ (p : List ℕ) (k n : ℕ) (whole : length p ≡ 16384) (s : Sound (vie
   -- "refused if growth exceeds free space"
   pub relocate-refused : len (view p .at k) < n → view p .freeSpace < n - len (view p .at k) → relocate (view p) k n ≡ refused
   unfolding v
-  relocate-refused h g = relocate-cases (λ r. r ≡ refused) refl (λ e. absurd (omega arith)) (λ l. absurd (omega arith)) (λ l r. absurd (omega arith)) (λ i e r. absurd (omega (arith, ap len e)))
+  relocate-refused h g = relocate-cases (λ r. r ≡ refused) refl (λ e. absurd (omega arith)) (λ l. absurd (omega arith)) (λ l r. absurd (omega arith))
+      (λ i e r. absurd (omega (arith, ap len e)))
 
   -- a size that is not larger: the record's bytes stand there
   stands-less : n < len (v .at k) → run (unfilled (shrinkPlan v k n .edits)) p ≡ run (shrinkPlan v k n .edits) p
@@ -152,7 +168,8 @@ module _ (p : List ℕ) (k n : ℕ) (whole : length p ≡ 16384) (s : Sound (vie
       let u : View = withHead v (v .slotCount) (v .firstFree) (v .dataStart) (v .freeSpace + (len (v .at k) - n)) in
       let q : List ℕ = run (unfilled (shrinkPlan v k n .edits)) p in
       let b = run-bare [] u k y (take n (v .bytes k)) p in
-      let l : length q ≡ 16384 = ap length b ∙ length-put (put p 0 (headOf (u .slotCount) (u .firstFree) (u .dataStart) (u .freeSpace))) (12 + 8 * k) (slotBytes y) ∙ length-put p 0 (headOf (u .slotCount) (u .firstFree) (u .dataStart) (u .freeSpace)) ∙ whole in
+      let l : length q ≡ 16384 = ap length b ∙ length-put (put p 0 (headOf (u .slotCount) (u .firstFree) (u .dataStart) (u .freeSpace))) (12 + 8 * k)
+      (slotBytes y) ∙ length-put p 0 (headOf (u .slotCount) (u .firstFree) (u .dataStart) (u .freeSpace)) ∙ whole in
       let e : cut q o n ≡ old =
       ap (λ (z : List ℕ). cut z o n) b ∙ cut-past p k (u .slotCount) (u .firstFree) (u .dataStart) (u .freeSpace) o n y (past n (omega arith))
       ∙ sym (take-take n (len (v .at k)) (drop o p) (omega arith)) ∙ ap (take n) (shown-bytes p k) ∙ sym (fit-cut n (v .bytes k) (omega (arith, s .lens k))) in
@@ -169,7 +186,8 @@ module _ (p : List ℕ) (k n : ℕ) (whole : length p ≡ 16384) (s : Sound (vie
 
   pub stands : n ≤ len (view p .at k) → pageBare (allocOf k (relocate (view p) k n)) p ≡ pageAfter (allocOf k (relocate (view p) k n)) p
   unfolding v
-  stands h = relocate-cases (λ r. pageBare (allocOf k r) p ≡ pageAfter (allocOf k r) p) refl (λ e. refl) stands-less (λ l r. absurd (omega arith)) (λ i e r. stands-home i e h)
+  stands h = relocate-cases (λ r. pageBare (allocOf k r) p ≡ pageAfter (allocOf k r) p) refl (λ e. refl) stands-less (λ l r. absurd (omega arith))
+      (λ i e r. stands-home i e h)
 
   -- a larger size that the gap holds: the old bytes stand where they stood
   stays-more : n ≤ gap v → len (v .at k) < n → cut (run (unfilled (growPlan v k n .edits)) p) (off (v .at k)) (len (v .at k)) ≡ v .bytes k
@@ -182,16 +200,19 @@ module _ (p : List ℕ) (k n : ℕ) (whole : length p ≡ 16384) (s : Sound (vie
       let t : ltb (gap v) n ≡ false = le-ltb (gap v) n g in
       let y : Slot = placed (v .at k) (w .dataStart - n) n in
       let q : List ℕ = put (put p 0 (headOf (v .slotCount) (v .firstFree) (v .dataStart) (v .freeSpace + l))) (12 + 8 * k) (slotBytes (Redirect 0)) in
-      let r : run es p ≡ q = rw t (commit-writes (withHead v (v .slotCount) (v .firstFree) (v .dataStart) (v .freeSpace + l)) k (Redirect 0) [] p ∙ put-nil q 0) in
+      let r : run es p ≡ q = rw t (commit-writes (withHead v (v .slotCount) (v .firstFree) (v .dataStart) (v .freeSpace + l)) k (Redirect 0) [] p
+      ∙ put-nil q 0) in
       ap (λ (z : List ℕ). cut z o l) (run-bare es (withHead w (w .slotCount) (w .firstFree) (w .dataStart - n) (w .freeSpace - n)) k y old p)
       ∙ cut-past (run es p) k (w .slotCount) (w .firstFree) (w .dataStart - n) (w .freeSpace - n) o l y (past l (omega arith))
       ∙ ap (λ (z : List ℕ). cut z o l) r
       ∙ cut-past p k (v .slotCount) (v .firstFree) (v .dataStart) (v .freeSpace + l) o l (Redirect 0) (past l (omega arith)) ∙ shown-bytes p k
 
-  pub stays : n ≤ gap (view p) → len (view p .at k) ≤ n → cut (pageBare (allocOf k (relocate (view p) k n)) p) (off (view p .at k)) (len (view p .at k)) ≡ view p .bytes k
+  pub stays : n ≤ gap (view p) → len (view p .at k) ≤ n
+      → cut (pageBare (allocOf k (relocate (view p) k n)) p) (off (view p .at k)) (len (view p .at k)) ≡ view p .bytes k
   unfolding v
   stays g h =
-      relocate-cases (λ r. cut (pageBare (allocOf k r) p) (off (v .at k)) (len (v .at k)) ≡ v .bytes k) (shown-bytes p k) (λ e. shown-bytes p k) (λ l. absurd (omega arith)) (λ l r. stays-more g l)
+      relocate-cases (λ r. cut (pageBare (allocOf k r) p) (off (v .at k)) (len (v .at k)) ≡ v .bytes k) (shown-bytes p k) (λ e. shown-bytes p k)
+      (λ l. absurd (omega arith)) (λ l r. stays-more g l)
       (λ i e r. ap (λ (x : Slot). cut (pageBare (got k (moveUnder v k (Ordinary 0 0) n (zeros n))) p) (off x) (len x)) e ∙ sym (no-bytes i e))
 
   -- ---- what the code leaves, once it has the place: slot j, offset d, and the page q₁ without the bytes
@@ -199,9 +220,12 @@ module _ (p : List ℕ) (k n : ℕ) (whole : length p ≡ 16384) (s : Sound (vie
   abbrev R : Relocated
   R = relocate (view p) k n
 
-  module _ (j d : ℕ) (q₁ q₂ : List ℕ) (e : At j d ≡ placeOf (allocOf k (relocate (view p) k n))) (e₁ : q₁ ≡ pageBare (allocOf k (relocate (view p) k n)) p) where
-    pub bytes-done : (bs : List ℕ) → length bs ≡ n → q₂ ≡ put q₁ d bs → (q₂ ≡ pageMoved (refilled (relocate (view p) k n) k bs) p) × (true ≡ wasMoved (relocate (view p) k n))
-    bytes-done bs l e₂ = refilled-done k p q₂ R j d bs e (fill-done j d (fit n (view p .bytes k)) p q₁ q₂ (allocOf k R) bs relocate-ended (l ∙ sym (length-fit n (view p .bytes k))) e e₁ e₂)
+  module _ (j d : ℕ) (q₁ q₂ : List ℕ) (e : At j d ≡ placeOf (allocOf k (relocate (view p) k n)))
+      (e₁ : q₁ ≡ pageBare (allocOf k (relocate (view p) k n)) p) where
+    pub bytes-done : (bs : List ℕ) → length bs ≡ n → q₂ ≡ put q₁ d bs
+        → (q₂ ≡ pageMoved (refilled (relocate (view p) k n) k bs) p) × (true ≡ wasMoved (relocate (view p) k n))
+    bytes-done bs l e₂ = refilled-done k p q₂ R j d bs e
+        (fill-done j d (fit n (view p .bytes k)) p q₁ q₂ (allocOf k R) bs relocate-ended (l ∙ sym (length-fit n (view p .bytes k))) e e₁ e₂)
 
     pub old-done : q₂ ≡ put q₁ d (fit n (view p .bytes k)) → (q₂ ≡ pageMoved (relocate (view p) k n) p) × (true ≡ wasMoved (relocate (view p) k n))
     old-done e₂ = moved-done k p q₂ R j d e (written-done j d (fit n (view p .bytes k)) p q₁ q₂ (allocOf k R) relocate-ended e e₁ e₂)
@@ -227,7 +251,8 @@ module _ (p : List ℕ) (k n : ℕ) (whole : length p ≡ 16384) (s : Sound (vie
   again-done = same-bytes R (fit n (view p .bytes k)) relocate-ended
 
   -- the old bytes, saved to the front of z
-  pub saved-old : (o l : ℕ) (z z' : List ℕ) → o ≡ off (view p .at k) → l ≡ len (view p .at k) → l ≤ length z → z' ≡ put z 0 (cut p o l) → take l z' ≡ view p .bytes k
+  pub saved-old : (o l : ℕ) (z z' : List ℕ) → o ≡ off (view p .at k) → l ≡ len (view p .at k) → l ≤ length z → z' ≡ put z 0 (cut p o l)
+      → take l z' ≡ view p .bytes k
   saved-old o l z z' eo el h e =
       let b : cut p o l ≡ view p .bytes k = rw (eo, el) (shown-bytes p k) in
       ap (take l) e ∙ cut-same z 0 (cut p o l) l (ap length b ∙ s .lens k ∙ sym el) (omega arith) ∙ b
@@ -239,7 +264,8 @@ pub record Kept (p : List ℕ) (k m : ℕ) (r : Relocated) (q : List ℕ) : Type
   pub high : off (view q .at k) + 8 ≤ 16384
   pub done : (x z : List ℕ) → length x ≡ 8 → z ≡ put q (off (view q .at k)) x → z ≡ pageMoved (refilled r k (x ++ fit m (drop 8 (view p .bytes k)))) p
 
-kept-by : (p : List ℕ) (k m : ℕ) (r : Relocated) (q : List ℕ) → length p ≡ 16384 → Ended p (fit (8 + m) (view p .bytes k)) (allocOf k r) → Answered p (view p) k (8 + m) r
+kept-by : (p : List ℕ) (k m : ℕ) (r : Relocated) (q : List ℕ) → length p ≡ 16384 → Ended p (fit (8 + m) (view p .bytes k)) (allocOf k r)
+    → Answered p (view p) k (8 + m) r
     → true ≡ wasMoved r → q ≡ pageMoved r p → Kept p k m r q
 kept-by p k m refused q whole f a e e₁ = let z : _≡_ {A = ℕ} 0 1 = cc in absurd (omega arith)
 kept-by p k m (moved a) q whole f h e e₁ =
@@ -263,5 +289,6 @@ pub target-kept : (p : List ℕ) (k m : ℕ) (q : List ℕ) → length p ≡ 163
 target-kept p k m q whole s inside e₁ e =
     let c : m + 8 ≡ 8 + m = omega arith in
     rw c
-    (kept-by p k m (relocate (view p) k (8 + m)) q whole (relocate-ended p k (8 + m) whole s inside) (relocate-answer p (view p) whole refl s k inside (8 + m) (λ t. omega arith))
+    (kept-by p k m (relocate (view p) k (8 + m)) q whole (relocate-ended p k (8 + m) whole s inside)
+    (relocate-answer p (view p) whole refl s k inside (8 + m) (λ t. omega arith))
     (rw c at e) (rw c at e₁))

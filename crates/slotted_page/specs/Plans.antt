@@ -1,4 +1,4 @@
--- The words of these contracts against the segment's plans (`storePlan` of the store's Segment). Assumes nothing.
+-- The words of these contracts against the segment's plans (`storePlan` of the store's Segment).
 use mathlib.Core.Path.{_≡_, refl}
 use mathlib.Core.List.{List, _++_, append-nil}
 use Prim.Native.Nat.{ℕ, _-_}

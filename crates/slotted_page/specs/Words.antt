@@ -1,4 +1,4 @@
--- Words for the contracts of the page's steps: what a step leaves and answers. Assumes nothing.
+-- Words for the contracts of the page's steps: what a step leaves and answers.
 use mathlib.Core.List.{List, [], _∷_}
 use mathlib.Core.Bool.{Bool, true, false}
 use Prim.Native.Nat.{ℕ}

@@ -18,7 +18,8 @@ pub fn write_target(
     size: usize,
 )
     requires { ⌜ (length (now page) ≡ 16384) × (20 + 8 * slot ≤ offset) × (offset + (size + 8) ≤ 16384) ⌝ }
-    ensures { λ _. ⌜ now (page .exit) ≡ put (put (now (page .entry)) (12 + 8 * slot) (slotBytes (Slot.Target offset (size + 8)))) offset (toBE 8 id ++ fit size (now (bytes .entry))) ⌝ }
+    ensures { λ _. ⌜ now (page .exit) ≡ put (put (now (page .entry)) (12 + 8 * slot) (slotBytes (Slot.Target offset (size + 8)))) offset
+        (toBE 8 id ++ fit size (now (bytes .entry))) ⌝ }
 {
     layout::slots::write_slot(
         page,

@@ -1,4 +1,4 @@
--- Demand 3: when two segments are alike, and when the same calls have left them so. Assumes nothing.
+-- Demand 3: when two segments are alike, and when the same calls have left them so.
 use Prim.Native.Nat.{ℕ, _+_, _*_, _/_, _<_}
 use mathlib.Core.Path.{_≡_}
 use mathlib.Core.List.{List, [], _∷_}

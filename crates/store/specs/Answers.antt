@@ -1,6 +1,6 @@
 -- Document 01, "Answers by number": each answer that is an enum of the code, with the paper's number and values. The promises use
 -- these. What a page and the inventory answer, `Place` and `Named`, gets its number where a call meets it: `Segment.taken` says 8 of no
--- room, `Segment.findOn` 7 of a full inventory. Assumes nothing.
+-- room, `Segment.findOn` 7 of a full inventory.
 use Prim.Native.Nat.{ℕ}
 use mathlib.Core.Bool.{true, false}
 use mathlib.Core.List.{List, []}

@@ -1,4 +1,4 @@
--- The calls that write, each with its data, and any sequence of them. Assumes nothing.
+-- The calls that write, each with its data, and any sequence of them.
 use Prim.Native.Nat.{ℕ}
 use mathlib.Core.List.{List, [], _∷_}
 use Rattle.store.specs.Segment.{Result, insertStep, allocateStep, writeStep, resizeStep, eraseStep}

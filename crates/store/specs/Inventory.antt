@@ -1,4 +1,4 @@
--- Document 01, "Inventory": a class for each page, for each class the lowest page that suits, and what an update does. Assumes nothing.
+-- Document 01, "Inventory": a class for each page, for each class the lowest page that suits, and what an update does.
 --
 -- Nothing here names a number of bytes or of pages: an inventory of any length that has `Room` will do.
 use Prim.Native.Nat.{ℕ, zero, suc, _+_, _-_, _*_, _/_, _%_, _≤_, _<_}

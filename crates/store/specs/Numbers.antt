@@ -1,4 +1,4 @@
--- Document 01, module 1: numbers of src/storage/page.rs and src/types.rs. Assumes nothing.
+-- Document 01, module 1: numbers of src/storage/page.rs and src/types.rs.
 --
 -- A page, a segment and an inventory are lists of bytes. Everything that is read is `cut` out of such a list, and everything that
 -- is written is `put` into one.

@@ -1,4 +1,4 @@
--- Document 01, "Page and slot layout": what a page says, and when it is sound. Assumes nothing.
+-- Document 01, "Page and slot layout": what a page says, and when it is sound.
 --
 -- `view p` is what can be seen of a page: its header's four numbers, the entry of each slot and the bytes of each record.
 use Prim.Native.Nat.{ℕ, _+_, _*_}

@@ -1,4 +1,4 @@
--- Document 01, "Page steps": what each step on one page answers, writes and leaves. Assumes nothing.
+-- Document 01, "Page steps": what each step on one page answers, writes and leaves.
 --
 -- A step is planned from the view alone, and says what it writes as a list of edits; `run` writes them. So a step's answer is a
 -- function of the view, and no other byte of the page can reach it.

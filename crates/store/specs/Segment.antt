@@ -1,4 +1,4 @@
--- Document 01, "Segment steps" and "Answers by number": the six calls on a segment of n whole pages and an inventory. Assumes nothing.
+-- Document 01, "Segment steps" and "Answers by number": the six calls on a segment of n whole pages and an inventory.
 --
 -- A call is planned from what is seen of the pages (`SegView`) and from the inventory. The plan has the answer's number and id, the
 -- steps on pages, and the inventory afterwards. `carried` writes the steps' edits. A refusal has no step and the inventory as it was.
@@ -11,7 +11,8 @@ use Rattle.store.specs.Numbers.{cut, put, be, toBE, zeros, fit, idOf, pa
 use Rattle.store.specs.Slots.{off, len, isTarget}
 use Rattle.store.specs.Page.{View, view, sound}
 use Rattle.store.specs.Inventory.{update, foundIn}
-use Rattle.store.specs.PageSteps.{opened, move, run, Plan, plan, andThen, withSlot, Alloc, noRoom, got, allocate, erase, eraseForRedirect, Relocated, refused, moved, relocate, filled}
+use Rattle.store.specs.PageSteps.{opened, move, run, Plan, plan, andThen, withSlot, Alloc, noRoom, got, allocate, erase, eraseForRedirect}
+use Rattle.store.specs.PageSteps.{Relocated, refused, moved, relocate, filled}
 use Rattle.store.specs.declared.Named.{Named}
 use Rattle.store.specs.declared.Named.the-variants.{At, Full}
 use Rattle.store.specs.declared.Slot.{Slot}

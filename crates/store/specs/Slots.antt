@@ -1,4 +1,4 @@
--- Document 01, module 2 and "Page and slot layout": the slot codec. Assumes nothing.
+-- Document 01, module 2 and "Page and slot layout": the slot codec.
 --
 -- "The top two bits of a slot tell its kind: 00 ordinary, 01 free, 10 redirect, 11 redirect target. Ordinary and target: offset in
 -- 30 bits, length in the last 32. Redirect: the id in the low 62 bits. Free is written as 40 and seven zero bytes; its low bits are

@@ -1,4 +1,4 @@
--- Document 01, "Page and slot layout": the sound segment. Assumes nothing.
+-- Document 01, "Page and slot layout": the sound segment.
 use Prim.Native.Nat.{ℕ, _-_, _/_, _<_}
 use mathlib.Core.Path.{_≡_}
 use mathlib.Core.Bool.{true, cond}

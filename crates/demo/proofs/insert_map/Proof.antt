@@ -1,4 +1,4 @@
--- `demo::insert_map` is safe and ends: the lent slices keep their lengths. Assumes nothing.
+-- `demo::insert_map` is safe and ends: the lent slices keep their lengths.
 use mathlib.Core.Path.{_≡_}
 use Prim.Native.Nat.{_-_, _≤_}
 use borrow.Author.Needs.{needs}

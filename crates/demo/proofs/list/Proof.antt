@@ -1,4 +1,4 @@
--- `demo::list` is safe and ends: the number of turns falls. Assumes nothing.
+-- `demo::list` is safe and ends: the number of turns falls.
 use borrow.Author.Needs.{needs}
 use Rattle.demo.proofs.list.Statement.{statement}
 use Rattle.demo.proofs.list.Tie as tie

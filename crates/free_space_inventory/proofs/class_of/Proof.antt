@@ -1,4 +1,4 @@
--- `free_space_inventory::class_of` meets its contract. Assumes nothing.
+-- `free_space_inventory::class_of` meets its contract.
 use native.Mathlib.Omega.{arith}
 use Rattle.store.specs.Laws.Classes.{arm}
 use Rattle.free_space_inventory.proofs.class_of.Statement.{statement}

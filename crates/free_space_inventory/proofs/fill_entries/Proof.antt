@@ -1,4 +1,4 @@
--- `free_space_inventory::fill_entries` meets its contract. Assumes nothing.
+-- `free_space_inventory::fill_entries` meets its contract.
 use Prim.Native.Nat.{_-_, _≤_}
 use mathlib.Core.Path.{_≡_, refl, _∙_, sym, ap}
 use native.Mathlib.Omega.{arith}
@@ -10,7 +10,8 @@ use Rattle.free_space_inventory.proofs.fill_entries.Statement.{statemen
 use Rattle.free_space_inventory.proofs.fill_entries.Tie as tie
 
 abbrev Inv-loop : tie.InvT-loop
-Inv-loop inventory₀ old end v u₀ inventory u = (u ≤ 15) × (length inventory ≡ length inventory₀) × (setFrom (λ _. v) old (u - old) inventory ≡ setFrom (λ _. v) old (end - old) inventory₀)
+Inv-loop inventory₀ old end v u₀ inventory u = (u ≤ 15) × (length inventory ≡ length inventory₀)
+    × (setFrom (λ _. v) old (u - old) inventory ≡ setFrom (λ _. v) old (end - old) inventory₀)
 
 abbrev μ-loop : tie.MeasureT-loop
 μ-loop inventory₀ old end v u₀ inventory u = u

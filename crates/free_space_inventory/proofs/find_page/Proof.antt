@@ -1,4 +1,4 @@
--- `free_space_inventory::find_page` meets its contract. Assumes nothing.
+-- `free_space_inventory::find_page` meets its contract.
 use Prim.Native.Nat.{_-_}
 use native.Mathlib.Omega.{arith}
 use borrow.Author.Tests.{lt-ltb, le-ltb}

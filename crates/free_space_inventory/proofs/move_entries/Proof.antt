@@ -1,9 +1,10 @@
--- `free_space_inventory::move_entries` meets its contract. Assumes nothing.
+-- `free_space_inventory::move_entries` meets its contract.
 use mathlib.Core.Path.{_∙_}
 use mathlib.Core.Logic.{⊎-elim, inl, inr}
 use Prim.Native.Nat.{_-_, _<_}
 use native.Mathlib.Omega.{arith}
-use Rattle.free_space_inventory.proofs.Search.{Placed, placed-none, placed-more, Searched, searched-none, searched-here, searched-next, Left, left-none, left-over}
+use Rattle.free_space_inventory.proofs.Search.{Placed, placed-none, placed-more, Searched, searched-none, searched-here, searched-next, Left}
+use Rattle.free_space_inventory.proofs.Search.{left-none, left-over}
 use Rattle.free_space_inventory.proofs.move_entries.Statement.{statement}
 use Rattle.free_space_inventory.proofs.move_entries.Tie as tie
 

@@ -1,4 +1,4 @@
--- `free_space_inventory::pull_entries` meets its contract. Assumes nothing.
+-- `free_space_inventory::pull_entries` meets its contract.
 use Prim.Native.Nat.{_-_}
 use mathlib.Core.Path.{_≡_, refl, _∙_, sym, ap}
 use native.Mathlib.Omega.{arith}
@@ -10,7 +10,8 @@ use Rattle.free_space_inventory.proofs.pull_entries.Statement.{statemen
 use Rattle.free_space_inventory.proofs.pull_entries.Tie as tie
 
 abbrev Inv-loop : tie.InvT-loop
-Inv-loop inventory₀ page new c₀ inventory c = (length inventory ≡ length inventory₀) × (pulledBack page c (15 - c) inventory ≡ pulledBack page new (15 - new) inventory₀)
+Inv-loop inventory₀ page new c₀ inventory c = (length inventory ≡ length inventory₀)
+    × (pulledBack page c (15 - c) inventory ≡ pulledBack page new (15 - new) inventory₀)
 
 abbrev μ-loop : tie.MeasureT-loop
 μ-loop inventory₀ page new c₀ inventory c = 15 - c

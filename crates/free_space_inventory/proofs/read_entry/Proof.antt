@@ -1,4 +1,4 @@
--- `free_space_inventory::read_entry` meets its contract. Assumes nothing.
+-- `free_space_inventory::read_entry` meets its contract.
 use Rattle.store.specs.Inventory.{entryAt}
 use borrow.Author.Needs.{needs}
 use Rattle.free_space_inventory.proofs.read_entry.Statement.{statement}

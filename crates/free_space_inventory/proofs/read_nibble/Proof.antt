@@ -1,4 +1,4 @@
--- `free_space_inventory::read_nibble` meets its contract. Assumes nothing.
+-- `free_space_inventory::read_nibble` meets its contract.
 use native.Mathlib.Omega.{arith}
 use borrow.Author.Tests.{eq-eqb, ne-eqb}
 use Rattle.store.specs.Inventory.{nibbleAt}

@@ -1,4 +1,4 @@
--- `free_space_inventory::run_end` meets its contract. Assumes nothing.
+-- `free_space_inventory::run_end` meets its contract.
 use Prim.Native.Nat.{_-_, _≤_}
 use mathlib.Core.Path.{_≡_, refl, _∙_, sym}
 use native.Mathlib.Omega.{arith}

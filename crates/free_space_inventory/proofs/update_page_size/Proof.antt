@@ -1,4 +1,4 @@
--- `free_space_inventory::update_page_size` meets its contract. Assumes nothing.
+-- `free_space_inventory::update_page_size` meets its contract.
 use mathlib.Core.Path.{_∙_, ap}
 use native.Mathlib.Omega.{arith}
 use Rattle.store.specs.Inventory.{updated, update}

@@ -1,4 +1,4 @@
--- `free_space_inventory::write_entry` meets its contract. Assumes nothing.
+-- `free_space_inventory::write_entry` meets its contract.
 use Rattle.store.specs.Inventory.{setEntry}
 use borrow.Author.Needs.{needs}
 use Rattle.free_space_inventory.proofs.write_entry.Statement.{statement}

@@ -1,4 +1,4 @@
--- `free_space_inventory::write_nibble` meets its contract. Assumes nothing.
+-- `free_space_inventory::write_nibble` meets its contract.
 use borrow.Author.Tests.{eq-eqb, ne-eqb}
 use Rattle.store.specs.Inventory.{setNibble}
 use borrow.Author.Needs.{needs}

@@ -1,4 +1,4 @@
--- `hekatosuy::hand_id` meets its contract: by whether the number is 0. Assumes nothing.
+-- `hekatosuy::hand_id` meets its contract: by whether the number is 0.
 use mathlib.Core.Path.{_≡_, sym, _∙_}
 use mathlib.Core.Bool.{false}
 use borrow.Author.Needs.{needs}

@@ -1,4 +1,4 @@
--- `hekatosuy::hand_step` meets its contract, case by case. Assumes nothing.
+-- `hekatosuy::hand_step` meets its contract, case by case.
 use mathlib.Core.Path.{_≡_, subst}
 use mathlib.Core.List.{List, []}
 use Prim.Native.Nat.{ℕ}

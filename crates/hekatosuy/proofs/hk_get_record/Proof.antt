@@ -1,4 +1,4 @@
--- `hekatosuy::hk_get_record` meets its contract. Assumes nothing.
+-- `hekatosuy::hk_get_record` meets its contract.
 use borrow.Author.Needs.{needs}
 use Rattle.hekatosuy.proofs.hk_get_record.Statement.{statement}
 use Rattle.hekatosuy.proofs.hk_get_record.Tie as tie

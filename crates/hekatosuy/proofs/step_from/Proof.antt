@@ -1,4 +1,4 @@
--- `hekatosuy::step_from` meets its contract. Assumes nothing.
+-- `hekatosuy::step_from` meets its contract.
 use mathlib.Core.Path.{sym, subst, ap, _∙_}
 use Prim.Native.Nat.{_<_, _^_}
 use native.Mathlib.Omega.{arith}

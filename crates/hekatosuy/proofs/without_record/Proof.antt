@@ -1,4 +1,4 @@
--- `hekatosuy::without_record` meets its contract. Assumes nothing.
+-- `hekatosuy::without_record` meets its contract.
 use borrow.Author.Needs.{needs}
 use Rattle.hekatosuy.proofs.without_record.Statement.{statement}
 use Rattle.hekatosuy.proofs.without_record.Tie as tie

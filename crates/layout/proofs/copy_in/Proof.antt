@@ -1,4 +1,4 @@
--- `layout::copy_in` meets its contract: the part that is lent to `bytes::copy` comes back as src. Assumes nothing.
+-- `layout::copy_in` meets its contract: the part that is lent to `bytes::copy` comes back as src.
 use mathlib.Core.Path.{_≡_, sym, ap, _∙_}
 use mathlib.Core.List.{List, _++_, append-nil}
 use Prim.Native.Nat.{ℕ, _+_, _-_}
@@ -11,9 +11,6 @@ use Rattle.store.specs.Numbers.{cut}
 use Rattle.store.specs.Laws.Numbers.{lent}
 use Rattle.layout.proofs.copy_in.Statement.{statement}
 use Rattle.layout.proofs.copy_in.Tie as tie
-use Rattle.layout.proofs.copy_in.Reads as reads
-use Rattle.layout.proofs.copy_in.Lts as lts
-use Rattle.bytes.proofs.copy.Reads as copy-reads
 
 -- a run of src's length, all of it written over
 over : (s d : List ℕ) → length d ≡ length s → take (length s) s ++ drop (length s) d ≡ s

@@ -1,4 +1,4 @@
--- `layout::fit_in` meets its contract. Assumes nothing.
+-- `layout::fit_in` meets its contract.
 use mathlib.Core.Path.{sym, _∙_}
 use Prim.Native.Nat.{_-_}
 use native.Mathlib.Omega.{arith}
@@ -8,10 +8,6 @@ use Rattle.layout.proofs.Writes.{write-append, fit-cut, fit-filled}
 use borrow.Author.Needs.{needs}
 use Rattle.layout.proofs.fit_in.Statement.{statement}
 use Rattle.layout.proofs.fit_in.Tie as tie
-use Rattle.layout.proofs.fit_in.Reads as reads
-use Rattle.layout.proofs.fit_in.Lts as lts
-use Rattle.layout.proofs.copy_in.Reads as copy-in-reads
-use Rattle.layout.proofs.zero_fill.Reads as zero-fill-reads
 
 slice-aggregate-copy-in : tie.Need-slice-aggregate-copy-in
 slice-aggregate-copy-in c = rw length-take (omega arith)

@@ -1,12 +1,9 @@
--- `layout::get_u16` meets its contract. Assumes nothing.
+-- `layout::get_u16` meets its contract.
 use native.Mathlib.Omega.{arith}
 use Rattle.layout.proofs.Numbers.{num2}
 use borrow.Author.Needs.{needs}
 use Rattle.layout.proofs.get_u16.Statement.{statement}
 use Rattle.layout.proofs.get_u16.Tie as tie
-use Rattle.layout.proofs.get_u16.Reads as reads
-use Rattle.layout.proofs.get_u16.Lts as lts
-use Rattle.layout.proofs.wide.Reads as wide-reads
 
 shared-slice-read-wide : tie.Need-shared-slice-read-wide
 shared-slice-read-wide c = search needs

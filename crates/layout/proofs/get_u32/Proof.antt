@@ -1,12 +1,9 @@
--- `layout::get_u32` meets its contract. Assumes nothing.
+-- `layout::get_u32` meets its contract.
 use native.Mathlib.Omega.{arith}
 use Rattle.layout.proofs.Numbers.{num4}
 use borrow.Author.Needs.{needs}
 use Rattle.layout.proofs.get_u32.Statement.{statement}
 use Rattle.layout.proofs.get_u32.Tie as tie
-use Rattle.layout.proofs.get_u32.Reads as reads
-use Rattle.layout.proofs.get_u32.Lts as lts
-use Rattle.layout.proofs.wide.Reads as wide-reads
 
 shared-slice-read-wide : tie.Need-shared-slice-read-wide
 shared-slice-read-wide c = search needs

@@ -1,12 +1,9 @@
--- `layout::get_u64` meets its contract. Assumes nothing.
+-- `layout::get_u64` meets its contract.
 use native.Mathlib.Omega.{arith}
 use Rattle.layout.proofs.Numbers.{joined8}
 use borrow.Author.Needs.{needs}
 use Rattle.layout.proofs.get_u64.Statement.{statement}
 use Rattle.layout.proofs.get_u64.Tie as tie
-use Rattle.layout.proofs.get_u64.Reads as reads
-use Rattle.layout.proofs.get_u64.Lts as lts
-use Rattle.layout.proofs.wide.Reads as wide-reads
 
 shared-slice-read-wide : tie.Need-shared-slice-read-wide
 shared-slice-read-wide c = search needs
@@ -88,8 +85,12 @@ returns c =
     let w7 = c .before .before in
     let w8 = c in
     let s = c .before .before .before .before .before .before .before .before .before .before .before .before .before .before .before .before .before .args in
-    joined8 (s .at) (s .page .now) (w1 .wide .result) (w2 .wide2 .result) (w3 .wide3 .result) (w4 .wide4 .result) (w5 .wide5 .result) (w6 .wide6 .result) (w7 .wide7 .result) (w8 .wide8 .result) (omega arith)
-    (record { is = w1 .wide .ensures .0; small = w1 .wide .ensures .1 }) (record { is = w2 .wide2 .ensures .0; small = w2 .wide2 .ensures .1 }) (record { is = w3 .wide3 .ensures .0; small = w3 .wide3 .ensures .1 }) (record { is = w4 .wide4 .ensures .0; small = w4 .wide4 .ensures .1 }) (record { is = w5 .wide5 .ensures .0; small = w5 .wide5 .ensures .1 }) (record { is = w6 .wide6 .ensures .0; small = w6 .wide6 .ensures .1 }) (record { is = w7 .wide7 .ensures .0; small = w7 .wide7 .ensures .1 }) (record { is = w8 .wide8 .ensures .0; small = w8 .wide8 .ensures .1 })
+    joined8 (s .at) (s .page .now) (w1 .wide .result) (w2 .wide2 .result) (w3 .wide3 .result) (w4 .wide4 .result) (w5 .wide5 .result)
+    (w6 .wide6 .result) (w7 .wide7 .result) (w8 .wide8 .result) (omega arith)
+    (record { is = w1 .wide .ensures .0; small = w1 .wide .ensures .1 }) (record { is = w2 .wide2 .ensures .0; small = w2 .wide2 .ensures .1 })
+    (record { is = w3 .wide3 .ensures .0; small = w3 .wide3 .ensures .1 }) (record { is = w4 .wide4 .ensures .0; small = w4 .wide4 .ensures .1 })
+    (record { is = w5 .wide5 .ensures .0; small = w5 .wide5 .ensures .1 }) (record { is = w6 .wide6 .ensures .0; small = w6 .wide6 .ensures .1 })
+    (record { is = w7 .wide7 .ensures .0; small = w7 .wide7 .ensures .1 }) (record { is = w8 .wide8 .ensures .0; small = w8 .wide8 .ensures .1 })
 
 pub get-u64-spec : {M : Type 1} → statement M
 get-u64-spec =

@@ -1,4 +1,4 @@
--- `layout::move_down` meets its contract: after j turns the first j bytes of the run are in place. Assumes nothing.
+-- `layout::move_down` meets its contract: after j turns the first j bytes of the run are in place.
 use mathlib.Core.Path.{_≡_, refl, sym}
 use Prim.Native.Nat.{_≤_, _-_}
 use native.Mathlib.Omega.{arith}
@@ -7,8 +7,6 @@ use lib.Seq.{take-all}
 use Rattle.layout.proofs.Writes.{write, part, write-none, move-down-more, length-part}
 use Rattle.layout.proofs.move_down.Statement.{statement}
 use Rattle.layout.proofs.move_down.Tie as tie
-use Rattle.layout.proofs.move_down.Reads as reads
-use Rattle.layout.proofs.move_down.Lts as lts
 
 abbrev Inv-loop : tie.InvT-loop
 Inv-loop page₀ from n to j₀ page j = (page ≡ write to (take j (part from n page₀)) page₀) × (j ≤ n) × (length page ≡ length page₀)
@@ -40,7 +38,8 @@ loop-less c = omega arith
 loop-again : tie.Need-loop-again Inv-loop μ-loop
 loop-again c =
     let s = c .before .before .before .args in (
-      rw (c .before .before .loop .inv .0) (move-down-more (s .from) (s .n) (s .to) (c .before .before .loop .j) (s .page .now) (omega arith) (omega arith) (omega arith)),
+      rw (c .before .before .loop .inv .0)
+          (move-down-more (s .from) (s .n) (s .to) (c .before .before .loop .j) (s .page .now) (omega arith) (omega arith) (omega arith)),
       omega arith,
       rw length-set (c .before .before .loop .inv .2),
     )

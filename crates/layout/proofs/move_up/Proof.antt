@@ -1,4 +1,4 @@
--- `layout::move_up` meets its contract: what is in place is the run from its byte j on. Assumes nothing.
+-- `layout::move_up` meets its contract: what is in place is the run from its byte j on.
 use mathlib.Core.Path.{_≡_, refl, sym}
 use Prim.Native.Nat.{_+_, _≤_}
 use native.Mathlib.Omega.{arith}
@@ -7,8 +7,6 @@ use lib.ListN.{length, drop, length-set, drop-of-length-le}
 use Rattle.layout.proofs.Writes.{write, part, write-none, move-up-more, length-part}
 use Rattle.layout.proofs.move_up.Statement.{statement}
 use Rattle.layout.proofs.move_up.Tie as tie
-use Rattle.layout.proofs.move_up.Reads as reads
-use Rattle.layout.proofs.move_up.Lts as lts
 
 abbrev Inv-loop : tie.InvT-loop
 Inv-loop page₀ from n to j₀ page j = (page ≡ write (to + j) (drop j (part from n page₀)) page₀) × (j ≤ n) × (length page ≡ length page₀)
@@ -43,7 +41,8 @@ loop-less c = omega arith
 loop-again : tie.Need-loop-again Inv-loop μ-loop
 loop-again c =
     let s = c .before .before .before .args in (
-      rw (c .before .before .loop .inv .0) (move-up-more (s .from) (s .n) (s .to) (c .before .before .loop .j) (s .page .now) (omega arith) (omega arith) (omega arith) (omega arith)),
+      rw (c .before .before .loop .inv .0)
+          (move-up-more (s .from) (s .n) (s .to) (c .before .before .loop .j) (s .page .now) (omega arith) (omega arith) (omega arith) (omega arith)),
       omega arith,
       rw length-set (c .before .before .loop .inv .2),
     )

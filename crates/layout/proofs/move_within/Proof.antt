@@ -1,4 +1,4 @@
--- `layout::move_within` meets its contract. Assumes nothing.
+-- `layout::move_within` meets its contract.
 use mathlib.Core.Path.{_≡_, sym, ap, _∙_}
 use mathlib.Core.List.{List}
 use Prim.Native.Nat.{ℕ}
@@ -7,10 +7,6 @@ use Rattle.store.specs.Laws.Numbers.{put-own}
 use borrow.Author.Needs.{needs}
 use Rattle.layout.proofs.move_within.Statement.{statement}
 use Rattle.layout.proofs.move_within.Tie as tie
-use Rattle.layout.proofs.move_within.Reads as reads
-use Rattle.layout.proofs.move_within.Lts as lts
-use Rattle.layout.proofs.move_down.Reads as move-down-reads
-use Rattle.layout.proofs.move_up.Reads as move-up-reads
 
 returns : tie.Need-returns
 returns c =

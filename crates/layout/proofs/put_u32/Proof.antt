@@ -1,12 +1,10 @@
--- `layout::put_u32` meets its contract. Assumes nothing.
+-- `layout::put_u32` meets its contract.
 use native.Mathlib.Omega.{arith}
 use lib.ListN.{length-set}
 use Rattle.layout.proofs.Numbers.{put4}
 use borrow.Author.Needs.{needs}
 use Rattle.layout.proofs.put_u32.Statement.{statement}
 use Rattle.layout.proofs.put_u32.Tie as tie
-use Rattle.layout.proofs.put_u32.Reads as reads
-use Rattle.layout.proofs.put_u32.Lts as lts
 
 cast-page : tie.Need-cast-page
 cast-page c = search needs

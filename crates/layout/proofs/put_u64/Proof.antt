@@ -1,11 +1,8 @@
--- `layout::put_u64` meets its contract. Assumes nothing.
+-- `layout::put_u64` meets its contract.
 use Rattle.layout.proofs.Numbers.{put8}
 use borrow.Author.Needs.{needs}
 use Rattle.layout.proofs.put_u64.Statement.{statement}
 use Rattle.layout.proofs.put_u64.Tie as tie
-use Rattle.layout.proofs.put_u64.Reads as reads
-use Rattle.layout.proofs.put_u64.Lts as lts
-use Rattle.layout.proofs.put_u32.Reads as put-u32-reads
 
 put-u32-requires : tie.Need-put-u32-requires
 put-u32-requires c κs = search needs

@@ -1,13 +1,10 @@
--- `layout::save` meets its contract. Assumes nothing.
+-- `layout::save` meets its contract.
 use mathlib.Core.Path.{_≡_}
 use Prim.Native.Nat.{_+_, _-_}
 use native.Mathlib.Omega.{arith}
 use borrow.Author.Needs.{needs}
 use Rattle.layout.proofs.save.Statement.{statement}
 use Rattle.layout.proofs.save.Tie as tie
-use Rattle.layout.proofs.save.Reads as reads
-use Rattle.layout.proofs.save.Lts as lts
-use Rattle.layout.proofs.copy_in.Reads as copy-in-reads
 
 add-e : tie.Need-add-e
 add-e c = search needs

@@ -1,4 +1,4 @@
--- `layout::zero_fill` meets its contract: after j turns j bytes are zero. Assumes nothing.
+-- `layout::zero_fill` meets its contract: after j turns j bytes are zero.
 use mathlib.Core.Path.{_≡_, refl, sym}
 use Prim.Native.Nat.{_≤_, _-_}
 use native.Mathlib.Omega.{arith}
@@ -6,8 +6,6 @@ use lib.ListN.{length, length-set}
 use Rattle.layout.proofs.Writes.{cleared, write-none, cleared-more}
 use Rattle.layout.proofs.zero_fill.Statement.{statement}
 use Rattle.layout.proofs.zero_fill.Tie as tie
-use Rattle.layout.proofs.zero_fill.Reads as reads
-use Rattle.layout.proofs.zero_fill.Lts as lts
 
 abbrev Inv-loop : tie.InvT-loop
 Inv-loop page₀ at n j₀ page j = (page ≡ cleared at j page₀) × (j ≤ n) × (length page ≡ length page₀)
@@ -31,7 +29,11 @@ loop-less : tie.Need-loop-less Inv-loop μ-loop
 loop-less c = omega arith
 
 loop-again : tie.Need-loop-again Inv-loop μ-loop
-loop-again c = (rw (c .before .loop .inv .0) (cleared-more (c .before .before .args .at) (c .before .loop .j) (c .before .before .args .page .now)), omega arith, rw length-set (c .before .loop .inv .2))
+loop-again c = (
+  rw (c .before .loop .inv .0) (cleared-more (c .before .before .args .at) (c .before .loop .j) (c .before .before .args .page .now)),
+  omega arith,
+  rw length-set (c .before .loop .inv .2),
+)
 
 same-length : tie.Need-same-length Inv-loop μ-loop
 same-length c = omega arith

@@ -1,4 +1,4 @@
--- `listing::list` is safe and ends: the number of turns falls. Nothing has to hold from turn to turn. Assumes nothing.
+-- `listing::list` is safe and ends: the number of turns falls. Nothing has to hold from turn to turn.
 use borrow.Author.Needs.{needs}
 use Rattle.listing.proofs.list.Statement.{statement}
 use Rattle.listing.proofs.list.Tie as tie

@@ -1,4 +1,4 @@
--- `page_check::header_fits` meets its contract. Assumes nothing.
+-- `page_check::header_fits` meets its contract.
 use mathlib.Core.Path.{sym, ap, _∙_}
 use native.Mathlib.Omega.{arith}
 use Rattle.store.specs.Slots.{isFree}
@@ -8,10 +8,6 @@ use Rattle.store.specs.Laws.SoundPage.{past-free}
 use borrow.Author.Needs.{needs}
 use Rattle.page_check.proofs.header_fits.Statement.{statement}
 use Rattle.page_check.proofs.header_fits.Tie as tie
-use Rattle.page_check.proofs.header_fits.Reads as reads
-use Rattle.page_check.proofs.header_fits.Lts as lts
-use Rattle.layout.proofs.slots.get_slot.Reads as get-slot-reads
-use Rattle.layout.proofs.slots.is_free.Reads as is-free-reads
 
 returns : tie.Need-returns
 returns c = tells-no (λ h. omega (arith, h .few))

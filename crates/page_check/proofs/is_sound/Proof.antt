@@ -1,4 +1,4 @@
--- `page_check::is_sound` meets its contract. Assumes nothing.
+-- `page_check::is_sound` meets its contract.
 use native.Mathlib.Omega.{arith}
 use denote.Ref.{now}
 use borrow.Author.Tests.{not-true, not-false}
@@ -7,14 +7,6 @@ use Rattle.page_check.proofs.FitLaws.{sound-header, sound-records, unso
 use borrow.Author.Needs.{needs}
 use Rattle.page_check.proofs.is_sound.Statement.{statement}
 use Rattle.page_check.proofs.is_sound.Tie as tie
-use Rattle.page_check.proofs.is_sound.Reads as reads
-use Rattle.page_check.proofs.is_sound.Lts as lts
-use Rattle.layout.proofs.header.get_data_start.Reads as get-data-start-reads
-use Rattle.layout.proofs.header.get_first_free_slot.Reads as get-first-free-slot-reads
-use Rattle.layout.proofs.header.get_free_space.Reads as get-free-space-reads
-use Rattle.layout.proofs.header.get_slot_count.Reads as get-slot-count-reads
-use Rattle.page_check.proofs.header_fits.Reads as header-fits-reads
-use Rattle.page_check.proofs.records_fit.Reads as records-fit-reads
 
 get-slot-count-requires : tie.Need-get-slot-count-requires
 get-slot-count-requires c κs = search needs
@@ -38,7 +30,8 @@ returns-2 c =
     let ef = c .before .before .before .get-first-free-slot .ensures .0 in
     let ed = c .before .before .get-data-start .ensures .0 in
     let w = c .before .header-fits in
-    unsound (now (s .args .page)) _ _ _ (s .pre) en ef ed (c .before .before .before .before .if1 .left) (λ x. told (w .result) (w .ensures) (not-true _ (c .if2 .taken)) (sound-header _ _ _ _ (s .pre) en ef ed x))
+    unsound (now (s .args .page)) _ _ _ (s .pre) en ef ed (c .before .before .before .before .if1 .left)
+    (λ x. told (w .result) (w .ensures) (not-true _ (c .if2 .taken)) (sound-header _ _ _ _ (s .pre) en ef ed x))
 
 records-fit-requires : tie.Need-records-fit-requires
 records-fit-requires c κs =
@@ -52,7 +45,8 @@ returns-3 c =
     let ef = c .before .before .before .before .before .before .get-first-free-slot .ensures .0 in
     let ed = c .before .before .before .before .before .get-data-start .ensures .0 in
     let w = c .before .before .records-fit in
-    unsound (now (s .args .page)) _ _ _ (s .pre) en ef ed (c .before .before .before .before .before .before .before .if1 .left) (λ x. told (w .result .fits) (w .ensures .0) (not-true _ (c .if3 .taken)) (sound-records _ _ _ _ (s .pre) en ef ed x))
+    unsound (now (s .args .page)) _ _ _ (s .pre) en ef ed (c .before .before .before .before .before .before .before .if1 .left)
+    (λ x. told (w .result .fits) (w .ensures .0) (not-true _ (c .if3 .taken)) (sound-records _ _ _ _ (s .pre) en ef ed x))
 
 get-free-space-requires : tie.Need-get-free-space-requires
 get-free-space-requires c κs = search needs
@@ -77,7 +71,8 @@ returns-4 c =
     let h = c .before .before .before .before .before .before .header-fits .ensures .yes (not-false _ (c .before .before .before .before .before .if2 .left)) in
     let w = c .before .before .before .before .records-fit .ensures in
     let e = not-false _ (c .before .before .if3 .left) in
-    sound-space (now (s .args .page)) _ _ _ (s .pre) en ef ed h (w .0 .yes e) (c .before .before .before .before .before .before .before .before .before .if1 .left) _ _ (c .before .get-free-space .ensures .0) (w .1 e)
+    sound-space (now (s .args .page)) _ _ _ (s .pre) en ef ed h (w .0 .yes e)
+    (c .before .before .before .before .before .before .before .before .before .if1 .left) _ _ (c .before .get-free-space .ensures .0) (w .1 e)
 
 pub is-sound-spec : {M : Type 1} → statement M
 is-sound-spec =

@@ -1,4 +1,4 @@
--- `page_check::is_sound_page` meets its contract. Assumes nothing.
+-- `page_check::is_sound_page` meets its contract.
 use mathlib.Core.Path.{sym, ap, _∙_}
 use mathlib.Core.Bool.{Bool, _&&_}
 use native.Mathlib.Omega.{arith}
@@ -9,9 +9,6 @@ use borrow.Author.Needs.{needs}
 use Rattle.store.specs.Page.{view, sound}
 use Rattle.page_check.proofs.is_sound_page.Statement.{statement}
 use Rattle.page_check.proofs.is_sound_page.Tie as tie
-use Rattle.page_check.proofs.is_sound_page.Reads as reads
-use Rattle.page_check.proofs.is_sound_page.Lts as lts
-use Rattle.page_check.proofs.is_sound.Reads as is-sound-reads
 
 returns : tie.Need-returns
 returns c =

@@ -1,14 +1,10 @@
--- `page_check::records_fit` meets its contract. Assumes nothing.
+-- `page_check::records_fit` meets its contract.
 use Prim.Native.Nat.{ℕ}
 use lib.ListN.{length-replicate}
 use Rattle.page_check.proofs.MapLaws.{blank}
 use borrow.Author.Needs.{needs}
 use Rattle.page_check.proofs.records_fit.Statement.{statement}
 use Rattle.page_check.proofs.records_fit.Tie as tie
-use Rattle.page_check.proofs.records_fit.Reads as reads
-use Rattle.page_check.proofs.records_fit.Lts as lts
-use Rattle.page_check.proofs.map.claim_all.Reads as claim-all-reads
-use Rattle.page_check.proofs.sweep.sweep.Reads as sweep-reads
 
 sweep-requires : tie.Need-sweep-requires
 sweep-requires c κs = search needs

@@ -1,4 +1,4 @@
--- `segment_erase::erase_forwarded` meets its contract. Assumes nothing.
+-- `segment_erase::erase_forwarded` meets its contract.
 use denote.Ref.{now}
 use mathlib.Core.Path.{_≡_, refl, sym, ap, _∙_}
 use mathlib.Core.Bool.{true, false}
@@ -12,21 +12,20 @@ use Rattle.segment_erase.proofs.Erased.{rootStep, targetStep, by-damage
 use borrow.Author.Needs.{needs}
 use Rattle.segment_erase.proofs.erase_forwarded.Statement.{statement}
 use Rattle.segment_erase.proofs.erase_forwarded.Tie as tie
-use Rattle.segment_erase.proofs.erase_forwarded.Reads as reads
-use Rattle.segment_erase.proofs.erase_forwarded.Lts as lts
-use Rattle.segment_pages.proofs.points_back.Reads as points-back-reads
-use Rattle.segment_steps.proofs.erase_on.Reads as erase-on-reads
-use Rattle.segment_steps.proofs.update_on.Reads as update-on-reads
 
 -- what the test of the target told, and what the root's step left
 back : (c : tie.Else1) → let a = c .before .before .before .before .before .args in pointsBack (segView (now (a .segment))) (a .id) (a .t) ≡ true
 back c = let e : c .before .points-back .result ≡ true = not-false _ (c .if1 .left) in sym (c .before .points-back .ensures) ∙ e
 
-took : (c : tie.After-erase-on) → let a = c .before .before .before .before .before .before .before .args in Took (now (a .segment)) (rootStep (now (a .segment)) (now (a .inventory)) (a .id)) (c .erase-on .last .0)
+took : (c : tie.After-erase-on) → let a = c .before .before .before .before .before .before .before .args in
+    Took (now (a .segment)) (rootStep (now (a .segment)) (now (a .inventory)) (a .id)) (c .erase-on .last .0)
 took c =
     let z = c .before .before .before .before .before .before .before in
     let a = z .args in
-    record { exact = erase-on-page (now (a .segment)) (pageNo (a .id)) (slotNo (a .id)) (z .pre .1 .0) (z .pre .1 .1) (ap isFree (z .pre .1 .2)); is = c .erase-on .ensures }
+    record {
+      exact = erase-on-page (now (a .segment)) (pageNo (a .id)) (slotNo (a .id)) (z .pre .1 .0) (z .pre .1 .1) (ap isFree (z .pre .1 .2));
+      is = c .erase-on .ensures;
+    }
 
 points-back-requires : tie.Need-points-back-requires
 points-back-requires c κs = search needs
@@ -46,7 +45,8 @@ erase-on-requires c κs = let z = c .before .before .before .before .before .bef
 erase-on-requires-2 : tie.Need-erase-on-requires-2
 erase-on-requires-2 c κs =
     let a = c .before .before .before .before .before .before .before .before .before .before .args in
-    target-asks (now (a .segment)) (now (a .inventory)) (a .id) (a .t) (back (c .before .before .before .before .before)) (c .before .before .before .erase-on .last .0) (took (c .before .before .before))
+    target-asks (now (a .segment)) (now (a .inventory)) (a .id) (a .t) (back (c .before .before .before .before .before))
+    (c .before .before .before .erase-on .last .0) (took (c .before .before .before))
 
 update-on-requires : tie.Need-update-on-requires
 update-on-requires c κs =
@@ -94,7 +94,8 @@ returns-2 : tie.Need-returns-2
 returns-2 c =
     let a = c .before .before .before .before .before .before .before .before .before .before .before .before .before .before .before .before .before .before .before .before .before .before .before .args in
     let r = c .before .before .before .before .before .before .before .before .before .before .before .before .erase-on2 in
-    by-redirect (now (a .segment)) (now (a .inventory)) (a .id) (a .t) (back (c .before .before .before .before .before .before .before .before .before .before .before .before .before .before .before .before .before .before)) (c .before .before .before .before .before .before .before .before .before .before .before .before .before .before .before .before .erase-on .last .0) (took (c .before .before .before .before .before .before .before .before .before .before .before .before .before .before .before .before)) (r .last .0) (r .ensures) _ _
+    by-redirect (now (a .segment)) (now (a .inventory)) (a .id) (a .t)
+    (back (c .before .before .before .before .before .before .before .before .before .before .before .before .before .before .before .before .before .before)) (c .before .before .before .before .before .before .before .before .before .before .before .before .before .before .before .before .erase-on .last .0) (took (c .before .before .before .before .before .before .before .before .before .before .before .before .before .before .before .before)) (r .last .0) (r .ensures) _ _
     (c .before .before .before .before .before .before .before .update-on .ensures) (c .before .before .update-on2 .ensures)
 
 pub erase-forwarded-spec : {M : Type 1} → statement M

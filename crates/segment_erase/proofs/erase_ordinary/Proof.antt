@@ -1,4 +1,4 @@
--- `segment_erase::erase_ordinary` meets its contract. Assumes nothing.
+-- `segment_erase::erase_ordinary` meets its contract.
 use denote.Ref.{now}
 use mathlib.Core.Path.{refl}
 use native.Mathlib.Omega.{arith}
@@ -8,17 +8,17 @@ use Rattle.segment_erase.proofs.Erased.{rootStep, by-ordinary}
 use borrow.Author.Needs.{needs}
 use Rattle.segment_erase.proofs.erase_ordinary.Statement.{statement}
 use Rattle.segment_erase.proofs.erase_ordinary.Tie as tie
-use Rattle.segment_erase.proofs.erase_ordinary.Reads as reads
-use Rattle.segment_erase.proofs.erase_ordinary.Lts as lts
-use Rattle.segment_steps.proofs.erase_on.Reads as erase-on-reads
-use Rattle.segment_steps.proofs.update_on.Reads as update-on-reads
 
 -- what the page step left
-took : (c : tie.After-erase-on) → let a = c .before .before .before .before .args in Took (now (a .segment)) (rootStep (now (a .segment)) (now (a .inventory)) (a .id)) (c .erase-on .last .0)
+took : (c : tie.After-erase-on) → let a = c .before .before .before .before .args in
+    Took (now (a .segment)) (rootStep (now (a .segment)) (now (a .inventory)) (a .id)) (c .erase-on .last .0)
 took c =
     let z = c .before .before .before .before in
     let a = z .args in
-    record { exact = erase-on-page (now (a .segment)) (pageNo (a .id)) (slotNo (a .id)) (z .pre .1 .0) (z .pre .1 .1) (z .pre .1 .2); is = c .erase-on .ensures }
+    record {
+      exact = erase-on-page (now (a .segment)) (pageNo (a .id)) (slotNo (a .id)) (z .pre .1 .0) (z .pre .1 .1) (z .pre .1 .2);
+      is = c .erase-on .ensures;
+    }
 
 erase-on-requires : tie.Need-erase-on-requires
 erase-on-requires c κs = search needs
@@ -43,7 +43,8 @@ same-length-2 c = search needs
 returns : tie.Need-returns
 returns c =
     let a = c .before .before .before .before .before .before .before .before .before .before .before .args in
-    by-ordinary (now (a .segment)) (now (a .inventory)) (a .id) (c .before .before .before .before .before .before .before .erase-on .last .0) _ (took (c .before .before .before .before .before .before .before)) (c .before .before .update-on .ensures) 0 0
+    by-ordinary (now (a .segment)) (now (a .inventory)) (a .id) (c .before .before .before .before .before .before .before .erase-on .last .0) _
+    (took (c .before .before .before .before .before .before .before)) (c .before .before .update-on .ensures) 0 0
 
 pub erase-ordinary-spec : {M : Type 1} → statement M
 erase-ordinary-spec =

@@ -1,4 +1,4 @@
--- `segment_erase::erase_record` meets its contract. Assumes nothing.
+-- `segment_erase::erase_record` meets its contract.
 use denote.Ref.{now}
 use mathlib.Core.Path.{_≡_, sym, ap, _∙_}
 use mathlib.Core.Bool.{true, false, _&&_}
@@ -14,26 +14,24 @@ use Rattle.segment_erase.proofs.Erased.{step-size, step-past, step-dama
 use borrow.Author.Needs.{needs}
 use Rattle.segment_erase.proofs.erase_record.Statement.{statement}
 use Rattle.segment_erase.proofs.erase_record.Tie as tie
-use Rattle.segment_erase.proofs.erase_record.Reads as reads
-use Rattle.segment_erase.proofs.erase_record.Lts as lts
-use Rattle.segment_pages.proofs.page_sound.Reads as page-sound-reads
-use Rattle.segment_pages.proofs.sizes_ok.Reads as sizes-ok-reads
-use Rattle.segment_pages.proofs.slot_on.Reads as slot-on-reads
-use Rattle.segment_erase.proofs.erase_forwarded.Reads as erase-forwarded-reads
-use Rattle.segment_erase.proofs.erase_ordinary.Reads as erase-ordinary-reads
 
 -- what the tests told, and the answer by the slot
-sizes-here : (c : tie.Else1) → let a = c .before .before .before .before .before .before .args in (sizeOk (now (a .segment)) && invOk (now (a .inventory))) ≡ true
+sizes-here : (c : tie.Else1) → let a = c .before .before .before .before .before .before .args in
+    (sizeOk (now (a .segment)) && invOk (now (a .inventory))) ≡ true
 sizes-here c = let e : c .before .sizes-ok .result ≡ true = not-false _ (c .if1 .left) in sym (c .before .sizes-ok .ensures) ∙ e
 
-sound-here : (c : tie.Else3) → let a = c .before .before .before .before .before .before .before .before .before .before .args in sound (segView (now (a .segment)) .page (pageNo (a .id))) ≡ true
+sound-here : (c : tie.Else3) → let a = c .before .before .before .before .before .before .before .before .before .before .args in
+    sound (segView (now (a .segment)) .page (pageNo (a .id))) ≡ true
 sound-here c = let e : c .before .page-sound .result ≡ true = not-false _ (c .if3 .left) in sym (c .before .page-sound .ensures .0) ∙ e
 
 by-slot : (c : tie.After-slot-on) (x : Slot) → c .slot-on .result ≡ x
-    → let a = c .before .before .before .before .before .before .before .before .before .before .before .before .args in result (now (a .segment)) (eraseBy (segView (now (a .segment))) (now (a .inventory)) (a .id) x) ≡ eraseStep (now (a .segment)) (now (a .inventory)) (a .id)
+    → let a = c .before .before .before .before .before .before .before .before .before .before .before .before .args in
+    result (now (a .segment)) (eraseBy (segView (now (a .segment))) (now (a .inventory)) (a .id) x)
+    ≡ eraseStep (now (a .segment)) (now (a .inventory)) (a .id)
 by-slot c x e =
     let a = c .before .before .before .before .before .before .before .before .before .before .before .before .args in
-    step-by (now (a .segment)) (now (a .inventory)) (a .id) (sizes-here (c .before .before .before .before .before .before)) (c .before .before .before .before .before .if2 .left) (sound-here (c .before .before)) x (sym (c .slot-on .ensures .0) ∙ e)
+    step-by (now (a .segment)) (now (a .inventory)) (a .id) (sizes-here (c .before .before .before .before .before .before))
+    (c .before .before .before .before .before .if2 .left) (sound-here (c .before .before)) x (sym (c .slot-on .ensures .0) ∙ e)
 
 sizes-ok-requires : tie.Need-sizes-ok-requires
 sizes-ok-requires c κs = search needs
@@ -74,7 +72,8 @@ returns-3 : tie.Need-returns-3
 returns-3 c =
     let a = c .before .before .before .before .before .before .before .before .before .before .args in
     let e : c .before .page-sound .result ≡ false = not-true _ (c .if3 .taken) in
-    step-damaged (now (a .segment)) (now (a .inventory)) (a .id) (sizes-here (c .before .before .before .before)) (c .before .before .before .if2 .left) (sym (c .before .page-sound .ensures .0) ∙ e)
+    step-damaged (now (a .segment)) (now (a .inventory)) (a .id) (sizes-here (c .before .before .before .before))
+    (c .before .before .before .if2 .left) (sym (c .before .page-sound .ensures .0) ∙ e)
 
 slot-on-requires : tie.Need-slot-on-requires
 slot-on-requires c κs = search needs
@@ -86,8 +85,14 @@ erase-ordinary-requires : tie.Need-erase-ordinary-requires
 erase-ordinary-requires c κs =
     let a = c .before .before .before .before .before .before .before .before .before .before .before .before .before .before .before .before .args in
     let m = c .before .before .before .before in
-    let e = sym (m .slot-on .ensures .0) ∙ c .before .before .enum-told .given .1 in
-    (sizes (now (a .segment)) (now (a .inventory)) (sizes-here (c .before .before .before .before .before .before .before .before .before .before)), (omega (arith, c .before .before .before .before .before .before .before .before .before .if2 .left), sound-here (c .before .before .before .before .before .before), ap isFree e))
+    let e = sym (m .slot-on .ensures .0) ∙ c .before .before .enum-told .given .1 in (
+      sizes (now (a .segment)) (now (a .inventory)) (sizes-here (c .before .before .before .before .before .before .before .before .before .before)),
+      (
+        omega (arith, c .before .before .before .before .before .before .before .before .before .if2 .left),
+        sound-here (c .before .before .before .before .before .before),
+        ap isFree e,
+      ),
+    )
 
 enum-told-2 : tie.Need-enum-told-2
 enum-told-2 c = search needs
@@ -99,8 +104,15 @@ erase-forwarded-requires : tie.Need-erase-forwarded-requires
 erase-forwarded-requires c κs =
     let a = c .before .before .before .before .before .before .before .before .before .before .before .before .before .before .before .before .before .args in
     let m = c .before .before .before .before .before in
-    let e = sym (m .slot-on .ensures .0) ∙ c .before .before .before .s .given .1 in
-    (sizes (now (a .segment)) (now (a .inventory)) (sizes-here (c .before .before .before .before .before .before .before .before .before .before .before)), (omega (arith, c .before .before .before .before .before .before .before .before .before .before .if2 .left), sound-here (c .before .before .before .before .before .before .before), e))
+    let e = sym (m .slot-on .ensures .0) ∙ c .before .before .before .s .given .1 in (
+      sizes (now (a .segment)) (now (a .inventory))
+          (sizes-here (c .before .before .before .before .before .before .before .before .before .before .before)),
+      (
+        omega (arith, c .before .before .before .before .before .before .before .before .before .before .if2 .left),
+        sound-here (c .before .before .before .before .before .before .before),
+        e,
+      ),
+    )
 
 enum-told-3 : tie.Need-enum-told-3
 enum-told-3 c = search needs
@@ -112,7 +124,9 @@ same-length-8 : tie.Need-same-length-8
 same-length-8 c = search needs
 
 returns-4 : tie.Need-returns-4
-returns-4 c = c .before .before .before .before .erase-ordinary .ensures ∙ by-slot (c .before .before .before .before .before .before .before .before .before) _ (c .before .before .before .before .before .before .before .enum-told .given .1)
+returns-4 c = c .before .before .before .before .erase-ordinary .ensures
+    ∙ by-slot (c .before .before .before .before .before .before .before .before .before) _
+    (c .before .before .before .before .before .before .before .enum-told .given .1)
 
 same-length-9 : tie.Need-same-length-9
 same-length-9 c = search needs
@@ -132,7 +146,9 @@ same-length-12 : tie.Need-same-length-12
 same-length-12 c = search needs
 
 returns-6 : tie.Need-returns-6
-returns-6 c = c .before .before .before .before .erase-forwarded .ensures ∙ by-slot (c .before .before .before .before .before .before .before .before .before .before) _ (c .before .before .before .before .before .before .before .before .s .given .1)
+returns-6 c = c .before .before .before .before .erase-forwarded .ensures
+    ∙ by-slot (c .before .before .before .before .before .before .before .before .before .before) _
+    (c .before .before .before .before .before .before .before .before .s .given .1)
 
 same-length-13 : tie.Need-same-length-13
 same-length-13 c = search needs

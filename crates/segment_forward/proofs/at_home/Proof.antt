@@ -1,4 +1,4 @@
--- `segment_forward::at_home` meets its contract. Assumes nothing.
+-- `segment_forward::at_home` meets its contract.
 use denote.Ref.{now}
 use mathlib.Core.Path.{_≡_, refl, sym, ap}
 use mathlib.Core.Bool.{true, false}
@@ -14,17 +14,14 @@ use Rattle.segment_forward.proofs.Home.{home-stays, home-asks, home-len
 use borrow.Author.Needs.{needs}
 use Rattle.segment_forward.proofs.at_home.Statement.{statement}
 use Rattle.segment_forward.proofs.at_home.Tie as tie
-use Rattle.segment_forward.proofs.at_home.Reads as reads
-use Rattle.segment_forward.proofs.at_home.Lts as lts
-use Rattle.segment_steps.proofs.erase_on.Reads as erase-on-reads
-use Rattle.segment_steps.proofs.rewrite_on.Reads as rewrite-on-reads
-use Rattle.segment_steps.proofs.update_on.Reads as update-on-reads
 
 -- what the step on the root's page answered
-stays : (c : tie.Then1) → let a = c .before .before .before .before .before .before .before .before .args in wasMoved (relocate (segView (now (a .segment)) .page (pageNo (a .id))) (slotNo (a .id)) (a .size)) ≡ false
+stays : (c : tie.Then1) → let a = c .before .before .before .before .before .before .before .before .args in
+    wasMoved (relocate (segView (now (a .segment)) .page (pageNo (a .id))) (slotNo (a .id)) (a .size)) ≡ false
 stays c = told-so (c .before .before .before .rewrite-on .result) _ false (c .before .before .before .rewrite-on .ensures .1) (not-true _ (c .if1 .taken))
 
-went : (c : tie.Else1) → let a = c .before .before .before .before .before .before .before .before .args in wasMoved (relocate (segView (now (a .segment)) .page (pageNo (a .id))) (slotNo (a .id)) (a .size)) ≡ true
+went : (c : tie.Else1) → let a = c .before .before .before .before .before .before .before .before .args in
+    wasMoved (relocate (segView (now (a .segment)) .page (pageNo (a .id))) (slotNo (a .id)) (a .size)) ≡ true
 went c = told-so (c .before .before .before .rewrite-on .result) _ true (c .before .before .before .rewrite-on .ensures .1) (not-false _ (c .if1 .left))
 
 rewrite-on-requires : tie.Need-rewrite-on-requires
@@ -54,7 +51,8 @@ erase-on-requires c κs =
     let v = now (a .inventory) in
     let bs = fit (a .size) (now (a .bytes)) in
     let t = x .rewrite-on in
-    home-asks s (a .id) (a .size) bs (a .t) (z .pre .1 .0) (t .last .0) (t .ensures .0) (z .pre .1 .1) (z .pre .1 .2) (z .pre .1 .3) (length-fit (a .size) (now (a .bytes))) (went e)
+    home-asks s (a .id) (a .size) bs (a .t) (z .pre .1 .0) (t .last .0) (t .ensures .0) (z .pre .1 .1) (z .pre .1 .2) (z .pre .1 .3)
+    (length-fit (a .size) (now (a .bytes))) (went e)
 
 update-on-requires : tie.Need-update-on-requires
 update-on-requires c κs =
@@ -68,8 +66,11 @@ update-on-requires c κs =
     let v = now (a .inventory) in
     let bs = fit (a .size) (now (a .bytes)) in
     let t = x .rewrite-on in
-    let l = home-length s (a .id) (a .size) bs (a .t) (z .pre .1 .0) (t .last .0) (t .ensures .0) (z .pre .1 .1) (z .pre .1 .2) (z .pre .1 .3) (length-fit (a .size) (now (a .bytes))) (went e) (r .last .0) (r .ensures) in
-    asks-update s v (r .last .0) l (pageNo (a .id)) _ (home-left s (a .id) (a .size) bs (a .t) (z .pre .1 .0) (t .last .0) (t .ensures .0) (z .pre .1 .1) (z .pre .1 .2) (z .pre .1 .3) (length-fit (a .size) (now (a .bytes))) (went e) (r .last .0) (r .ensures)) (z .pre .0) v refl (z .pre .1 .0)
+    let l = home-length s (a .id) (a .size) bs (a .t) (z .pre .1 .0) (t .last .0) (t .ensures .0) (z .pre .1 .1) (z .pre .1 .2) (z .pre .1 .3)
+    (length-fit (a .size) (now (a .bytes))) (went e) (r .last .0) (r .ensures) in
+    asks-update s v (r .last .0) l (pageNo (a .id)) _
+    (home-left s (a .id) (a .size) bs (a .t) (z .pre .1 .0) (t .last .0) (t .ensures .0) (z .pre .1 .1) (z .pre .1 .2) (z .pre .1 .3)
+    (length-fit (a .size) (now (a .bytes))) (went e) (r .last .0) (r .ensures)) (z .pre .0) v refl (z .pre .1 .0)
 
 update-on-requires-2 : tie.Need-update-on-requires-2
 update-on-requires-2 c κs =
@@ -84,8 +85,12 @@ update-on-requires-2 c κs =
     let v = now (a .inventory) in
     let bs = fit (a .size) (now (a .bytes)) in
     let t = x .rewrite-on in
-    let l = home-length s (a .id) (a .size) bs (a .t) (z .pre .1 .0) (t .last .0) (t .ensures .0) (z .pre .1 .1) (z .pre .1 .2) (z .pre .1 .3) (length-fit (a .size) (now (a .bytes))) (went e) (r .last .0) (r .ensures) in
-    asks-update s v (r .last .0) l (pageNo (a .t)) _ (home-old-left s (a .id) (a .size) bs (a .t) (z .pre .1 .0) (t .last .0) (t .ensures .0) (z .pre .1 .1) (z .pre .1 .2) (z .pre .1 .3) (length-fit (a .size) (now (a .bytes))) (went e) (r .last .0) (r .ensures)) (z .pre .0) _ (u .update-on .kept .1 .0) (old-asks s (a .id) (a .t) (z .pre .1 .3) .0)
+    let l = home-length s (a .id) (a .size) bs (a .t) (z .pre .1 .0) (t .last .0) (t .ensures .0) (z .pre .1 .1) (z .pre .1 .2) (z .pre .1 .3)
+    (length-fit (a .size) (now (a .bytes))) (went e) (r .last .0) (r .ensures) in
+    asks-update s v (r .last .0) l (pageNo (a .t)) _
+    (home-old-left s (a .id) (a .size) bs (a .t) (z .pre .1 .0) (t .last .0) (t .ensures .0) (z .pre .1 .1) (z .pre .1 .2) (z .pre .1 .3)
+    (length-fit (a .size) (now (a .bytes))) (went e) (r .last .0) (r .ensures)) (z .pre .0) _ (u .update-on .kept .1 .0)
+    (old-asks s (a .id) (a .t) (z .pre .1 .3) .0)
 
 same-length-2 : tie.Need-same-length-2
 same-length-2 c = search needs
@@ -106,8 +111,12 @@ returns-2 c =
     let s = now (a .segment) in
     let v = now (a .inventory) in
     let bs = fit (a .size) (now (a .bytes)) in
-    let t = x .rewrite-on in
-    (sym (went e), λ h. clash _ (went e) h, λ h. home-done s (a .id) (a .size) bs (a .t) (z .pre .1 .0) (t .last .0) (t .ensures .0) (z .pre .1 .1) (z .pre .1 .2) (z .pre .1 .3) (length-fit (a .size) (now (a .bytes))) (went e) (r .last .0) (r .ensures) v _ _ (u .update-on .ensures) (w .update-on2 .ensures))
+    let t = x .rewrite-on in (
+      sym (went e),
+      λ h. clash _ (went e) h,
+      λ h. home-done s (a .id) (a .size) bs (a .t) (z .pre .1 .0) (t .last .0) (t .ensures .0) (z .pre .1 .1) (z .pre .1 .2) (z .pre .1 .3)
+          (length-fit (a .size) (now (a .bytes))) (went e) (r .last .0) (r .ensures) v _ _ (u .update-on .ensures) (w .update-on2 .ensures),
+    )
 
 pub at-home-spec : {M : Type 1} → statement M
 at-home-spec =

@@ -1,4 +1,4 @@
--- `segment_forward::forward` meets its contract. Assumes nothing.
+-- `segment_forward::forward` meets its contract.
 use denote.Ref.{now}
 use mathlib.Core.Path.{refl, ap, _∙_}
 use mathlib.Core.Bool.{Bool}
@@ -15,19 +15,19 @@ use Rattle.segment_forward.proofs.Forwarded.{Placed, placed-at, forward
 use borrow.Author.Needs.{needs}
 use Rattle.segment_forward.proofs.forward.Statement.{statement}
 use Rattle.segment_forward.proofs.forward.Tie as tie
-use Rattle.segment_forward.proofs.forward.Reads as reads
-use Rattle.segment_forward.proofs.forward.Lts as lts
-use Rattle.segment_steps.proofs.erase_for_redirect_on.Reads as erase-for-redirect-on-reads
-use Rattle.segment_steps.proofs.update_on.Reads as update-on-reads
-use Rattle.segment_forward.proofs.place_target.Reads as place-target-reads
 
 -- the new target, as the search left it
-placed : (c : tie.After-known-told) → let x = c .before .before .before .before .before in let a = x .before .before .before .before .before .before .args in Placed (now (a .segment)) (a .id) (fit (a .size) (now (a .bytes))) (rootOrOld (a .id) (a .id)) (find foundIn (segView (now (a .segment))) (now (a .inventory)) (a .size + 8) (rootOrOld (a .id) (a .id))) (c .before .placed .given .0 .0) (x .place-target .last .0)
+placed : (c : tie.After-known-told) → let x = c .before .before .before .before .before in
+    let a = x .before .before .before .before .before .before .args in
+    Placed (now (a .segment)) (a .id) (fit (a .size) (now (a .bytes))) (rootOrOld (a .id) (a .id))
+    (find foundIn (segView (now (a .segment))) (now (a .inventory)) (a .size + 8) (rootOrOld (a .id) (a .id))) (c .before .placed .given .0 .0)
+    (x .place-target .last .0)
 placed c =
     let x = c .before .before .before .before .before in
     let z = x .before .before .before .before .before .before in
     let a = z .args in
-    placed-at (now (a .segment)) (now (a .inventory)) (a .id) (a .size) (fit (a .size) (now (a .bytes))) (x .place-target .last .0) (z .pre .0 .few) (length-fit (a .size) (now (a .bytes))) (rootOrOld (a .id) (a .id)) _ _
+    placed-at (now (a .segment)) (now (a .inventory)) (a .id) (a .size) (fit (a .size) (now (a .bytes))) (x .place-target .last .0) (z .pre .0 .few)
+    (length-fit (a .size) (now (a .bytes))) (rootOrOld (a .id) (a .id)) _ _
     (c .before .placed .given .1) (x .place-target .ensures)
 
 place-target-requires : tie.Need-place-target-requires
@@ -49,8 +49,10 @@ returns c =
     let s = now (a .segment) in
     let v = now (a .inventory) in
     let bs = fit (a .size) (now (a .bytes)) in
-    forward-refused s v (a .id) (a .size) bs (x .place-target .last .0) (x .place-target .result) (c .match .keys2) (find foundIn (segView s) v (a .size + 8) (rootOrOld (a .id) (a .id))) (x .place-target .ensures)
-    ∙ ap (λ (ex : ℕ → Bool). result s (forwarded (segView s) v (a .id) (a .size) (λ o. bs) [] (find foundIn (segView s) v (a .size + 8) ex))) (root-alone (a .id))
+    forward-refused s v (a .id) (a .size) bs (x .place-target .last .0) (x .place-target .result) (c .match .keys2)
+    (find foundIn (segView s) v (a .size + 8) (rootOrOld (a .id) (a .id))) (x .place-target .ensures)
+    ∙ ap (λ (ex : ℕ → Bool). result s (forwarded (segView s) v (a .id) (a .size) (λ o. bs) [] (find foundIn (segView s) v (a .size + 8) ex)))
+    (root-alone (a .id))
 
 erase-for-redirect-on-requires : tie.Need-erase-for-redirect-on-requires
 erase-for-redirect-on-requires c κs =
@@ -72,7 +74,8 @@ update-on-requires c κs =
     let ok : Asks s (pageNo (a .id)) (slotNo (a .id)) = (z .pre .1 .0, z .pre .1 .1, z .pre .1 .2) in
     let r = y .erase-for-redirect-on in
     let l = forward-length s (a .id) bs (a .id) _ _ _ (placed m) ok (r .last .0) (r .ensures) in
-    asks-update s v (r .last .0) l (pageNo (a .id)) _ (root-left s (a .id) bs (a .id) _ _ _ (placed m) ok (r .last .0) (r .ensures)) (z .pre .0) v refl (z .pre .1 .0)
+    asks-update s v (r .last .0) l (pageNo (a .id)) _ (root-left s (a .id) bs (a .id) _ _ _ (placed m) ok (r .last .0) (r .ensures))
+    (z .pre .0) v refl (z .pre .1 .0)
 
 update-on-requires-2 : tie.Need-update-on-requires-2
 update-on-requires-2 c κs =
@@ -87,7 +90,8 @@ update-on-requires-2 c κs =
     let ok : Asks s (pageNo (a .id)) (slotNo (a .id)) = (z .pre .1 .0, z .pre .1 .1, z .pre .1 .2) in
     let r = y .erase-for-redirect-on in
     let l = forward-length s (a .id) bs (a .id) _ _ _ (placed m) ok (r .last .0) (r .ensures) in
-    asks-update s v (r .last .0) l _ _ (new-left s (a .id) bs (a .id) _ _ _ (placed m) ok (r .last .0) (r .ensures)) (z .pre .0) _ (u .update-on .kept .1 .0) (placed m .fits)
+    asks-update s v (r .last .0) l _ _ (new-left s (a .id) bs (a .id) _ _ _ (placed m) ok (r .last .0) (r .ensures)) (z .pre .0) _
+    (u .update-on .kept .1 .0) (placed m .fits)
 
 same-length-3 : tie.Need-same-length-3
 same-length-3 c = search needs
@@ -107,8 +111,10 @@ returns-2 c =
     let bs = fit (a .size) (now (a .bytes)) in
     let ok : Asks s (pageNo (a .id)) (slotNo (a .id)) = (z .pre .1 .0, z .pre .1 .1, z .pre .1 .2) in
     let r = y .erase-for-redirect-on in
-    forward-done s (a .id) bs (a .id) _ _ _ (placed m) ok (r .last .0) (r .ensures) v (a .size) _ _ (u .before .before .before .before .before .update-on .ensures) (u .update-on2 .ensures)
-    ∙ ap (λ (ex : ℕ → Bool). result s (forwarded (segView s) v (a .id) (a .size) (λ o. bs) [] (find foundIn (segView s) v (a .size + 8) ex))) (root-alone (a .id))
+    forward-done s (a .id) bs (a .id) _ _ _ (placed m) ok (r .last .0) (r .ensures) v (a .size) _ _
+    (u .before .before .before .before .before .update-on .ensures) (u .update-on2 .ensures)
+    ∙ ap (λ (ex : ℕ → Bool). result s (forwarded (segView s) v (a .id) (a .size) (λ o. bs) [] (find foundIn (segView s) v (a .size + 8) ex)))
+    (root-alone (a .id))
 
 pub forward-spec : {M : Type 1} → statement M
 forward-spec =

@@ -1,4 +1,4 @@
--- `segment_forward::forward_again` meets its contract. Assumes nothing.
+-- `segment_forward::forward_again` meets its contract.
 use denote.Ref.{now}
 use mathlib.Core.Path.{refl, ap}
 use Prim.Native.Nat.{_+_}
@@ -9,24 +9,24 @@ use Rattle.store.specs.Segment.{segView, find}
 use Rattle.store.specs.Laws.Relocate.{length-fit}
 use Rattle.segment_forward.specs.Words.{rootOrOld}
 use Rattle.segment_forward.proofs.Steps.{asks-update, old-asks}
-use Rattle.segment_forward.proofs.Forwarded.{Placed, placed-at, again-refused, root-asks, again-asks, again-length, again-old-left, again-new-left, again-done}
+use Rattle.segment_forward.proofs.Forwarded.{Placed, placed-at, again-refused, root-asks, again-asks, again-length, again-old-left}
+use Rattle.segment_forward.proofs.Forwarded.{again-new-left, again-done}
 use borrow.Author.Needs.{needs}
 use Rattle.segment_forward.proofs.forward_again.Statement.{statement}
 use Rattle.segment_forward.proofs.forward_again.Tie as tie
-use Rattle.segment_forward.proofs.forward_again.Reads as reads
-use Rattle.segment_forward.proofs.forward_again.Lts as lts
-use Rattle.segment_steps.proofs.erase_on.Reads as erase-on-reads
-use Rattle.segment_steps.proofs.set_redirect_on.Reads as set-redirect-on-reads
-use Rattle.segment_steps.proofs.update_on.Reads as update-on-reads
-use Rattle.segment_forward.proofs.place_target.Reads as place-target-reads
 
 -- the new target, as the search left it
-placed : (c : tie.After-known-told) → let x = c .before .before .before .before .before in let a = x .before .before .before .before .before .before .args in Placed (now (a .segment)) (a .id) (fit (a .size) (now (a .bytes))) (rootOrOld (a .id) (a .t)) (find foundIn (segView (now (a .segment))) (now (a .inventory)) (a .size + 8) (rootOrOld (a .id) (a .t))) (c .before .placed .given .0 .0) (x .place-target .last .0)
+placed : (c : tie.After-known-told) → let x = c .before .before .before .before .before in
+    let a = x .before .before .before .before .before .before .args in
+    Placed (now (a .segment)) (a .id) (fit (a .size) (now (a .bytes))) (rootOrOld (a .id) (a .t))
+    (find foundIn (segView (now (a .segment))) (now (a .inventory)) (a .size + 8) (rootOrOld (a .id) (a .t))) (c .before .placed .given .0 .0)
+    (x .place-target .last .0)
 placed c =
     let x = c .before .before .before .before .before in
     let z = x .before .before .before .before .before .before in
     let a = z .args in
-    placed-at (now (a .segment)) (now (a .inventory)) (a .id) (a .size) (fit (a .size) (now (a .bytes))) (x .place-target .last .0) (z .pre .0 .few) (length-fit (a .size) (now (a .bytes))) (rootOrOld (a .id) (a .t)) _ _
+    placed-at (now (a .segment)) (now (a .inventory)) (a .id) (a .size) (fit (a .size) (now (a .bytes))) (x .place-target .last .0) (z .pre .0 .few)
+    (length-fit (a .size) (now (a .bytes))) (rootOrOld (a .id) (a .t)) _ _
     (c .before .placed .given .1) (x .place-target .ensures)
 
 place-target-requires : tie.Need-place-target-requires
@@ -48,14 +48,19 @@ returns c =
     let s = now (a .segment) in
     let v = now (a .inventory) in
     let bs = fit (a .size) (now (a .bytes)) in
-    again-refused s v (a .id) (a .size) bs (x .place-target .last .0) (x .place-target .result) (c .match .keys2) (a .t) (find foundIn (segView s) v (a .size + 8) (rootOrOld (a .id) (a .t))) (x .place-target .ensures)
+    again-refused s v (a .id) (a .size) bs (x .place-target .last .0) (x .place-target .result) (c .match .keys2) (a .t)
+    (find foundIn (segView s) v (a .size + 8) (rootOrOld (a .id) (a .t))) (x .place-target .ensures)
 
 set-redirect-on-requires : tie.Need-set-redirect-on-requires
 set-redirect-on-requires c κs =
     let m = c .before in
     let z = m .before .before .before .before .before .before .before .before .before .before .before in
     let a = z .args in
-    let h = root-asks (now (a .segment)) (a .id) (fit (a .size) (now (a .bytes))) (a .t) _ _ _ (placed m) (z .pre .1 .0, z .pre .1 .1, ap isFree (z .pre .1 .2)) in
+    let h = root-asks (now (a .segment)) (a .id) (fit (a .size) (now (a .bytes))) (a .t) _ _ _ (placed m) (
+      z .pre .1 .0,
+      z .pre .1 .1,
+      ap isFree (z .pre .1 .2),
+    ) in
     (h .0, h .1, h .2, placed m .small)
 
 erase-on-requires : tie.Need-erase-on-requires
@@ -82,8 +87,11 @@ update-on-requires c κs =
     let v = now (a .inventory) in
     let bs = fit (a .size) (now (a .bytes)) in
     let r = x .set-redirect-on in
-    let l = again-length s (a .id) bs (a .t) _ _ _ (placed m) (z .pre .1 .0) (z .pre .1 .1) (z .pre .1 .2) (z .pre .1 .3) (r .last .0) (r .ensures) (q .last .0) (q .ensures) in
-    asks-update s v (q .last .0) l (pageNo (a .t)) _ (again-old-left s (a .id) bs (a .t) _ _ _ (placed m) (z .pre .1 .0) (z .pre .1 .1) (z .pre .1 .2) (z .pre .1 .3) (r .last .0) (r .ensures) (q .last .0) (q .ensures)) (z .pre .0) v refl (old-asks s (a .id) (a .t) (z .pre .1 .3) .0)
+    let l = again-length s (a .id) bs (a .t) _ _ _ (placed m) (z .pre .1 .0) (z .pre .1 .1) (z .pre .1 .2) (z .pre .1 .3) (r .last .0) (r .ensures)
+    (q .last .0) (q .ensures) in
+    asks-update s v (q .last .0) l (pageNo (a .t)) _
+    (again-old-left s (a .id) bs (a .t) _ _ _ (placed m) (z .pre .1 .0) (z .pre .1 .1) (z .pre .1 .2) (z .pre .1 .3) (r .last .0) (r .ensures)
+    (q .last .0) (q .ensures)) (z .pre .0) v refl (old-asks s (a .id) (a .t) (z .pre .1 .3) .0)
 
 update-on-requires-2 : tie.Need-update-on-requires-2
 update-on-requires-2 c κs =
@@ -98,8 +106,11 @@ update-on-requires-2 c κs =
     let v = now (a .inventory) in
     let bs = fit (a .size) (now (a .bytes)) in
     let r = x .set-redirect-on in
-    let l = again-length s (a .id) bs (a .t) _ _ _ (placed m) (z .pre .1 .0) (z .pre .1 .1) (z .pre .1 .2) (z .pre .1 .3) (r .last .0) (r .ensures) (q .last .0) (q .ensures) in
-    asks-update s v (q .last .0) l _ _ (again-new-left s (a .id) bs (a .t) _ _ _ (placed m) (z .pre .1 .0) (z .pre .1 .1) (z .pre .1 .2) (z .pre .1 .3) (r .last .0) (r .ensures) (q .last .0) (q .ensures)) (z .pre .0) _ (u .update-on .kept .1 .0) (placed m .fits)
+    let l = again-length s (a .id) bs (a .t) _ _ _ (placed m) (z .pre .1 .0) (z .pre .1 .1) (z .pre .1 .2) (z .pre .1 .3) (r .last .0) (r .ensures)
+    (q .last .0) (q .ensures) in
+    asks-update s v (q .last .0) l _ _
+    (again-new-left s (a .id) bs (a .t) _ _ _ (placed m) (z .pre .1 .0) (z .pre .1 .1) (z .pre .1 .2) (z .pre .1 .3) (r .last .0) (r .ensures)
+    (q .last .0) (q .ensures)) (z .pre .0) _ (u .update-on .kept .1 .0) (placed m .fits)
 
 same-length-3 : tie.Need-same-length-3
 same-length-3 c = search needs
@@ -121,7 +132,8 @@ returns-2 c =
     let v = now (a .inventory) in
     let bs = fit (a .size) (now (a .bytes)) in
     let r = x .set-redirect-on in
-    again-done s (a .id) bs (a .t) _ _ _ (placed m) (z .pre .1 .0) (z .pre .1 .1) (z .pre .1 .2) (z .pre .1 .3) (r .last .0) (r .ensures) (q .last .0) (q .ensures) v (a .size) _ _ (u .update-on .ensures) (w .update-on2 .ensures)
+    again-done s (a .id) bs (a .t) _ _ _ (placed m) (z .pre .1 .0) (z .pre .1 .1) (z .pre .1 .2) (z .pre .1 .3) (r .last .0) (r .ensures) (q .last .0)
+    (q .ensures) v (a .size) _ _ (u .update-on .ensures) (w .update-on2 .ensures)
 
 pub forward-again-spec : {M : Type 1} → statement M
 forward-again-spec =

@@ -1,4 +1,4 @@
--- `segment_insert::insert_at` meets its contract. Assumes nothing.
+-- `segment_insert::insert_at` meets its contract.
 use denote.Ref.{now}
 use mathlib.Core.Path.{_≡_, refl, sym, ap, subst, _∙_}
 use mathlib.Core.Bool.{true, false}
@@ -22,31 +22,29 @@ use Rattle.segment_insert.proofs.Placed.{at-damaged, at-stale, slot-sma
 use borrow.Author.Needs.{needs}
 use Rattle.segment_insert.proofs.insert_at.Statement.{statement}
 use Rattle.segment_insert.proofs.insert_at.Tie as tie
-use Rattle.segment_insert.proofs.insert_at.Reads as reads
-use Rattle.segment_insert.proofs.insert_at.Lts as lts
-use Rattle.layout.proofs.fit_in.Reads as fit-in-reads
-use Rattle.segment_pages.proofs.page_sound.Reads as page-sound-reads
-use Rattle.segment_steps.proofs.allocate_on.Reads as allocate-on-reads
-use Rattle.segment_steps.proofs.update_on.Reads as update-on-reads
 
 -- what the test of the page told, and the place that the page answered
 sound-here : (c : tie.Else1) → let a = c .before .before .before .before .before .before .args in sound (segView (now (a .segment)) .page (a .p)) ≡ true
 sound-here c = let e : c .before .page-sound .result ≡ true = not-false _ (c .if1 .left) in sym (c .before .page-sound .ensures .0) ∙ e
 
 place-here : (c : tie.After-known-told)
-    → let a = c .before .before .before .before .before .before .before .before .before .before .before .before .before .args in placeOf (allocate (segView (now (a .segment)) .page (a .p)) (a .size)) ≡ At (c .before .place .given .0 .0) (c .before .place .given .0 .1 .0)
+    → let a = c .before .before .before .before .before .before .before .before .before .before .before .before .before .args in
+    placeOf (allocate (segView (now (a .segment)) .page (a .p)) (a .size)) ≡ At (c .before .place .given .0 .0) (c .before .place .given .0 .1 .0)
 place-here c = sym (c .before .before .before .before .before .allocate-on .ensures .1) ∙ c .before .place .given .1
 
 -- what the segment is once the bytes stand there
 written-here : (c : tie.After-fit-in)
     → let x = c .before .before .before .before .before .before .before in let a = x .before .before .before .before .before .before .before .before .args in
     putMid (a .p * 16384) ((a .p + 1) * 16384 - a .p * 16384) (x .allocate-on .last .0) (c .fit-in .last .0)
-    ≡ put (now (a .segment)) (a .p * 16384) (pageAfter (filledAt (allocate (segView (now (a .segment)) .page (a .p)) (a .size)) (fit (a .size) (now (a .bytes)))) (pageOf (now (a .segment)) (a .p)))
+    ≡ put (now (a .segment)) (a .p * 16384)
+    (pageAfter (filledAt (allocate (segView (now (a .segment)) .page (a .p)) (a .size)) (fit (a .size) (now (a .bytes))))
+    (pageOf (now (a .segment)) (a .p)))
 written-here c =
     let x = c .before .before .before .before .before .before .before in
     let z = x .before .before .before .before .before .before .before .before in
     let a = z .args in
-    bytes-written (now (a .segment)) (a .p) (z .pre .1 .0) (sound-here (x .before .before)) (a .size) (x .allocate-on .last .0) (x .allocate-on .ensures .0) _ _ (place-here (c .before .before))
+    bytes-written (now (a .segment)) (a .p) (z .pre .1 .0) (sound-here (x .before .before)) (a .size) (x .allocate-on .last .0)
+    (x .allocate-on .ensures .0) _ _ (place-here (c .before .before))
     (fit (a .size) (now (a .bytes))) (length-fit (a .size) (now (a .bytes))) (c .fit-in .last .0) (c .fit-in .ensures)
 
 page-sound-requires : tie.Need-page-sound-requires
@@ -111,7 +109,12 @@ fit-in-requires c κs =
     let z = x .before .before .before .before .before .before .before .before in
     let a = z .args in
     let h = subst (λ (y : Place). Inside y (a .size)) (c .before .before .place .given .1) (x .allocate-on .ensures .2) in
-    omega (arith, h, bare-whole (now (a .segment)) (a .p) (z .pre .1 .0) (sound-here (x .before .before)) (a .size) (x .allocate-on .last .0) (x .allocate-on .ensures .0))
+    omega (
+      arith,
+      h,
+      bare-whole (now (a .segment)) (a .p) (z .pre .1 .0) (sound-here (x .before .before)) (a .size) (x .allocate-on .last .0)
+          (x .allocate-on .ensures .0),
+    )
 
 update-on-requires : tie.Need-update-on-requires
 update-on-requires c κs =
@@ -125,7 +128,11 @@ update-on-requires c κs =
     let t = putMid (a .p * 16384) ((a .p + 1) * 16384 - a .p * 16384) (x .allocate-on .last .0) (y .fit-in .last .0) in
     let l = ap length h ∙ length-put s (a .p * 16384) _ in (
       sizes-room s v t v (z .pre .0) l refl,
-      (omega (arith, l, z .pre .1 .0), free-small s v _ (a .size) (length-fit (a .size) (now (a .bytes))) (a .p) (z .pre .1 .0) (sound-here (x .before .before)) _ h _ _ (place-here (y .before .before))),
+      (
+        omega (arith, l, z .pre .1 .0),
+        free-small s v _ (a .size) (length-fit (a .size) (now (a .bytes))) (a .p) (z .pre .1 .0) (sound-here (x .before .before)) _ h _ _
+            (place-here (y .before .before)),
+      ),
     )
 
 mul-t20 : tie.Need-mul-t20
@@ -137,7 +144,8 @@ add-t16 c =
     let x = y .before .before .before .before .before .before .before in
     let z = x .before .before .before .before .before .before .before .before in
     let a = z .args in
-    let k = slot-small (now (a .segment)) (now (a .inventory)) _ (a .size) (length-fit (a .size) (now (a .bytes))) (a .p) (z .pre .1 .0) (sound-here (x .before .before)) _ (written-here y) _ _ (place-here (y .before .before)) in
+    let k = slot-small (now (a .segment)) (now (a .inventory)) _ (a .size) (length-fit (a .size) (now (a .bytes))) (a .p) (z .pre .1 .0)
+    (sound-here (x .before .before)) _ (written-here y) _ _ (place-here (y .before .before)) in
     omega (arith, k, z .pre .0 .few, z .pre .1 .0)
 
 same-length-3 : tie.Need-same-length-3
@@ -152,7 +160,8 @@ returns-3 c =
     let x = y .before .before .before .before .before .before .before in
     let z = x .before .before .before .before .before .before .before .before in
     let a = z .args in
-    at-done (now (a .segment)) (now (a .inventory)) _ (a .size) (length-fit (a .size) (now (a .bytes))) (a .p) (z .pre .1 .0) (sound-here (x .before .before)) _ (written-here y) _ _ (place-here (y .before .before)) _ (c .before .before .update-on .ensures)
+    at-done (now (a .segment)) (now (a .inventory)) _ (a .size) (length-fit (a .size) (now (a .bytes))) (a .p) (z .pre .1 .0)
+    (sound-here (x .before .before)) _ (written-here y) _ _ (place-here (y .before .before)) _ (c .before .before .update-on .ensures)
 
 pub insert-at-spec : {M : Type 1} → statement M
 insert-at-spec =

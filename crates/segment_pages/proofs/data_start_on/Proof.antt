@@ -1,4 +1,4 @@
--- `segment_pages::data_start_on` meets its contract. Assumes nothing.
+-- `segment_pages::data_start_on` meets its contract.
 use mathlib.Core.Path.{ap, _∙_}
 use mathlib.Core.List.{List}
 use Prim.Native.Nat.{ℕ}
@@ -8,9 +8,6 @@ use Rattle.store.specs.Laws.Segments.{lent-part}
 use borrow.Author.Needs.{needs}
 use Rattle.segment_pages.proofs.data_start_on.Statement.{statement}
 use Rattle.segment_pages.proofs.data_start_on.Tie as tie
-use Rattle.segment_pages.proofs.data_start_on.Reads as reads
-use Rattle.segment_pages.proofs.data_start_on.Lts as lts
-use Rattle.layout.proofs.header.get_data_start.Reads as get-data-start-reads
 
 mul-get-data-start : tie.Need-mul-get-data-start
 mul-get-data-start c = search needs

@@ -1,4 +1,4 @@
--- `segment_pages::free_space_on` meets its contract. Assumes nothing.
+-- `segment_pages::free_space_on` meets its contract.
 use mathlib.Core.Path.{ap, _∙_}
 use mathlib.Core.List.{List}
 use Prim.Native.Nat.{ℕ}
@@ -8,9 +8,6 @@ use Rattle.store.specs.Laws.Segments.{lent-part}
 use borrow.Author.Needs.{needs}
 use Rattle.segment_pages.proofs.free_space_on.Statement.{statement}
 use Rattle.segment_pages.proofs.free_space_on.Tie as tie
-use Rattle.segment_pages.proofs.free_space_on.Reads as reads
-use Rattle.segment_pages.proofs.free_space_on.Lts as lts
-use Rattle.layout.proofs.header.get_free_space.Reads as get-free-space-reads
 
 mul-get-free-space : tie.Need-mul-get-free-space
 mul-get-free-space c = search needs

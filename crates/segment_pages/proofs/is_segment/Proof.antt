@@ -1,9 +1,7 @@
--- `segment_pages::is_segment` meets its contract. Assumes nothing.
+-- `segment_pages::is_segment` meets its contract.
 use borrow.Author.Tests.{eq-eqb, ne-eqb}
 use Rattle.segment_pages.proofs.is_segment.Statement.{statement}
 use Rattle.segment_pages.proofs.is_segment.Tie as tie
-use Rattle.segment_pages.proofs.is_segment.Reads as reads
-use Rattle.segment_pages.proofs.is_segment.Lts as lts
 
 returns : tie.Need-returns
 returns c = rw (ne-eqb _ _ (c .if1 .taken))

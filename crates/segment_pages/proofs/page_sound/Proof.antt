@@ -1,4 +1,4 @@
--- `segment_pages::page_sound` meets its contract. Assumes nothing.
+-- `segment_pages::page_sound` meets its contract.
 use mathlib.Core.Path.{_≡_, sym, ap, _∙_}
 use mathlib.Core.List.{List}
 use Prim.Native.Nat.{ℕ}
@@ -10,9 +10,6 @@ use Rattle.segment_pages.proofs.Seen.{seen-sound}
 use borrow.Author.Needs.{needs}
 use Rattle.segment_pages.proofs.page_sound.Statement.{statement}
 use Rattle.segment_pages.proofs.page_sound.Tie as tie
-use Rattle.segment_pages.proofs.page_sound.Reads as reads
-use Rattle.segment_pages.proofs.page_sound.Lts as lts
-use Rattle.page_check.proofs.is_sound.Reads as is-sound-reads
 
 mul-is-sound : tie.Need-mul-is-sound
 mul-is-sound c = search needs

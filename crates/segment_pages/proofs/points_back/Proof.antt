@@ -1,4 +1,4 @@
--- `segment_pages::points_back` meets its contract. Assumes nothing.
+-- `segment_pages::points_back` meets its contract.
 use Prim.Native.Nat.{_/_, _<_}
 use mathlib.Core.Logic.{_≢_}
 use lib.ListN.{length}
@@ -15,11 +15,6 @@ use Rattle.segment_pages.proofs.Back.{back-past, back-home, back-damage
 use borrow.Author.Needs.{needs}
 use Rattle.segment_pages.proofs.points_back.Statement.{statement}
 use Rattle.segment_pages.proofs.points_back.Tie as tie
-use Rattle.segment_pages.proofs.points_back.Reads as reads
-use Rattle.segment_pages.proofs.points_back.Lts as lts
-use Rattle.segment_pages.proofs.back_id_on.Reads as back-id-on-reads
-use Rattle.segment_pages.proofs.page_sound.Reads as page-sound-reads
-use Rattle.segment_pages.proofs.slot_on.Reads as slot-on-reads
 
 -- what the tests before the `match` told
 at-slot : (c : tie.After-slot-on)
@@ -95,7 +90,8 @@ returns-7 c =
     let m = c .before .before .before .before in
     let a = m .before .before .before .before .before .before .args in
     let w = at-slot m in
-    back-target (now (a .segment)) (a .i) (a .t) (w .0) (w .1) (w .2) _ _ (sym (c .before .before .s .given .1) ∙ m .slot-on .ensures .0) _ (c .back-id-on .ensures)
+    back-target (now (a .segment)) (a .i) (a .t) (w .0) (w .1) (w .2) _ _ (sym (c .before .before .s .given .1) ∙ m .slot-on .ensures .0) _
+    (c .back-id-on .ensures)
 
 pub points-back-spec : {M : Type 1} → statement M
 points-back-spec =

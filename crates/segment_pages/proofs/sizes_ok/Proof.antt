@@ -1,13 +1,10 @@
--- `segment_pages::sizes_ok` meets its contract. Assumes nothing.
+-- `segment_pages::sizes_ok` meets its contract.
 use mathlib.Core.Path.{_≡_}
 use mathlib.Core.Bool.{true, false}
 use borrow.Author.Tests.{not-true, not-false}
 use borrow.Author.Needs.{needs}
 use Rattle.segment_pages.proofs.sizes_ok.Statement.{statement}
 use Rattle.segment_pages.proofs.sizes_ok.Tie as tie
-use Rattle.segment_pages.proofs.sizes_ok.Reads as reads
-use Rattle.segment_pages.proofs.sizes_ok.Lts as lts
-use Rattle.segment_pages.proofs.is_segment.Reads as is-segment-reads
 
 is-segment-requires : tie.Need-is-segment-requires
 is-segment-requires c κs = search needs

@@ -1,4 +1,4 @@
--- `segment_pages::slot_count_on` meets its contract. Assumes nothing.
+-- `segment_pages::slot_count_on` meets its contract.
 use mathlib.Core.Path.{sym, ap, _∙_}
 use mathlib.Core.List.{List}
 use Prim.Native.Nat.{ℕ}
@@ -9,9 +9,6 @@ use Rattle.segment_pages.proofs.Seen.{seen-count}
 use borrow.Author.Needs.{needs}
 use Rattle.segment_pages.proofs.slot_count_on.Statement.{statement}
 use Rattle.segment_pages.proofs.slot_count_on.Tie as tie
-use Rattle.segment_pages.proofs.slot_count_on.Reads as reads
-use Rattle.segment_pages.proofs.slot_count_on.Lts as lts
-use Rattle.layout.proofs.header.get_slot_count.Reads as get-slot-count-reads
 
 mul-get-slot-count : tie.Need-mul-get-slot-count
 mul-get-slot-count c = search needs
@@ -37,8 +34,10 @@ get-slot-count-requires c κs = search needs
 returns : tie.Need-returns
 returns c =
     let a = c .before .before .before in
-    let s = now (a .args .segment) in
-    (c .get-slot-count .ensures .0 ∙ ap (λ (q : List ℕ). view q .slotCount) (lent-part s (a .args .p)) ∙ sym (seen-count s (a .args .p) (a .pre)), c .get-slot-count .ensures .1)
+    let s = now (a .args .segment) in (
+      c .get-slot-count .ensures .0 ∙ ap (λ (q : List ℕ). view q .slotCount) (lent-part s (a .args .p)) ∙ sym (seen-count s (a .args .p) (a .pre)),
+      c .get-slot-count .ensures .1,
+    )
 
 pub slot-count-on-spec : {M : Type 1} → statement M
 slot-count-on-spec =

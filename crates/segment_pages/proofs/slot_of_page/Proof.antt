@@ -1,4 +1,4 @@
--- `segment_pages::slot_of_page` meets its contract. Assumes nothing.
+-- `segment_pages::slot_of_page` meets its contract.
 use Rattle.store.specs.Page.{view}
 use Prim.Native.Nat.{ℕ, _+_, _*_, _≤_}
 use native.Mathlib.Omega.{arith}
@@ -9,11 +9,6 @@ use Rattle.segment_pages.proofs.Short.{at-past, at-short}
 use borrow.Author.Needs.{needs}
 use Rattle.segment_pages.proofs.slot_of_page.Statement.{statement}
 use Rattle.segment_pages.proofs.slot_of_page.Tie as tie
-use Rattle.segment_pages.proofs.slot_of_page.Reads as reads
-use Rattle.segment_pages.proofs.slot_of_page.Lts as lts
-use Rattle.layout.proofs.get_u32.Reads as get-u32-reads
-use Rattle.layout.proofs.header.get_slot_count.Reads as get-slot-count-reads
-use Rattle.layout.proofs.slots.get_slot.Reads as get-slot-reads
 
 get-slot-count-requires : tie.Need-get-slot-count-requires
 get-slot-count-requires c κs = search needs
@@ -41,8 +36,10 @@ returns-3 c =
     let k = a .args .k in
     let g = c .before .before .before .before .get-slot-count .ensures .0 in
     let q : 16380 ≡ 12 + 8 * k = omega arith in
-    let e : c .get-u32 .result ≡ be (cut p (12 + 8 * k) 4) = c .get-u32 .ensures .is ∙ ap (λ (i : ℕ). be (cut p i 4)) q in
-    (at-short p k (a .pre) (omega (arith, g)) 4 (omega arith) (omega arith) (c .get-u32 .result) e (c .get-u32 .ensures .small), (omega arith, c .get-u32 .ensures .small))
+    let e : c .get-u32 .result ≡ be (cut p (12 + 8 * k) 4) = c .get-u32 .ensures .is ∙ ap (λ (i : ℕ). be (cut p i 4)) q in (
+      at-short p k (a .pre) (omega (arith, g)) 4 (omega arith) (omega arith) (c .get-u32 .result) e (c .get-u32 .ensures .small),
+      (omega arith, c .get-u32 .ensures .small),
+    )
 
 returns-4 : tie.Need-returns-4
 returns-4 c =

@@ -1,4 +1,4 @@
--- `segment_pages::slot_on` meets its contract. Assumes nothing.
+-- `segment_pages::slot_on` meets its contract.
 use mathlib.Core.Path.{sym, ap, _∙_}
 use mathlib.Core.List.{List}
 use Prim.Native.Nat.{ℕ}
@@ -9,9 +9,6 @@ use Rattle.segment_pages.proofs.Seen.{seen-at}
 use borrow.Author.Needs.{needs}
 use Rattle.segment_pages.proofs.slot_on.Statement.{statement}
 use Rattle.segment_pages.proofs.slot_on.Tie as tie
-use Rattle.segment_pages.proofs.slot_on.Reads as reads
-use Rattle.segment_pages.proofs.slot_on.Lts as lts
-use Rattle.segment_pages.proofs.slot_of_page.Reads as slot-of-page-reads
 
 mul-slot-of-page : tie.Need-mul-slot-of-page
 mul-slot-of-page c = search needs
@@ -38,8 +35,10 @@ returns : tie.Need-returns
 returns c =
     let a = c .before .before .before in
     let s = now (a .args .segment) in
-    let k = a .args .k in
-    (c .slot-of-page .ensures .0 ∙ ap (λ (q : List ℕ). view q .at k) (lent-part s (a .args .p)) ∙ sym (seen-at s (a .args .p) (a .pre) k), c .slot-of-page .ensures .1)
+    let k = a .args .k in (
+      c .slot-of-page .ensures .0 ∙ ap (λ (q : List ℕ). view q .at k) (lent-part s (a .args .p)) ∙ sym (seen-at s (a .args .p) (a .pre) k),
+      c .slot-of-page .ensures .1,
+    )
 
 pub slot-on-spec : {M : Type 1} → statement M
 slot-on-spec =

@@ -1,4 +1,4 @@
--- `segment_read::find_record` meets its contract. Assumes nothing.
+-- `segment_read::find_record` meets its contract.
 use mathlib.Core.Path.{_≡_, sym, _∙_}
 use mathlib.Core.Bool.{true, false}
 use native.Mathlib.Omega.{arith}
@@ -8,12 +8,6 @@ use Rattle.segment_read.proofs.Locate.{locate-size, locate-page, locate
 use borrow.Author.Needs.{needs}
 use Rattle.segment_read.proofs.find_record.Statement.{statement}
 use Rattle.segment_read.proofs.find_record.Tie as tie
-use Rattle.segment_read.proofs.find_record.Reads as reads
-use Rattle.segment_read.proofs.find_record.Lts as lts
-use Rattle.segment_pages.proofs.is_segment.Reads as is-segment-reads
-use Rattle.segment_pages.proofs.page_sound.Reads as page-sound-reads
-use Rattle.segment_pages.proofs.slot_on.Reads as slot-on-reads
-use Rattle.segment_read.proofs.read_slot.Reads as read-slot-reads
 
 is-segment-requires : tie.Need-is-segment-requires
 is-segment-requires c κs = search needs
@@ -58,7 +52,8 @@ returns-4 c =
     let a = m .before .before .args in
     let e : m .is-segment .result ≡ true = not-false _ (g .before .before .if1 .left) in
     let f : g .page-sound .result ≡ true = not-false _ (c .before .before .if3 .left) in
-    c .read-slot .ensures ∙ locate-slot (now (a .segment)) (a .id) (sym (m .is-segment .ensures) ∙ e) (g .before .if2 .left) (sym (g .page-sound .ensures .0) ∙ f) _ (c .before .slot-on .ensures .0)
+    c .read-slot .ensures ∙ locate-slot (now (a .segment)) (a .id) (sym (m .is-segment .ensures) ∙ e) (g .before .if2 .left)
+    (sym (g .page-sound .ensures .0) ∙ f) _ (c .before .slot-on .ensures .0)
 
 pub find-record-spec : {M : Type 1} → statement M
 find-record-spec =

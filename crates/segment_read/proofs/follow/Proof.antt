@@ -1,4 +1,4 @@
--- `segment_read::follow` meets its contract. Assumes nothing.
+-- `segment_read::follow` meets its contract.
 use Prim.Native.Nat.{_<_, _^_}
 use mathlib.Core.Path.{_≡_, sym, _∙_}
 use mathlib.Core.Bool.{true, false}
@@ -12,11 +12,6 @@ use Rattle.segment_read.proofs.Locate.{not-target, follow-none, follow-
 use borrow.Author.Needs.{needs}
 use Rattle.segment_read.proofs.follow.Statement.{statement}
 use Rattle.segment_read.proofs.follow.Tie as tie
-use Rattle.segment_read.proofs.follow.Reads as reads
-use Rattle.segment_read.proofs.follow.Lts as lts
-use Rattle.segment_pages.proofs.points_back.Reads as points-back-reads
-use Rattle.segment_pages.proofs.slot_on.Reads as slot-on-reads
-use Rattle.segment_read.proofs.target_part.Reads as target-part-reads
 
 points : (c : tie.Else1) → let a = c .before .before .before .args in pointsBack (segView (now (a .segment))) (a .i) (a .t) ≡ true
 points c = let e : c .before .points-back .result ≡ true = not-false _ (c .if1 .left) in sym (c .before .points-back .ensures) ∙ e
@@ -48,7 +43,8 @@ target-part-requires : tie.Need-target-part-requires
 target-part-requires c κs =
     let m = c .before .before .before in
     let a = m .before .before .before .before in
-    let w = target-inside (now (a .args .segment)) (a .args .i) (a .args .t) (points (m .before)) _ (m .slot-on .ensures .0) _ _ (c .before .offset .given .1) in
+    let w = target-inside (now (a .args .segment)) (a .args .i) (a .args .t) (points (m .before)) _ (m .slot-on .ensures .0) _ _
+    (c .before .offset .given .1) in
     let b : pageNo (a .args .t) < 2 ^ 48 = omega (arith, a .fits .t .fits) in
     (b, w .0, w .1)
 
@@ -56,7 +52,8 @@ returns-3 : tie.Need-returns-3
 returns-3 c =
     let m = c .before .before .before .before in
     let a = m .before .before .before .before .args in
-    c .target-part .ensures ∙ follow-target (now (a .segment)) (a .i) (a .t) (points (m .before)) _ (m .slot-on .ensures .0) _ _ (c .before .before .offset .given .1)
+    c .target-part .ensures ∙ follow-target (now (a .segment)) (a .i) (a .t) (points (m .before)) _ (m .slot-on .ensures .0) _ _
+    (c .before .before .offset .given .1)
 
 pub follow-spec : {M : Type 1} → statement M
 follow-spec =

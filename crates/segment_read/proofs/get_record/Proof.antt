@@ -1,4 +1,4 @@
--- `segment_read::get_record` meets its contract. Assumes nothing.
+-- `segment_read::get_record` meets its contract.
 use Prim.Native.Nat.{_+_, _≤_}
 use native.Mathlib.Omega.{arith}
 use lib.ListN.{length}
@@ -7,10 +7,6 @@ use Rattle.segment_read.proofs.Locate.{read-part, read-nothing, read-in
 use borrow.Author.Needs.{needs}
 use Rattle.segment_read.proofs.get_record.Statement.{statement}
 use Rattle.segment_read.proofs.get_record.Tie as tie
-use Rattle.segment_read.proofs.get_record.Reads as reads
-use Rattle.segment_read.proofs.get_record.Lts as lts
-use Rattle.segment_read.proofs.find_record.Reads as find-record-reads
-use Rattle.segment_read.proofs.reading_no.Reads as reading-no-reads
 
 inside : (c : tie.After-known-told)
     → let x = c .before .found .given .0 in
@@ -18,7 +14,8 @@ inside : (c : tie.After-known-told)
 inside c =
     let m = c .before .before .before in
     let a = m .before .before .before .args in
-    read-inside (now (a .segment)) (a .id) (m .before .find-record .result) (m .before .find-record .ensures) _ (m .reading-no .ensures) _ _ (c .before .found .given .1)
+    read-inside (now (a .segment)) (a .id) (m .before .find-record .result) (m .before .find-record .ensures) _ (m .reading-no .ensures) _ _
+    (c .before .found .given .1)
 
 find-record-requires : tie.Need-find-record-requires
 find-record-requires c κs = search needs
@@ -36,7 +33,8 @@ returns : tie.Need-returns
 returns c =
     let m = c .before .before in
     let a = m .before .before .before .args in
-    read-nothing (now (a .segment)) (a .id) (m .before .find-record .result) (m .before .find-record .ensures) _ (m .reading-no .ensures) (c .before .match .keys2)
+    read-nothing (now (a .segment)) (a .id) (m .before .find-record .result) (m .before .find-record .ensures) _ (m .reading-no .ensures)
+    (c .before .match .keys2)
 
 add-result : tie.Need-add-result
 add-result c = omega (arith, inside c)
@@ -54,7 +52,8 @@ returns-2 : tie.Need-returns-2
 returns-2 c =
     let m = c .before .before .before .before in
     let a = m .before .before .before .args in
-    read-part (now (a .segment)) (a .id) (m .before .find-record .result) (m .before .find-record .ensures) _ (m .reading-no .ensures) _ _ (c .before .before .found .given .1)
+    read-part (now (a .segment)) (a .id) (m .before .find-record .result) (m .before .find-record .ensures) _ (m .reading-no .ensures) _ _
+    (c .before .before .found .given .1)
 
 pub get-record-spec : {M : Type 1} → statement M
 get-record-spec =

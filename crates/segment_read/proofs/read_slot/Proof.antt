@@ -1,4 +1,4 @@
--- `segment_read::read_slot` meets its contract. Assumes nothing.
+-- `segment_read::read_slot` meets its contract.
 use Prim.Native.Nat.{_<_, _^_}
 use mathlib.Core.Path.{refl, sym, _∙_}
 use native.Mathlib.Omega.{arith}
@@ -9,10 +9,6 @@ use Rattle.segment_read.specs.Parts.{locateBy}
 use borrow.Author.Needs.{needs}
 use Rattle.segment_read.proofs.read_slot.Statement.{statement}
 use Rattle.segment_read.proofs.read_slot.Tie as tie
-use Rattle.segment_read.proofs.read_slot.Reads as reads
-use Rattle.segment_read.proofs.read_slot.Lts as lts
-use Rattle.segment_read.proofs.follow.Reads as follow-reads
-use Rattle.segment_read.proofs.target_part.Reads as target-part-reads
 
 enum-known-s : tie.Need-enum-known-s
 enum-known-s c = search needs
@@ -23,7 +19,8 @@ mul-t11 c = search needs
 add-t12 : tie.Need-add-t12
 add-t12 c =
     let a = c .before .before .before .before in
-    let h = slot-high (now (a .args .segment)) (pageNo (a .args .i)) (a .pre .0) (a .pre .1) (slotNo (a .args .i)) _ (sym (a .pre .2) ∙ c .before .s .given .1) in
+    let h = slot-high (now (a .args .segment)) (pageNo (a .args .i)) (a .pre .0) (a .pre .1) (slotNo (a .args .i)) _
+    (sym (a .pre .2) ∙ c .before .s .given .1) in
     omega arith
 
 enum-told : tie.Need-enum-told

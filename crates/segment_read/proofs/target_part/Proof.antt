@@ -1,10 +1,8 @@
--- `segment_read::target_part` meets its contract. Assumes nothing.
+-- `segment_read::target_part` meets its contract.
 use mathlib.Core.Path.{refl}
 use borrow.Author.Needs.{needs}
 use Rattle.segment_read.proofs.target_part.Statement.{statement}
 use Rattle.segment_read.proofs.target_part.Tie as tie
-use Rattle.segment_read.proofs.target_part.Reads as reads
-use Rattle.segment_read.proofs.target_part.Lts as lts
 
 mul-t4 : tie.Need-mul-t4
 mul-t4 c = search needs

@@ -1,4 +1,4 @@
--- `segment_scan::damaged_on_reaching` meets its contract. Assumes nothing.
+-- `segment_scan::damaged_on_reaching` meets its contract.
 use lib.Dec.{eqb}
 use mathlib.Core.Path.{_≡_, ap}
 use mathlib.Core.Bool.{true, false, not}
@@ -6,9 +6,6 @@ use borrow.Author.Tests.{eq-eqb, ne-eqb}
 use borrow.Author.Needs.{needs}
 use Rattle.segment_scan.proofs.damaged_on_reaching.Statement.{statement}
 use Rattle.segment_scan.proofs.damaged_on_reaching.Tie as tie
-use Rattle.segment_scan.proofs.damaged_on_reaching.Reads as reads
-use Rattle.segment_scan.proofs.damaged_on_reaching.Lts as lts
-use Rattle.segment_pages.proofs.page_sound.Reads as page-sound-reads
 
 returns : tie.Need-returns
 returns c =

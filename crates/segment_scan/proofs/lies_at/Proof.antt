@@ -1,11 +1,9 @@
--- `segment_scan::lies_at` meets its contract. Assumes nothing.
+-- `segment_scan::lies_at` meets its contract.
 use borrow.Author.Tests.{le-leb, lt-leb, eq-eqb, ne-eqb}
 use Rattle.segment_scan.specs.Pages.{liesAt}
 use borrow.Author.Needs.{needs}
 use Rattle.segment_scan.proofs.lies_at.Statement.{statement}
 use Rattle.segment_scan.proofs.lies_at.Tie as tie
-use Rattle.segment_scan.proofs.lies_at.Reads as reads
-use Rattle.segment_scan.proofs.lies_at.Lts as lts
 
 returns : tie.Need-returns
 unfolding liesAt

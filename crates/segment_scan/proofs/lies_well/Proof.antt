@@ -1,4 +1,4 @@
--- `segment_scan::lies_well` meets its contract. Assumes nothing.
+-- `segment_scan::lies_well` meets its contract.
 use mathlib.Core.Path.{_≡_, sym, _∙_}
 use mathlib.Core.Bool.{true, false}
 use native.Mathlib.Omega.{arith}
@@ -7,12 +7,6 @@ use Rattle.segment_scan.proofs.Records.{codable-position, well-no, well
 use borrow.Author.Needs.{needs}
 use Rattle.segment_scan.proofs.lies_well.Statement.{statement}
 use Rattle.segment_scan.proofs.lies_well.Tie as tie
-use Rattle.segment_scan.proofs.lies_well.Reads as reads
-use Rattle.segment_scan.proofs.lies_well.Lts as lts
-use Rattle.layout.proofs.slots.len_of.Reads as len-of-reads
-use Rattle.layout.proofs.slots.off_of.Reads as off-of-reads
-use Rattle.layout.proofs.slots.is_target.Reads as is-target-reads
-use Rattle.segment_scan.proofs.lies_at.Reads as lies-at-reads
 
 off-of-requires : tie.Need-off-of-requires
 off-of-requires c κs = search needs

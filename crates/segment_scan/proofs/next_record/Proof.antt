@@ -1,4 +1,4 @@
--- `segment_scan::next_record` meets its contract. Assumes nothing.
+-- `segment_scan::next_record` meets its contract.
 use Prim.Native.Nat.{_-_}
 use mathlib.Core.Path.{_≡_, refl, sym, ap, _∙_}
 use denote.Ref.{now}
@@ -9,10 +9,6 @@ use Rattle.store.specs.Scan.{nextRecord}
 use Rattle.segment_scan.proofs.Positions.{next-here, next-turn, next-done}
 use Rattle.segment_scan.proofs.next_record.Statement.{statement}
 use Rattle.segment_scan.proofs.next_record.Tie as tie
-use Rattle.segment_scan.proofs.next_record.Reads as reads
-use Rattle.segment_scan.proofs.next_record.Lts as lts
-use Rattle.segment_pages.proofs.slot_on.Reads as slot-on-reads
-use Rattle.layout.proofs.slots.is_record.Reads as is-record-reads
 
 abbrev Inv-loop : tie.InvT-loop
 Inv-loop segment p k n j₀ j = nextRecord (n - j) (segView segment .page p) j ≡ nextRecord (n - k) (segView segment .page p) k

@@ -1,4 +1,4 @@
--- `segment_scan::record_at` meets its contract. Assumes nothing.
+-- `segment_scan::record_at` meets its contract.
 use Prim.Native.Nat.{_+_, _≤_}
 use mathlib.Core.Path.{sym, _∙_}
 use native.Mathlib.Omega.{arith}
@@ -7,23 +7,19 @@ use Rattle.segment_scan.proofs.Records.{record-plain, record-target, re
 use borrow.Author.Needs.{needs}
 use Rattle.segment_scan.proofs.record_at.Statement.{statement}
 use Rattle.segment_scan.proofs.record_at.Tie as tie
-use Rattle.segment_scan.proofs.record_at.Reads as reads
-use Rattle.segment_scan.proofs.record_at.Lts as lts
-use Rattle.layout.proofs.slots.len_of.Reads as len-of-reads
-use Rattle.layout.proofs.slots.off_of.Reads as off-of-reads
-use Rattle.segment_pages.proofs.back_id_on.Reads as back-id-on-reads
-use Rattle.layout.proofs.slots.is_target.Reads as is-target-reads
 
 high : (c : tie.After-is-target) → c .before .before .off-of .result + c .before .len-of .result ≤ 16384
 high c =
     let a = c .before .before .before .before in
-    record-high (now (a .args .segment)) (a .args .p) (a .args .k) (a .pre .1 .2) _ (a .pre .1 .0) _ _ (c .before .before .off-of .ensures) (c .before .len-of .ensures)
+    record-high (now (a .args .segment)) (a .args .p) (a .args .k) (a .pre .1 .2) _ (a .pre .1 .0) _ _ (c .before .before .off-of .ensures)
+    (c .before .len-of .ensures)
 
 long : (c : tie.Then1) → 8 ≤ c .before .before .len-of .result
 long c =
     let m = c .before in
     let a = m .before .before .before .before in
-    record-long (now (a .args .segment)) (a .args .p) (a .args .k) (a .pre .1 .2) _ (a .pre .1 .0) _ _ (m .before .before .off-of .ensures) (m .before .len-of .ensures)
+    record-long (now (a .args .segment)) (a .args .p) (a .args .k) (a .pre .1 .2) _ (a .pre .1 .0) _ _ (m .before .before .off-of .ensures)
+    (m .before .len-of .ensures)
     (sym (m .is-target .ensures) ∙ c .if1 .taken)
 
 off-of-requires : tie.Need-off-of-requires
@@ -63,7 +59,8 @@ returns : tie.Need-returns
 returns c =
     let m = c .before .before in
     let a = m .before .before .before .before in
-    record-target (now (a .args .segment)) (a .args .p) (a .args .k) (a .pre .1 .2) _ (a .pre .1 .0) _ _ (m .before .before .off-of .ensures) (m .before .len-of .ensures)
+    record-target (now (a .args .segment)) (a .args .p) (a .args .k) (a .pre .1 .2) _ (a .pre .1 .0) _ _ (m .before .before .off-of .ensures)
+    (m .before .len-of .ensures)
     (sym (m .is-target .ensures) ∙ c .before .if1 .taken) _ (c .back-id-on .ensures)
 
 mul-t9 : tie.Need-mul-t9
@@ -79,7 +76,8 @@ returns-2 : tie.Need-returns-2
 returns-2 c =
     let m = c .before in
     let a = m .before .before .before .before in
-    record-plain (now (a .args .segment)) (a .args .p) (a .args .k) (a .pre .1 .2) _ (a .pre .1 .0) _ _ (m .before .before .off-of .ensures) (m .before .len-of .ensures)
+    record-plain (now (a .args .segment)) (a .args .p) (a .args .k) (a .pre .1 .2) _ (a .pre .1 .0) _ _ (m .before .before .off-of .ensures)
+    (m .before .len-of .ensures)
     (a .pre .1 .1) (sym (m .is-target .ensures) ∙ c .if1 .left)
 
 pub record-at-spec : {M : Type 1} → statement M

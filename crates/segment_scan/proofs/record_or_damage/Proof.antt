@@ -1,4 +1,4 @@
--- `segment_scan::record_or_damage` meets its contract. Assumes nothing.
+-- `segment_scan::record_or_damage` meets its contract.
 use mathlib.Core.Path.{_≡_, sym, ap, _∙_}
 use mathlib.Core.Bool.{true, false}
 use denote.Ref.{now}
@@ -10,19 +10,14 @@ use Rattle.segment_scan.proofs.Records.{lies-seen, record-no, record-ye
 use borrow.Author.Needs.{needs}
 use Rattle.segment_scan.proofs.record_or_damage.Statement.{statement}
 use Rattle.segment_scan.proofs.record_or_damage.Tie as tie
-use Rattle.segment_scan.proofs.record_or_damage.Reads as reads
-use Rattle.segment_scan.proofs.record_or_damage.Lts as lts
-use Rattle.segment_pages.proofs.data_start_on.Reads as data-start-on-reads
-use Rattle.segment_pages.proofs.slot_on.Reads as slot-on-reads
-use Rattle.segment_scan.proofs.lies_well.Reads as lies-well-reads
-use Rattle.segment_scan.proofs.record_at.Reads as record-at-reads
 
 lies : (c : tie.After-lies-well) → let a = c .before .before .before .before .args in
     c .lies-well .result ≡ liesWell (segView (now (a .segment)) .page (a .p)) (a .k)
 lies c =
     let m = c .before .before in
     let a = m .before .before in
-    c .lies-well .ensures ∙ lies-seen (now (a .args .segment)) (a .args .p) (a .args .k) _ _ (a .pre .1) (c .before .data-start-on .ensures) (m .slot-on .ensures .0)
+    c .lies-well .ensures ∙ lies-seen (now (a .args .segment)) (a .args .p) (a .args .k) _ _ (a .pre .1) (c .before .data-start-on .ensures)
+    (m .slot-on .ensures .0)
 
 slot-on-requires : tie.Need-slot-on-requires
 slot-on-requires c κs = search needs

@@ -1,4 +1,4 @@
--- `segment_scan::scan_page` meets its contract. Assumes nothing.
+-- `segment_scan::scan_page` meets its contract.
 use mathlib.Core.Path.{sym, _∙_}
 use native.Mathlib.Omega.{arith}
 use denote.Ref.{now}
@@ -8,12 +8,6 @@ use Rattle.segment_scan.proofs.Positions.{next-is, page-damaged, page-n
 use borrow.Author.Needs.{needs}
 use Rattle.segment_scan.proofs.scan_page.Statement.{statement}
 use Rattle.segment_scan.proofs.scan_page.Tie as tie
-use Rattle.segment_scan.proofs.scan_page.Reads as reads
-use Rattle.segment_scan.proofs.scan_page.Lts as lts
-use Rattle.segment_pages.proofs.slot_count_on.Reads as slot-count-on-reads
-use Rattle.segment_scan.proofs.damaged_on_reaching.Reads as damaged-on-reaching-reads
-use Rattle.segment_scan.proofs.next_record.Reads as next-record-reads
-use Rattle.segment_scan.proofs.record_or_damage.Reads as record-or-damage-reads
 
 damaged-on-reaching-requires : tie.Need-damaged-on-reaching-requires
 damaged-on-reaching-requires c κs = search needs
@@ -21,7 +15,8 @@ damaged-on-reaching-requires c κs = search needs
 returns : tie.Need-returns
 returns c =
     let a = c .before .before .before .args in
-    λ d. page-damaged (now (a .segment)) (segView (now (a .segment)) .page (a .p)) (a .p) (a .k) d (sym (c .before .damaged-on-reaching .ensures) ∙ c .if1 .taken)
+    λ d. page-damaged (now (a .segment)) (segView (now (a .segment)) .page (a .p)) (a .p) (a .k) d
+    (sym (c .before .damaged-on-reaching .ensures) ∙ c .if1 .taken)
 
 slot-count-on-requires : tie.Need-slot-count-on-requires
 slot-count-on-requires c κs = search needs
@@ -37,7 +32,8 @@ returns-2 c =
     let m = c .before .before in
     let t = m .before .before in
     let a = t .before .before .args in
-    λ d. page-none (now (a .segment)) (segView (now (a .segment)) .page (a .p)) (a .p) (a .k) d _ _ (sym (t .damaged-on-reaching .ensures) ∙ m .before .if1 .left)
+    λ d. page-none (now (a .segment)) (segView (now (a .segment)) .page (a .p)) (a .p) (a .k) d _ _
+    (sym (t .damaged-on-reaching .ensures) ∙ m .before .if1 .left)
     (m .slot-count-on .ensures .0) (c .before .next-record .ensures) (c .if2 .taken) _ _
 
 record-or-damage-requires : tie.Need-record-or-damage-requires

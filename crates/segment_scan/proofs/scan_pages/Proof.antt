@@ -1,4 +1,4 @@
--- `segment_scan::scan_pages` meets its contract. Assumes nothing.
+-- `segment_scan::scan_pages` meets its contract.
 use Prim.Native.Nat.{_+_, _-_, _/_}
 use mathlib.Core.Path.{_≡_, refl, sym, _∙_}
 use mathlib.Core.Bool.{true, false}
@@ -11,10 +11,6 @@ use Rattle.store.specs.Scan.{scanFrom}
 use Rattle.segment_scan.proofs.Positions.{later-no, later-yes, from-turn, from-done, plan-from}
 use Rattle.segment_scan.proofs.scan_pages.Statement.{statement}
 use Rattle.segment_scan.proofs.scan_pages.Tie as tie
-use Rattle.segment_scan.proofs.scan_pages.Reads as reads
-use Rattle.segment_scan.proofs.scan_pages.Lts as lts
-use Rattle.segment_scan.proofs.is_end.Reads as is-end-reads
-use Rattle.segment_scan.proofs.scan_page.Reads as scan-page-reads
 
 abbrev Inv-loop : tie.InvT-loop
 Inv-loop segment page slot n p₀ k₀ p k = scanFrom (n - p) (segView segment) p k ≡ scanFrom (n - page) (segView segment) page slot

@@ -1,4 +1,4 @@
--- `segment_scan::scan_step` meets its contract. Assumes nothing.
+-- `segment_scan::scan_step` meets its contract.
 use mathlib.Core.Path.{_≡_, sym, _∙_}
 use mathlib.Core.Bool.{true, false}
 use denote.Ref.{now}
@@ -8,10 +8,6 @@ use Rattle.segment_scan.proofs.Positions.{step-over, step-size, step-pl
 use borrow.Author.Needs.{needs}
 use Rattle.segment_scan.proofs.scan_step.Statement.{statement}
 use Rattle.segment_scan.proofs.scan_step.Tie as tie
-use Rattle.segment_scan.proofs.scan_step.Reads as reads
-use Rattle.segment_scan.proofs.scan_step.Lts as lts
-use Rattle.segment_pages.proofs.is_segment.Reads as is-segment-reads
-use Rattle.segment_scan.proofs.scan_pages.Reads as scan-pages-reads
 
 returns : tie.Need-returns
 returns c =

@@ -1,4 +1,4 @@
--- `segment_steps::allocate_on` meets its contract. Assumes nothing.
+-- `segment_steps::allocate_on` meets its contract.
 use denote.Ref.{now}
 use mathlib.Core.Path.{sym}
 use mathlib.Core.List.{List}
@@ -11,9 +11,6 @@ use Rattle.segment_steps.specs.Lent.{length-bare, lent-whole, lent-sound
 use borrow.Author.Needs.{needs}
 use Rattle.segment_steps.proofs.allocate_on.Statement.{statement}
 use Rattle.segment_steps.proofs.allocate_on.Tie as tie
-use Rattle.segment_steps.proofs.allocate_on.Reads as reads
-use Rattle.segment_steps.proofs.allocate_on.Lts as lts
-use Rattle.slotted_page.proofs.allocate.allocate.Reads as allocate-reads
 
 mul-allocate : tie.Need-mul-allocate
 mul-allocate c = search needs

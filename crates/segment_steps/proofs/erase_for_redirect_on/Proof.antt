@@ -1,4 +1,4 @@
--- `segment_steps::erase_for_redirect_on` meets its contract. Assumes nothing.
+-- `segment_steps::erase_for_redirect_on` meets its contract.
 use denote.Ref.{now}
 use Rattle.store.specs.Page.{View, view}
 use Rattle.store.specs.PageSteps.{eraseForRedirect}
@@ -7,9 +7,6 @@ use Rattle.segment_steps.specs.Lent.{lent-taken, lent-plan}
 use borrow.Author.Needs.{needs}
 use Rattle.segment_steps.proofs.erase_for_redirect_on.Statement.{statement}
 use Rattle.segment_steps.proofs.erase_for_redirect_on.Tie as tie
-use Rattle.segment_steps.proofs.erase_for_redirect_on.Reads as reads
-use Rattle.segment_steps.proofs.erase_for_redirect_on.Lts as lts
-use Rattle.slotted_page.proofs.erase.erase_for_redirect.Reads as erase-for-redirect-reads
 
 mul-erase-for-redirect : tie.Need-mul-erase-for-redirect
 mul-erase-for-redirect c = search needs

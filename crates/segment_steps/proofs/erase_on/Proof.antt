@@ -1,4 +1,4 @@
--- `segment_steps::erase_on` meets its contract. Assumes nothing.
+-- `segment_steps::erase_on` meets its contract.
 use denote.Ref.{now}
 use Rattle.store.specs.Page.{View, view}
 use Rattle.store.specs.PageSteps.{erase}
@@ -7,9 +7,6 @@ use Rattle.segment_steps.specs.Lent.{lent-taken, lent-plan}
 use borrow.Author.Needs.{needs}
 use Rattle.segment_steps.proofs.erase_on.Statement.{statement}
 use Rattle.segment_steps.proofs.erase_on.Tie as tie
-use Rattle.segment_steps.proofs.erase_on.Reads as reads
-use Rattle.segment_steps.proofs.erase_on.Lts as lts
-use Rattle.slotted_page.proofs.erase.erase.Reads as erase-reads
 
 mul-erase : tie.Need-mul-erase
 mul-erase c = search needs
@@ -42,7 +39,8 @@ returns c =
     let z = c .before .before .before .before .before in
     let s = now (z .args .segment) in
     let o = page-ok s (z .args .p) (z .args .k) (z .pre .0) (z .pre .1) (z .pre .2) in
-    lent-plan s (z .args .p) (z .pre .0) view (o .seen) (λ (v : View). erase v (z .args .k)) (c .before .before .erase .last .0) (c .before .before .erase .ensures)
+    lent-plan s (z .args .p) (z .pre .0) view (o .seen) (λ (v : View). erase v (z .args .k)) (c .before .before .erase .last .0)
+    (c .before .before .erase .ensures)
 
 pub erase-on-spec : {M : Type 1} → statement M
 erase-on-spec =

@@ -1,4 +1,4 @@
--- `segment_steps::rewrite_on` meets its contract. Assumes nothing.
+-- `segment_steps::rewrite_on` meets its contract.
 use denote.Ref.{now}
 use Rattle.store.specs.Numbers.{fit}
 use Rattle.store.specs.Page.{View}
@@ -6,9 +6,6 @@ use Rattle.segment_steps.specs.Lent.{lent-taken, lent-moved}
 use borrow.Author.Needs.{needs}
 use Rattle.segment_steps.proofs.rewrite_on.Statement.{statement}
 use Rattle.segment_steps.proofs.rewrite_on.Tie as tie
-use Rattle.segment_steps.proofs.rewrite_on.Reads as reads
-use Rattle.segment_steps.proofs.rewrite_on.Lts as lts
-use Rattle.slotted_page.proofs.record.rewrite.Reads as rewrite-reads
 
 mul-rewrite : tie.Need-mul-rewrite
 mul-rewrite c = search needs
@@ -40,7 +37,8 @@ returns : tie.Need-returns
 returns c =
     let z = c .before .before .before .before .before .before in
     let x = c .before .before .rewrite in
-    lent-moved (now (z .args .segment)) (z .args .p) (z .args .k) (z .pre .0) (z .pre .1) (z .pre .2) (z .args .size) (λ (v : View). fit (z .args .size) (now (z .args .bytes))) (x .last .0) _ (x .ensures)
+    lent-moved (now (z .args .segment)) (z .args .p) (z .args .k) (z .pre .0) (z .pre .1) (z .pre .2) (z .args .size)
+    (λ (v : View). fit (z .args .size) (now (z .args .bytes))) (x .last .0) _ (x .ensures)
 
 pub rewrite-on-spec : {M : Type 1} → statement M
 rewrite-on-spec =

@@ -1,4 +1,4 @@
--- `segment_steps::rewrite_target_on` meets its contract. Assumes nothing.
+-- `segment_steps::rewrite_target_on` meets its contract.
 use denote.Ref.{now}
 use mathlib.Core.List.{_++_}
 use Prim.Native.Nat.{_+_}
@@ -9,9 +9,6 @@ use Rattle.segment_steps.specs.Lent.{lent-taken, lent-moved}
 use borrow.Author.Needs.{needs}
 use Rattle.segment_steps.proofs.rewrite_target_on.Statement.{statement}
 use Rattle.segment_steps.proofs.rewrite_target_on.Tie as tie
-use Rattle.segment_steps.proofs.rewrite_target_on.Reads as reads
-use Rattle.segment_steps.proofs.rewrite_target_on.Lts as lts
-use Rattle.slotted_page.proofs.record.rewrite_target.Reads as rewrite-target-reads
 
 mul-rewrite-target : tie.Need-mul-rewrite-target
 mul-rewrite-target c = search needs
@@ -44,7 +41,8 @@ returns : tie.Need-returns
 returns c =
     let z = c .before .before .before .before .before .before in
     let x = c .before .before .rewrite-target in
-    lent-moved (now (z .args .segment)) (z .args .p) (z .args .k) (z .pre .0) (z .pre .1) (z .pre .2) (length (now (z .args .bytes)) + 8) (λ (v : View). toBE 8 (z .args .id) ++ now (z .args .bytes)) (x .last .0) _ (x .ensures)
+    lent-moved (now (z .args .segment)) (z .args .p) (z .args .k) (z .pre .0) (z .pre .1) (z .pre .2) (length (now (z .args .bytes)) + 8)
+    (λ (v : View). toBE 8 (z .args .id) ++ now (z .args .bytes)) (x .last .0) _ (x .ensures)
 
 pub rewrite-target-on-spec : {M : Type 1} → statement M
 rewrite-target-on-spec =

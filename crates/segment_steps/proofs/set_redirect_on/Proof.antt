@@ -1,4 +1,4 @@
--- `segment_steps::set_redirect_on` meets its contract. Assumes nothing.
+-- `segment_steps::set_redirect_on` meets its contract.
 use denote.Ref.{now}
 use Rattle.store.specs.Page.{View, view}
 use Rattle.store.specs.Laws.Calls.{page-ok}
@@ -7,9 +7,6 @@ use Rattle.segment_steps.specs.Lent.{lent-entry, lent-plan}
 use borrow.Author.Needs.{needs}
 use Rattle.segment_steps.proofs.set_redirect_on.Statement.{statement}
 use Rattle.segment_steps.proofs.set_redirect_on.Tie as tie
-use Rattle.segment_steps.proofs.set_redirect_on.Reads as reads
-use Rattle.segment_steps.proofs.set_redirect_on.Lts as lts
-use Rattle.slotted_page.proofs.erase.set_redirect.Reads as set-redirect-reads
 
 mul-set-redirect : tie.Need-mul-set-redirect
 mul-set-redirect c = search needs

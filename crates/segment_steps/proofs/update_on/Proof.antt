@@ -1,4 +1,4 @@
--- `segment_steps::update_on` meets its contract. Assumes nothing.
+-- `segment_steps::update_on` meets its contract.
 use denote.Ref.{now}
 use mathlib.Core.Path.{ap, _∙_}
 use Prim.Native.Nat.{_/_}
@@ -7,10 +7,6 @@ use Rattle.store.specs.Inventory.{update}
 use borrow.Author.Needs.{needs}
 use Rattle.segment_steps.proofs.update_on.Statement.{statement}
 use Rattle.segment_steps.proofs.update_on.Tie as tie
-use Rattle.segment_steps.proofs.update_on.Reads as reads
-use Rattle.segment_steps.proofs.update_on.Lts as lts
-use Rattle.free_space_inventory.proofs.update_page_size.Reads as update-page-size-reads
-use Rattle.segment_pages.proofs.free_space_on.Reads as free-space-on-reads
 
 free-space-on-requires : tie.Need-free-space-on-requires
 free-space-on-requires c κs = search needs

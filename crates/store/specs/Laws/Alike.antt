@@ -1,5 +1,5 @@
 -- Demand 3 in its literal words: two segments that differ in bytes without meaning alone give equal results, and are left so in the same sense:
--- header bytes, entry bytes and record bytes. Assumes nothing.
+-- header bytes, entry bytes and record bytes.
 use Prim.Native.Nat.{ℕ, zero, suc, _+_, _*_, _/_, _%_, _≤_, _<_}
 use mathlib.Core.Path.{_≡_, refl, sym, ap, _∙_, subst}
 use mathlib.Core.Bool.{true, cond, _&&_}
@@ -59,7 +59,9 @@ module _ (j m : ℕ) where
   unfolding apply
   apply-both (head v) p q l h = cut-both p q l 0 (headBytes v) j m h
   apply-both (move k v) p q l h =
-      cut-both (putSlot k v p) (putSlot k v q) (length-put p (12 + 8 * k) (slotBytes (v .at k)) ∙ l ∙ sym (length-put q (12 + 8 * k) (slotBytes (v .at k)))) (off (v .at k)) (v .bytes k) j m
+      cut-both (putSlot k v p) (putSlot k v q)
+      (length-put p (12 + 8 * k) (slotBytes (v .at k)) ∙ l ∙ sym (length-put q (12 + 8 * k) (slotBytes (v .at k)))) (off (v .at k))
+      (v .bytes k) j m
       (cut-both p q l (12 + 8 * k) (slotBytes (v .at k)) j m h)
   apply-both (commit k v) p q l h =
       let lh : length (putHead v p) ≡ length (putHead v q) = length-put p 0 (headBytes v) ∙ l ∙ sym (length-put q 0 (headBytes v)) in
@@ -81,21 +83,28 @@ module _ (j : ℕ) (few : j < 2046) where
   entry-both : (k : ℕ) (v : View) (p q : List ℕ) → length p ≡ 16384 → length q ≡ 16384 → j ≡ k
       → cut (putBytes k v (putSlot k v p)) (12 + 8 * j) 8 ≡ cut (putBytes k v (putSlot k v q)) (12 + 8 * j) 8
   entry-both k v p q a b e =
-      cut-both (putSlot k v p) (putSlot k v q) (length-put p (12 + 8 * k) (slotBytes (v .at k)) ∙ a ∙ sym (length-put q (12 + 8 * k) (slotBytes (v .at k)) ∙ b)) (off (v .at k)) (v .bytes k) (12 + 8 * j) 8
+      cut-both (putSlot k v p) (putSlot k v q)
+      (length-put p (12 + 8 * k) (slotBytes (v .at k)) ∙ a ∙ sym (length-put q (12 + 8 * k) (slotBytes (v .at k)) ∙ b)) (off (v .at k))
+      (v .bytes k) (12 + 8 * j) 8
       (rw e (cut-same p (12 + 8 * k) (slotBytes (v .at k)) 8 refl (omega arith) ∙ sym (cut-same q (12 + 8 * k) (slotBytes (v .at k)) 8 refl (omega arith))))
 
-  run-written : (es : List Edit) (p q : List ℕ) → length p ≡ 16384 → length q ≡ 16384 → Writes j es → cut (run es p) (12 + 8 * j) 8 ≡ cut (run es q) (12 + 8 * j) 8
+  run-written : (es : List Edit) (p q : List ℕ) → length p ≡ 16384 → length q ≡ 16384 → Writes j es
+      → cut (run es p) (12 + 8 * j) 8 ≡ cut (run es q) (12 + 8 * j) 8
   unfolding apply
   run-written [] p q a b w = absurd w
   run-written (head v ∷ es) p q a b w = run-written es (apply (head v) p) (apply (head v) q) (length-apply (head v) p ∙ a) (length-apply (head v) q ∙ b) w
-  run-written (fill k v ∷ es) p q a b w = run-written es (apply (fill k v) p) (apply (fill k v) q) (length-apply (fill k v) p ∙ a) (length-apply (fill k v) q ∙ b) w
+  run-written (fill k v ∷ es) p q a b w =
+      run-written es (apply (fill k v) p) (apply (fill k v) q) (length-apply (fill k v) p ∙ a) (length-apply (fill k v) q ∙ b) w
   run-written (move k v ∷ es) p q a b (inl e) =
-      run-both (12 + 8 * j) 8 es (apply (move k v) p) (apply (move k v) q) (length-apply (move k v) p ∙ a ∙ sym (length-apply (move k v) q ∙ b)) (entry-both k v p q a b e)
-  run-written (move k v ∷ es) p q a b (inr w) = run-written es (apply (move k v) p) (apply (move k v) q) (length-apply (move k v) p ∙ a) (length-apply (move k v) q ∙ b) w
+      run-both (12 + 8 * j) 8 es (apply (move k v) p) (apply (move k v) q) (length-apply (move k v) p ∙ a ∙ sym (length-apply (move k v) q ∙ b))
+      (entry-both k v p q a b e)
+  run-written (move k v ∷ es) p q a b (inr w) =
+      run-written es (apply (move k v) p) (apply (move k v) q) (length-apply (move k v) p ∙ a) (length-apply (move k v) q ∙ b) w
   run-written (commit k v ∷ es) p q a b (inl e) =
       run-both (12 + 8 * j) 8 es (apply (commit k v) p) (apply (commit k v) q) (length-apply (commit k v) p ∙ a ∙ sym (length-apply (commit k v) q ∙ b))
       (entry-both k v (putHead v p) (putHead v q) (length-put p 0 (headBytes v) ∙ a) (length-put q 0 (headBytes v) ∙ b) e)
-  run-written (commit k v ∷ es) p q a b (inr w) = run-written es (apply (commit k v) p) (apply (commit k v) q) (length-apply (commit k v) p ∙ a) (length-apply (commit k v) q ∙ b) w
+  run-written (commit k v ∷ es) p q a b (inr w) =
+      run-written es (apply (commit k v) p) (apply (commit k v) q) (length-apply (commit k v) p ∙ a) (length-apply (commit k v) q ∙ b) w
 
 -- the header, written
 head-both : (v : View) (p q : List ℕ) → length p ≡ 16384 → length q ≡ 16384 → cut (putHead v p) 0 12 ≡ cut (putHead v q) 0 12
@@ -135,15 +144,18 @@ entry-like : (p q : List ℕ) → AlikePage p q → (k : ℕ) → k < count p �
 entry-like p q (both-fresh a b) k l = absurd (omega arith)
 entry-like p q (both-used a b c d e) k l = d k l
 
-step-like : (p q : List ℕ) (a : Plan) → length p ≡ 16384 → length q ≡ 16384 → view (run (a .edits) p) ≡ a .after → view (run (a .edits) q) ≡ a .after → a .after .slotCount ≤ 2046
+step-like : (p q : List ℕ) (a : Plan) → length p ≡ 16384 → length q ≡ 16384 → view (run (a .edits) p) ≡ a .after → view (run (a .edits) q) ≡ a .after
+    → a .after .slotCount ≤ 2046
     → StepOk (opened (view p)) a → AlikePage p q → AlikePage (run (a .edits) p) (run (a .edits) q)
 step-like p q a lp lq ep eq few ok like =
     let cp = view-count (run (a .edits) p) (a .after) ep in
     let cq = view-count (run (a .edits) q) (a .after) eq in
     both-used (omega (arith, ok .used)) (omega (arith, ok .used))
-    (⊎-elim (λ l. run-both 0 12 (a .edits) p q (lp ∙ sym lq) (header-like p q like (omega (arith, opened-count p)))) (λ w. run-headed (a .edits) p q lp lq w) (ok .header))
+    (⊎-elim (λ l. run-both 0 12 (a .edits) p q (lp ∙ sym lq) (header-like p q like (omega (arith, opened-count p))))
+    (λ w. run-headed (a .edits) p q lp lq w) (ok .header))
     (λ k l.
-    ⊎-elim (λ m. run-both (12 + 8 * k) 8 (a .edits) p q (lp ∙ sym lq) (entry-like p q like k (omega (arith, opened-count p)))) (λ w. run-written k (omega arith) (a .edits) p q lp lq w)
+    ⊎-elim (λ m. run-both (12 + 8 * k) 8 (a .edits) p q (lp ∙ sym lq) (entry-like p q like k (omega (arith, opened-count p))))
+    (λ w. run-written k (omega arith) (a .edits) p q lp lq w)
     (ok .writes k (omega arith)))
     (λ k l. view-bytes (run (a .edits) p) (a .after) ep k ∙ sym (view-bytes (run (a .edits) q) (a .after) eq k))
 
@@ -172,7 +184,8 @@ carried-like (e ∷ es) s t x y k h =
     each : (p : ℕ) → p < length s / 16384 → Dec (p ≡ e .on) → AlikePage (pageOf (carriedOn e s) p) (pageOf (carriedOn e t) p)
     each p l (yes d) =
         rw (d, page-same s (e .on) qs ls (x .0 .inside), page-same t (e .on) qt lt (y .0 .inside))
-        (step-like (pageOf s (e .on)) (pageOf t (e .on)) (e .plan) (length-page s (e .on) (x .0 .inside)) (length-page t (e .on) (y .0 .inside)) (x .0 .exact .seen) (y .0 .exact .seen)
+        (step-like (pageOf s (e .on)) (pageOf t (e .on)) (e .plan) (length-page s (e .on) (x .0 .inside)) (length-page t (e .on) (y .0 .inside))
+        (x .0 .exact .seen) (y .0 .exact .seen)
         (x .0 .exact .sound .few) (subst (λ (w : View). StepOk w (e .plan)) (seen-page s (e .on)) (k .0)) (h .pages (e .on) (omega arith)))
     each p l (no n) = rw (page-other s (e .on) qs ls p n, page-other t (e .on) qt lt p n) (h .pages p l)
 
@@ -201,7 +214,14 @@ page-seen p q (both-used a b c d e) =
     let g : be (cut p 4 4) ≡ be (cut q 4 4) = ap be (part-like p q 4 4 (omega arith) c) in
     let r : be (cut p 8 4) ≡ be (cut q 8 4) = ap be (part-like p q 8 4 (omega arith) c) in
     ap opened
-    (λ i. record { slotCount = n i; firstFree = f i; dataStart = g i; freeSpace = r i; at = λ k. slot-like p q n d k i; bytes = λ k. bytes n k (decLt k (count p)) i })
+    (λ i. record {
+      slotCount = n i;
+      firstFree = f i;
+      dataStart = g i;
+      freeSpace = r i;
+      at = λ k. slot-like p q n d k i;
+      bytes = λ k. bytes n k (decLt k (count p)) i;
+    })
   where
     none : (r : List ℕ) (k : ℕ) → count r ≤ k → bytesAt r k ≡ []
     none r k h = rw (le-ltb k (count r) h)
@@ -239,12 +259,14 @@ like-sound s t v h l =
           sound-closed (view (pageOf t p))
           (ap sound (sym (seen-page t p) ∙ ap (λ (u : SegView). u .page p) (sym (a .seen))) ∙ sound-test (segView s .page p) (seen-sound s v h .sounds p));
       pairs = subst Paired (a .seen) (h .pairs);
-      inventory = subst (λ (m : ℕ). Truth (classes (segView t)) m v) n (subst (λ (u : SegView). Truth (classes u) (length s / 16384) v) (a .seen) (h .inventory));
+      inventory = subst (λ (m : ℕ). Truth (classes (segView t)) m v) n
+          (subst (λ (u : SegView). Truth (classes u) (length s / 16384) v) (a .seen) (h .inventory));
     }
 
 -- ---- demand 3
 
-plan-like : (plan : SegView → Out) (w : SegView → Read) (s t v : List ℕ) → Exacting plan → Staying plan w v → SoundSegment s v → Alike s t → Alike (step s v (plan (segView s)) .seg) (step t v (plan (segView t)) .seg)
+plan-like : (plan : SegView → Out) (w : SegView → Read) (s t v : List ℕ) → Exacting plan → Staying plan w v → SoundSegment s v → Alike s t
+    → Alike (step s v (plan (segView s)) .seg) (step t v (plan (segView t)) .seg)
 unfolding result
 plan-like plan w s t v x k h l =
     let z = sized s (h .whole) in
@@ -252,7 +274,8 @@ plan-like plan w s t v x k h l =
     let wt : sizeOk t ≡ true = ap (λ (n : ℕ). eqb (n % 16384) 0 && leb (n / 16384) 32527) (sym (l .long)) ∙ h .whole in
     rw (h .whole, wt, h .page)
     (subst (λ (u : SegView). Alike (carried (plan (segView s) .steps) s) (carried (plan u .steps) t)) (a .seen)
-    (carried-like (plan (segView s) .steps) s t (x s (z .few)) (subst (λ (u : SegView). AllExact t (plan u .steps)) (sym (a .seen)) (x t (sized t wt .few))) (k s (seen-sound s v h) .steps) l))
+    (carried-like (plan (segView s) .steps) s t (x s (z .few))
+    (subst (λ (u : SegView). AllExact t (plan u .steps)) (sym (a .seen)) (x t (sized t wt .few))) (k s (seen-sound s v h) .steps) l))
 
 -- a call
 pub call-alike : (c : Call) (s t v : List ℕ) → SoundSegment s v → Alike s t → Same Alike (called c s v) (called c t v)

@@ -1,4 +1,4 @@
--- Demand 3: of two segments that are alike, the same calls with the same data give the same results, and leave them alike. Assumes nothing.
+-- Demand 3: of two segments that are alike, the same calls with the same data give the same results, and leave them alike.
 use Prim.Native.Nat.{ℕ, _*_, _/_, _%_, _≤_}
 use mathlib.Core.Path.{_≡_, refl, sym, _∙_, subst}
 use mathlib.Core.Bool.{cond, not, _&&_}
@@ -8,7 +8,9 @@ use lib.Dec.{ltb, leb, eqb}
 use borrow.Author.Tests.{leb-true}
 use Rattle.store.specs.Numbers.{fit}
 use Rattle.store.specs.PageSteps.{run}
-use Rattle.store.specs.Segment.{SegView, segView, sizeOk, invOk, pageOf, OnPage, Out, result, carried, carriedOn, step, refuse, insertPlan, allocatePlan, writePlan, resizePlan, erasePlan, insertStep, allocateStep, writeStep, resizeStep, eraseStep, noRead, readPlan, readStep}
+use Rattle.store.specs.Segment.{SegView, segView, sizeOk, invOk, pageOf, OnPage, Out, result, carried, carriedOn, step, refuse, insertPlan}
+use Rattle.store.specs.Segment.{allocatePlan, writePlan, resizePlan, erasePlan, insertStep, allocateStep, writeStep, resizeStep, eraseStep}
+use Rattle.store.specs.Segment.{noRead, readPlan, readStep}
 use Rattle.store.specs.Laws.Numbers.{length-put}
 use Rattle.store.specs.Laws.Relocate.{length-fit}
 use Rattle.store.specs.Laws.SoundPage.{and-both}
@@ -35,7 +37,8 @@ planned-exact plan x v s =
     x s (leb-true (length s / 16384) 32527 (b .1)))
 
 -- once over the call
-same : (plan : SegView → Out) → Exacting plan → (s t v : List ℕ) → AlikeByKind s t → Same AlikeByKind (step s v (plan (segView s))) (step t v (plan (segView t)))
+same : (plan : SegView → Out) → Exacting plan → (s t v : List ℕ) → AlikeByKind s t
+    → Same AlikeByKind (step s v (plan (segView s))) (step t v (plan (segView t)))
 unfolding result
 same plan x s t v a =
     record {
@@ -67,7 +70,8 @@ called-plan (erase i) s v = refl
 
 pub call-exacting : (c : Call) (v : List ℕ) → Exacting (planOf c v)
 call-exacting (insert bs) v z l = insert-exact z v bs
-call-exacting (allocate n) v z l = by-test (λ o. AllExact z (o .steps)) (ltb 16364 n) (refuse v 3) (insertPlan (segView z) v _) (λ e. tt) (λ e. insert-exact z v _)
+call-exacting (allocate n) v z l =
+    by-test (λ o. AllExact z (o .steps)) (ltb 16364 n) (refuse v 3) (insertPlan (segView z) v _) (λ e. tt) (λ e. insert-exact z v _)
 call-exacting (write i bs) v z l = store-exact z v i (length bs) (λ old. bs) (λ old. refl) l
 call-exacting (resize i n) v z l = store-exact z v i n (fit n) (length-fit n) l
 call-exacting (erase i) v z l = erase-call-exact z v i

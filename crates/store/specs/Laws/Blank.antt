@@ -1,4 +1,4 @@
--- Bytes all zero are a sound segment and its inventory: what calls can start from. Assumes nothing.
+-- Bytes all zero are a sound segment and its inventory: what calls can start from.
 use Prim.Native.Nat.{ℕ, zero, suc, _+_, _*_, _/_, _%_, _≤_}
 use mathlib.Core.Path.{_≡_, refl, sym, ap, _∙_}
 use mathlib.Core.List.{List, [], _∷_, reverse, reverseAux}
@@ -31,7 +31,8 @@ entry-zero : (c : ℕ) → entryAt (zeros 16384) c ≡ 0
 unfolding entryAt
 entry-zero c =
     zero-be (reverse (cut (zeros 16384) (8 * c) 8))
-    (zero-reverse (cut (zeros 16384) (8 * c) 8) [] (zero-take 8 (drop (8 * c) (zeros 16384)) (zero-drop [] (zeros 16384) (zero-zeros 16384) (8 * c) (omega arith))) tt)
+    (zero-reverse (cut (zeros 16384) (8 * c) 8) []
+    (zero-take 8 (drop (8 * c) (zeros 16384)) (zero-drop [] (zeros 16384) (zero-zeros 16384) (8 * c) (omega arith))) tt)
 
 -- ---- a segment of no page, and what it grows to
 

@@ -1,4 +1,4 @@
--- Each call's steps are exact on every segment, sound or not: a page is touched only after it passed the test. Assumes nothing.
+-- Each call's steps are exact on every segment, sound or not: a page is touched only after it passed the test.
 use Prim.Native.Nat.{ℕ, _+_, _-_, _*_, _/_, _^_, _≤_, _<_}
 use mathlib.Core.Path.{_≡_, refl, sym, ap, _∙_}
 use mathlib.Core.Bool.{Bool, true, false, cond, not, _&&_, _||_}
@@ -12,9 +12,12 @@ use native.Mathlib.Decide.{decLt}
 use Rattle.store.specs.Numbers.{cut, be, toBE, pageNo, slotNo, idOf}
 use Rattle.store.specs.Slots.{off, len, isFree, isTarget}
 use Rattle.store.specs.Page.{View, view, count, slotAt, fresh, sound}
-use Rattle.store.specs.PageSteps.{initialised, opened, Plan, Alloc, noRoom, got, allocated, roomFor, allocating, cost, gap, filled, move, stay, withSlot, eraseForRedirect, relocate, Relocated, refused, moved, plan, allocate, erase}
+use Rattle.store.specs.PageSteps.{initialised, opened, Plan, Alloc, noRoom, got, allocated, roomFor, allocating, cost, gap, filled, move, stay}
+use Rattle.store.specs.PageSteps.{withSlot, eraseForRedirect, relocate, Relocated, refused, moved, plan, allocate, erase}
 use Rattle.store.specs.Inventory.{foundIn, entryFor, entryAt, update}
-use Rattle.store.specs.Segment.{segView, pageOf, on, done, refuse, refuseIf, Found, nowhere, found, taken, findOn, needFor, find, inserted, insertPlan, pointsBack, eraseBy, erasePlan, targeted, forwarded, fromOrdinary, forwardedAgain, atTarget, atHome, fromRedirect, storeBy, storePlan}
+use Rattle.store.specs.Segment.{segView, pageOf, on, done, refuse, refuseIf, Found, nowhere, found, taken, findOn, needFor, find, inserted}
+use Rattle.store.specs.Segment.{insertPlan, pointsBack, eraseBy, erasePlan, targeted, forwarded, fromOrdinary, forwardedAgain, atTarget, atHome}
+use Rattle.store.specs.Segment.{fromRedirect, storeBy, storePlan}
 pub use Rattle.store.specs.Laws.Cases.{by-test}
 use Rattle.store.specs.Laws.Cases.{tests}
 use Rattle.store.specs.Laws.Edits.{Shows, shows-view}
@@ -60,7 +63,8 @@ module _ (q : List ℕ) (whole : length q ≡ 16384) where
   -- where something has to move, the page is in use
   full-seen : (n : ℕ) → cost (opened (view q)) n ≤ opened (view q) .freeSpace → gap (opened (view q)) < cost (opened (view q)) n → view q ≡ opened (view q)
   full-seen n =
-      by-test (λ u. cost u n ≤ u .freeSpace → gap u < cost u n → view q ≡ u) (fresh (view q)) initialised (view q) (λ f r g. absurd (omega arith)) (λ f r g. refl)
+      by-test (λ u. cost u n ≤ u .freeSpace → gap u < cost u n → view q ≡ u) (fresh (view q)) initialised (view q) (λ f r g. absurd (omega arith))
+      (λ f r g. refl)
 
 -- ---- a place
 
@@ -79,15 +83,18 @@ alloc-ok q n whole e =
     let r : cost v n ≤ v .freeSpace = omega tests in
     let m = roomed q v n (shows-opened q whole) (full-seen q whole n r) s r in
     let t = numbers w (m .right .sound) n (omega (arith, m .kept .freeSpace, same-cost v w n (m .kept))) (m .gap) in
-    let i : allocated w n .at (v .firstFree) ≡ Ordinary (w .dataStart - n) n = ap (λ (j : ℕ). allocated w n .at j) (sym (m .kept .firstFree)) ∙ upd-same (w .at) (w .firstFree) (Ordinary (w .dataStart - n) n) in
+    let i : allocated w n .at (v .firstFree) ≡ Ordinary (w .dataStart - n) n = ap (λ (j : ℕ). allocated w n .at j) (sym (m .kept .firstFree))
+    ∙ upd-same (w .at) (w .firstFree) (Ordinary (w .dataStart - n) n) in
     (alloc-exact q v n (shows-opened q whole) (full-seen q whole n r) s r, omega (arith, t .inside, m .kept .firstFree), ap isFree i, ap len i))
 
 abbrev pub FoundOk : List ℕ → ℕ → (ℕ → Bool) → Found → Type 0
 FoundOk s n ex (nowhere a) = Unit {0}
 FoundOk s n ex (found p k a) =
-    (p * 16384 + 16384 ≤ length s) × Exact (pageOf s p) a × (k < a .after .slotCount) × (isFree (a .after .at k) ≡ false) × (len (a .after .at k) ≡ n) × (ex p ≡ false)
+    (p * 16384 + 16384 ≤ length s) × Exact (pageOf s p) a × (k < a .after .slotCount) × (isFree (a .after .at k) ≡ false) × (len (a .after .at k) ≡ n)
+    × (ex p ≡ false)
 
-found-ok : (s : List ℕ) (n : ℕ) (ex : ℕ → Bool) (p : ℕ) (a : Alloc) → p * 16384 + 16384 ≤ length s → ex p ≡ false → AllocOk (pageOf s p) n a → FoundOk s n ex (taken p a)
+found-ok : (s : List ℕ) (n : ℕ) (ex : ℕ → Bool) (p : ℕ) (a : Alloc) → p * 16384 + 16384 ≤ length s → ex p ≡ false → AllocOk (pageOf s p) n a
+    → FoundOk s n ex (taken p a)
 found-ok s n ex p noRoom h x o = tt
 found-ok s n ex p (got k a) h x o = (h, o .0, o .1, o .2, o .3, x)
 
@@ -122,7 +129,8 @@ find-ok s v n excluded = go (foundIn v (length s / 16384) (needFor n)) (named-ok
 pub insert-exact : (s v bs : List ℕ) → AllExact s (insertPlan (segView s) v bs .steps)
 unfolding insertPlan
 insert-exact s v bs =
-    by-test (λ o. AllExact s (o .steps)) (ltb 16364 (length bs)) (refuse v 3) (inserted (segView s) v bs (find foundIn (segView s) v (length bs) (λ p. false))) (λ e. tt)
+    by-test (λ o. AllExact s (o .steps)) (ltb 16364 (length bs)) (refuse v 3)
+    (inserted (segView s) v bs (find foundIn (segView s) v (length bs) (λ p. false))) (λ e. tt)
     (λ e. go (find foundIn (segView s) v (length bs) (λ p. false)) (find-ok s v (length bs) (λ p. false)))
   where
     go : (f : Found) → FoundOk s (length bs) (λ p. false) f → AllExact s (inserted (segView s) v bs f .steps)
@@ -137,7 +145,8 @@ pub record PageOk (s : List ℕ) (p k : ℕ) : Type 0 where
   pub seen : view (pageOf s p) ≡ segView s .page p
   pub counted : k < segView s .page p .slotCount
 
-module _ (s : List ℕ) (p k : ℕ) (fits : p * 16384 + 16384 ≤ length s) (ok : sound (segView s .page p) ≡ true) (taken : isFree (segView s .page p .at k) ≡ false) where
+module _ (s : List ℕ) (p k : ℕ) (fits : p * 16384 + 16384 ≤ length s) (ok : sound (segView s .page p) ≡ true)
+    (taken : isFree (segView s .page p .at k) ≡ false) where
   pub page-ok : PageOk s p k
   unfolding segView
   page-ok =
@@ -176,19 +185,24 @@ pub back-ok : (s : List ℕ) (i t : ℕ) → pointsBack (segView s) i t ≡ true
 unfolding segView
 back-ok s i t e =
     let u : View = segView s .page (pageNo t) in
-    let b4 = and-both (ltb (pageNo t) (segView s .pages) && not (eqb (pageNo t) (pageNo i)) && sound u && isTarget (u .at (slotNo t))) (eqb (be (take 8 (u .bytes (slotNo t)))) i) e in
+    let b4 = and-both (ltb (pageNo t) (segView s .pages) && not (eqb (pageNo t) (pageNo i)) && sound u && isTarget (u .at (slotNo t)))
+    (eqb (be (take 8 (u .bytes (slotNo t)))) i) e in
     let b3 = and-both (ltb (pageNo t) (segView s .pages) && not (eqb (pageNo t) (pageNo i)) && sound u) (isTarget (u .at (slotNo t))) (b4 .0) in
     let b2 = and-both (ltb (pageNo t) (segView s .pages) && not (eqb (pageNo t) (pageNo i))) (sound u) (b3 .0) in
     let b1 = and-both (ltb (pageNo t) (segView s .pages)) (not (eqb (pageNo t) (pageNo i))) (b2 .0) in
-    let f : pageNo t * 16384 + 16384 ≤ length s = omega (arith, ltb-true (pageNo t) (length s / 16384) (b1 .0)) in
-    (page-ok s (pageNo t) (slotNo t) f (b2 .1) (target-taken (u .at (slotNo t)) (b3 .1)), b3 .1, eqb-false (pageNo t) (pageNo i) (not-true (eqb (pageNo t) (pageNo i)) (b1 .1)))
+    let f : pageNo t * 16384 + 16384 ≤ length s = omega (arith, ltb-true (pageNo t) (length s / 16384) (b1 .0)) in (
+      page-ok s (pageNo t) (slotNo t) f (b2 .1) (target-taken (u .at (slotNo t)) (b3 .1)),
+      b3 .1,
+      eqb-false (pageNo t) (pageNo i) (not-true (eqb (pageNo t) (pageNo i)) (b1 .1)),
+    )
 
 -- ---- erase
 
 pub erase-call-exact : (s v : List ℕ) (i : ℕ) → AllExact s (erasePlan (segView s) v i .steps)
 unfolding erasePlan
 erase-call-exact s v i =
-    by-test (λ o. AllExact s (o .steps)) (leb (segView s .pages) (pageNo i)) (refuse v 2) (refuseIf (not (sound u)) v 4 (eraseBy (segView s) v i (u .at (slotNo i)))) (λ e. tt)
+    by-test (λ o. AllExact s (o .steps)) (leb (segView s .pages) (pageNo i)) (refuse v 2)
+    (refuseIf (not (sound u)) v 4 (eraseBy (segView s) v i (u .at (slotNo i)))) (λ e. tt)
     (λ e. by-test (λ o. AllExact s (o .steps)) (not (sound u)) (refuse v 4) (eraseBy (segView s) v i (u .at (slotNo i))) (λ f. tt)
     (λ f. go (fits e) (not-false (sound u) f) (u .at (slotNo i)) refl))
   where
@@ -204,7 +218,8 @@ erase-call-exact s v i =
     go h q (Redirect t) e =
         by-test (λ o. AllExact s (o .steps)) (not (pointsBack (segView s) i t)) (refuse v 4)
         (done i (on (pageNo i) (erase u (slotNo i)) ∷ on (pageNo t) (erase (segView s .page (pageNo t)) (slotNo t)) ∷ [])
-        (update (update v (segView s .pages) (pageNo t) (erase (segView s .page (pageNo t)) (slotNo t) .after .freeSpace)) (segView s .pages) (pageNo i) (erase u (slotNo i) .after .freeSpace)))
+        (update (update v (segView s .pages) (pageNo t) (erase (segView s .page (pageNo t)) (slotNo t) .after .freeSpace)) (segView s .pages)
+        (pageNo i) (erase u (slotNo i) .after .freeSpace)))
         (λ b. tt)
         (λ b.
         let k = back-ok s i t (not-false (pointsBack (segView s) i t) b) in
@@ -220,15 +235,18 @@ module _ (s v : List ℕ) (i size : ℕ) (new : List ℕ → List ℕ) (sized : 
   long-target old = length-append (toBE 8 i) (new old) ∙ omega (arith, sized old)
 
   -- a new target
-  targeted-on : (old : List ℕ) (ex : ℕ → Bool) (q j : ℕ) (a : Plan) → FoundOk s (size + 8) ex (found q j a) → ExactOn s (on q (targeted (segView s) v i size new j a old))
+  targeted-on : (old : List ℕ) (ex : ℕ → Bool) (q j : ℕ) (a : Plan) → FoundOk s (size + 8) ex (found q j a)
+      → ExactOn s (on q (targeted (segView s) v i size new j a old))
   targeted-on old ex q j a o =
       let w = a .after in
       let h : off (w .at j) + len (w .at j) ≤ 16384 = o .1 .sound .high j in
       record {
         inside = o .0;
         exact = exact-then (pageOf s q) a
-            (λ u. plan (move j (withSlot u j (Target (off (u .at j)) (len (u .at j))) (toBE 8 i ++ new old)) ∷ []) (withSlot u j (Target (off (u .at j)) (len (u .at j))) (toBE 8 i ++ new old)))
-            (retype-exact (pageOf s q) a (length-page s q (o .0)) (o .1) j (o .2) (o .3) (Target (off (w .at j)) (len (w .at j))) refl refl refl (omega arith, omega arith) (λ e. omega (arith, o .4))
+            (λ u. plan (move j (withSlot u j (Target (off (u .at j)) (len (u .at j))) (toBE 8 i ++ new old)) ∷ [])
+            (withSlot u j (Target (off (u .at j)) (len (u .at j))) (toBE 8 i ++ new old)))
+            (retype-exact (pageOf s q) a (length-page s q (o .0)) (o .1) j (o .2) (o .3) (Target (off (w .at j)) (len (w .at j))) refl refl refl
+            (omega arith, omega arith) (λ e. omega (arith, o .4))
             (toBE 8 i ++ new old) (long-target old ∙ sym (o .4)));
       }
 
@@ -238,19 +256,34 @@ module _ (s v : List ℕ) (i size : ℕ) (new : List ℕ → List ℕ) (sized : 
   module _ (k : PageOk s (pageNo i) (slotNo i)) (free : isFree (segView s .page (pageNo i) .at (slotNo i)) ≡ false) where
     root-relocate : (n : ℕ) → (isTarget (segView s .page (pageNo i) .at (slotNo i)) ≡ true → 8 ≤ n)
         → Answered (pageOf s (pageNo i)) (segView s .page (pageNo i)) (slotNo i) n (relocate (segView s .page (pageNo i)) (slotNo i) n)
-    root-relocate n = relocate-answer (pageOf s (pageNo i)) (segView s .page (pageNo i)) (length-page s (pageNo i) (k .fits)) (k .seen) (k .sound) (slotNo i) (k .counted) n
+    root-relocate n = relocate-answer (pageOf s (pageNo i)) (segView s .page (pageNo i)) (length-page s (pageNo i) (k .fits)) (k .seen) (k .sound)
+        (slotNo i) (k .counted) n
 
     forwarded-exact : (old : List ℕ) (f : Found) → FoundOk s (size + 8) (λ p. eqb p (pageNo i)) f → AllExact s (forwarded (segView s) v i size new old f .steps)
     forwarded-exact old (nowhere a) o = tt
     forwarded-exact old (found q j a) o =
         two-exact s (on (pageNo i) (eraseForRedirect (segView s .page (pageNo i)) (slotNo i) (idOf q j))) (on q (targeted (segView s) v i size new j a old))
-        (record { inside = k .fits; exact = redirect-exact (segView s .page (pageNo i)) (k .sound) (slotNo i) (k .counted) free (idOf q j) (small-id (λ p. eqb p (pageNo i)) q j a o) (pageOf s (pageNo i)) (shows-ok s (pageNo i) (slotNo i) k) })
+        (record {
+          inside = k .fits;
+          exact =
+              redirect-exact (segView s .page (pageNo i)) (k .sound) (slotNo i) (k .counted) free (idOf q j) (small-id (λ p. eqb p (pageNo i)) q j a o)
+              (pageOf s (pageNo i)) (shows-ok s (pageNo i) (slotNo i) k);
+        })
         (targeted-on old (λ p. eqb p (pageNo i)) q j a o) (eqb-false q (pageNo i) (o .5))
 
-    ordinary-exact : (old : List ℕ) (r : Relocated) → Answered (pageOf s (pageNo i)) (segView s .page (pageNo i)) (slotNo i) size r → AllExact s (fromOrdinary (segView s) v i size new old r .steps)
-    ordinary-exact old (moved a) m =
-        (record { inside = k .fits; exact = fill-exact (pageOf s (pageNo i)) a (length-page s (pageNo i) (k .fits)) (m .exact) (slotNo i) (m .inside) (m .free) (new old) (sized old ∙ sym (m .size)) }, tt)
-    ordinary-exact old refused m = forwarded-exact old (find foundIn (segView s) v (size + 8) (λ p. eqb p (pageNo i))) (find-ok s v (size + 8) (λ p. eqb p (pageNo i)))
+    ordinary-exact : (old : List ℕ) (r : Relocated) → Answered (pageOf s (pageNo i)) (segView s .page (pageNo i)) (slotNo i) size r
+        → AllExact s (fromOrdinary (segView s) v i size new old r .steps)
+    ordinary-exact old (moved a) m = (
+      record {
+        inside = k .fits;
+        exact =
+            fill-exact (pageOf s (pageNo i)) a (length-page s (pageNo i) (k .fits)) (m .exact) (slotNo i) (m .inside) (m .free) (new old)
+            (sized old ∙ sym (m .size));
+      },
+      tt,
+    )
+    ordinary-exact old refused m = forwarded-exact old (find foundIn (segView s) v (size + 8) (λ p. eqb p (pageNo i)))
+        (find-ok s v (size + 8) (λ p. eqb p (pageNo i)))
 
     module _ (t : ℕ) (here : segView s .page (pageNo i) .at (slotNo i) ≡ Redirect t) (b : Back s i t) where
       target-free : isFree (segView s .page (pageNo t) .at (slotNo t)) ≡ false
@@ -259,43 +292,63 @@ module _ (s v : List ℕ) (i size : ℕ) (new : List ℕ → List ℕ) (sized : 
       erased-on : ExactOn s (on (pageNo t) (erase (segView s .page (pageNo t)) (slotNo t)))
       erased-on = erase-on s (pageNo t) (slotNo t) (b .0) target-free
 
-      again-exact : (old : List ℕ) (f : Found) → FoundOk s (size + 8) (λ p. eqb p (pageNo i) || eqb p (pageNo t)) f → AllExact s (forwardedAgain (segView s) v i size new t old f .steps)
+      again-exact : (old : List ℕ) (f : Found) → FoundOk s (size + 8) (λ p. eqb p (pageNo i) || eqb p (pageNo t)) f
+          → AllExact s (forwardedAgain (segView s) v i size new t old f .steps)
       again-exact old (nowhere a) o = tt
       again-exact old (found q j a) o =
           let r : View = segView s .page (pageNo i) in
           let p : List ℕ = pageOf s (pageNo i) in
           let whole = length-page s (pageNo i) (k .fits) in
           let n = or-false (eqb q (pageNo i)) (eqb q (pageNo t)) (o .5) in
-          three-exact s (on (pageNo i) (plan (move (slotNo i) (withSlot r (slotNo i) (Redirect (idOf q j)) []) ∷ []) (withSlot r (slotNo i) (Redirect (idOf q j)) [])))
+          three-exact s (on (pageNo i) (plan (move (slotNo i) (withSlot r (slotNo i) (Redirect (idOf q j)) []) ∷ [])
+          (withSlot r (slotNo i) (Redirect (idOf q j)) [])))
           (on (pageNo t) (erase (segView s .page (pageNo t)) (slotNo t))) (on q (targeted (segView s) v i size new j a old))
           (record {
             inside = k .fits;
-            exact = retype-exact p (stay r) whole (record { seen = k .seen; sound = k .sound }) (slotNo i) (k .counted) free (Redirect (idOf q j)) (sym (ap off here)) (sym (ap len here)) refl
+            exact = retype-exact p (stay r) whole (record { seen = k .seen; sound = k .sound }) (slotNo i) (k .counted) free (Redirect (idOf q j))
+                (sym (ap off here)) (sym (ap len here)) refl
                 (small-id (λ p. eqb p (pageNo i) || eqb p (pageNo t)) q j a o) (λ e. let z : _≡_ {A = ℕ} 0 1 = cc in omega arith) [] refl;
           })
           erased-on (targeted-on old (λ p. eqb p (pageNo i) || eqb p (pageNo t)) q j a o) (b .2) (eqb-false q (pageNo i) (n .0)) (eqb-false q (pageNo t) (n .1))
 
-      at-target-exact : (old : List ℕ) (r : Relocated) → Answered (pageOf s (pageNo t)) (segView s .page (pageNo t)) (slotNo t) (size + 8) r → AllExact s (atTarget (segView s) v i size new t old r .steps)
-      at-target-exact old (moved a) m =
-          (record { inside = b .0 .fits; exact = fill-exact (pageOf s (pageNo t)) a (length-page s (pageNo t) (b .0 .fits)) (m .exact) (slotNo t) (m .inside) (m .free) (toBE 8 i ++ new old) (long-target old ∙ sym (m .size)) }, tt)
+      at-target-exact : (old : List ℕ) (r : Relocated) → Answered (pageOf s (pageNo t)) (segView s .page (pageNo t)) (slotNo t) (size + 8) r
+          → AllExact s (atTarget (segView s) v i size new t old r .steps)
+      at-target-exact old (moved a) m = (
+        record {
+          inside = b .0 .fits;
+          exact =
+              fill-exact (pageOf s (pageNo t)) a (length-page s (pageNo t) (b .0 .fits)) (m .exact) (slotNo t) (m .inside) (m .free)
+              (toBE 8 i ++ new old) (long-target old ∙ sym (m .size));
+        },
+        tt,
+      )
       at-target-exact old refused m =
-          again-exact old (find foundIn (segView s) v (size + 8) (λ p. eqb p (pageNo i) || eqb p (pageNo t))) (find-ok s v (size + 8) (λ p. eqb p (pageNo i) || eqb p (pageNo t)))
+          again-exact old (find foundIn (segView s) v (size + 8) (λ p. eqb p (pageNo i) || eqb p (pageNo t)))
+          (find-ok s v (size + 8) (λ p. eqb p (pageNo i) || eqb p (pageNo t)))
 
-      home-exact : (old : List ℕ) (r : Relocated) → Answered (pageOf s (pageNo i)) (segView s .page (pageNo i)) (slotNo i) size r → AllExact s (atHome (segView s) v i size new t old r .steps)
+      home-exact : (old : List ℕ) (r : Relocated) → Answered (pageOf s (pageNo i)) (segView s .page (pageNo i)) (slotNo i) size r
+          → AllExact s (atHome (segView s) v i size new t old r .steps)
       home-exact old (moved a) m =
           two-exact s (on (pageNo i) (filled a (slotNo i) (new old))) (on (pageNo t) (erase (segView s .page (pageNo t)) (slotNo t)))
-          (record { inside = k .fits; exact = fill-exact (pageOf s (pageNo i)) a (length-page s (pageNo i) (k .fits)) (m .exact) (slotNo i) (m .inside) (m .free) (new old) (sized old ∙ sym (m .size)) })
+          (record {
+            inside = k .fits;
+            exact =
+                fill-exact (pageOf s (pageNo i)) a (length-page s (pageNo i) (k .fits)) (m .exact) (slotNo i) (m .inside) (m .free) (new old)
+                (sized old ∙ sym (m .size));
+          })
           erased-on (b .2)
       home-exact old refused m =
           at-target-exact old (relocate (segView s .page (pageNo t)) (slotNo t) (size + 8))
-          (relocate-answer (pageOf s (pageNo t)) (segView s .page (pageNo t)) (length-page s (pageNo t) (b .0 .fits)) (b .0 .seen) (b .0 .sound) (slotNo t) (b .0 .counted) (size + 8) (λ e. omega arith))
+          (relocate-answer (pageOf s (pageNo t)) (segView s .page (pageNo t)) (length-page s (pageNo t) (b .0 .fits)) (b .0 .seen) (b .0 .sound)
+          (slotNo t) (b .0 .counted) (size + 8) (λ e. omega arith))
 
   pub store-exact : AllExact s (storePlan (segView s) v i size new .steps)
   unfolding storePlan
   store-exact =
       by-test (λ o. AllExact s (o .steps)) (ltb 16364 size) (refuse v 3)
       (refuseIf (leb (segView s .pages) (pageNo i)) v 2 (refuseIf (not (sound r)) v 4 (storeBy (segView s) v i size new (r .at (slotNo i))))) (λ e. tt)
-      (λ d. by-test (λ o. AllExact s (o .steps)) (leb (segView s .pages) (pageNo i)) (refuse v 2) (refuseIf (not (sound r)) v 4 (storeBy (segView s) v i size new (r .at (slotNo i)))) (λ e. tt)
+      (λ d. by-test (λ o. AllExact s (o .steps)) (leb (segView s .pages) (pageNo i)) (refuse v 2)
+      (refuseIf (not (sound r)) v 4 (storeBy (segView s) v i size new (r .at (slotNo i)))) (λ e. tt)
       (λ e. by-test (λ o. AllExact s (o .steps)) (not (sound r)) (refuse v 4) (storeBy (segView s) v i size new (r .at (slotNo i))) (λ f. tt)
       (λ f. go (page-fits s (pageNo i) e) (not-false (sound r) f) (r .at (slotNo i)) refl)))
     where
@@ -305,12 +358,14 @@ module _ (s v : List ℕ) (i size : ℕ) (new : List ℕ → List ℕ) (sized : 
       go : pageNo i * 16384 + 16384 ≤ length s → sound r ≡ true → (x : Slot) → r .at (slotNo i) ≡ x → AllExact s (storeBy (segView s) v i size new x .steps)
       go h q (Ordinary o l) e =
           let k = page-ok s (pageNo i) (slotNo i) h q (ap isFree e) in
-          ordinary-exact k (ap isFree e) (r .bytes (slotNo i)) (relocate r (slotNo i) size) (root-relocate k (ap isFree e) size (λ t. let u = sym (ap isTarget e) ∙ t in let z : _≡_ {A = ℕ} 0 1 = cc in omega arith))
+          ordinary-exact k (ap isFree e) (r .bytes (slotNo i)) (relocate r (slotNo i) size)
+          (root-relocate k (ap isFree e) size (λ t. let u = sym (ap isTarget e) ∙ t in let z : _≡_ {A = ℕ} 0 1 = cc in omega arith))
       go h q Free e = tt
       go h q (Redirect t) e =
           by-test (λ o. AllExact s (o .steps)) (not (pointsBack (segView s) i t)) (refuse v 4) (fromRedirect (segView s) v i size new t) (λ b. tt)
           (λ b.
           let k = page-ok s (pageNo i) (slotNo i) h q (ap isFree e) in
-          home-exact k (ap isFree e) t e (back-ok s i t (not-false (pointsBack (segView s) i t) b)) (drop 8 (segView s .page (pageNo t) .bytes (slotNo t))) (relocate r (slotNo i) size)
+          home-exact k (ap isFree e) t e (back-ok s i t (not-false (pointsBack (segView s) i t) b))
+          (drop 8 (segView s .page (pageNo t) .bytes (slotNo t))) (relocate r (slotNo i) size)
           (root-relocate k (ap isFree e) size (λ x. let y = sym (ap isTarget e) ∙ x in let z : _≡_ {A = ℕ} 0 1 = cc in omega arith)))
       go h q (Target o l) e = tt

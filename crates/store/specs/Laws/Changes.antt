@@ -1,5 +1,5 @@
 -- What each page step does to entries and records: one slot changes; the others keep kind, length, id and bytes. And which entries and
--- headers a step writes. Views and edits alone: no byte of a page occurs here. Assumes nothing.
+-- headers a step writes. Views and edits alone: no byte of a page occurs here.
 use Prim.Native.Nat.{ℕ, _+_, _-_, _≤_, _<_}
 use mathlib.Core.Path.{_≡_, refl, sym, ap, _∙_, subst}
 use mathlib.Core.Bool.{true, false, cond}
@@ -14,7 +14,9 @@ use Rattle.store.specs.Numbers.{zeros, fit}
 use Rattle.store.specs.Laws.Slots.{tag}
 use Rattle.store.specs.Slots.{off, len, isFree, isRecord, placed}
 use Rattle.store.specs.Page.{View}
-use Rattle.store.specs.PageSteps.{Edit, head, move, commit, fill, Plan, stay, andThen, withSlot, withHead, compactify, gap, makeRoom, isNew, cost, allocated, roomFor, allocating, Alloc, noRoom, got, erased, redirected, eraseForRedirect, Relocated, refused, moved, moveUnder, shrunk, parked, resized, relocateBy, relocate, filled, plan, allocate, erase}
+use Rattle.store.specs.PageSteps.{Edit, head, move, commit, fill, Plan, stay, andThen, withSlot, withHead, compactify, gap, makeRoom, isNew}
+use Rattle.store.specs.PageSteps.{cost, allocated, roomFor, allocating, Alloc, noRoom, got, erased, redirected, eraseForRedirect, Relocated}
+use Rattle.store.specs.PageSteps.{refused, moved, moveUnder, shrunk, parked, resized, relocateBy, relocate, filled, plan, allocate, erase}
 use Rattle.store.specs.Laws.Views.{Sound, upd-same, upd-other, erase-used}
 use Rattle.store.specs.Laws.Compactify.{Kept, compact-keeps}
 use Rattle.store.specs.Laws.OneSlot.{park-suits, slot-sound}
@@ -116,7 +118,8 @@ changes-then v k x b a c y bs d g =
       tags = λ j n. g .tags j n ∙ c .tags j n;
       bytes = λ j n. g .bytes j n ∙ c .bytes j n;
       writes = λ j h.
-          ⊎-elim (λ l. ⊎-elim (λ m. inl m) (λ w. inr (writes-left j (a .edits) (d .edits) w)) (c .writes j l)) (λ w. inr (writes-right j (a .edits) (d .edits) w))
+          ⊎-elim (λ l. ⊎-elim (λ m. inl m) (λ w. inr (writes-left j (a .edits) (d .edits) w)) (c .writes j l))
+          (λ w. inr (writes-right j (a .edits) (d .edits) w))
           (g .writes j h);
       header = ⊎-elim (λ l. inl l) (λ w. inr (headed-left (a .edits) (d .edits) w)) (c .header);
     }
@@ -152,7 +155,8 @@ module _ (v : View) (s : Sound v) (n : ℕ) where
   AllocChanges noRoom = v .freeSpace < cost v n
   AllocChanges (got k a) = (v .at k ≡ Free) × Changes v k (Ordinary 0 n) (zeros n) a × (len (a .after .at k) ≡ n)
 
-  new-inside : (w : View) → w .firstFree ≤ w .slotCount → (j : ℕ) → j < cond (isNew w) (w .slotCount + 1) (w .slotCount) → (j < w .slotCount) ⊎ (j ≡ w .firstFree)
+  new-inside : (w : View) → w .firstFree ≤ w .slotCount → (j : ℕ) → j < cond (isNew w) (w .slotCount + 1) (w .slotCount)
+      → (j < w .slotCount) ⊎ (j ≡ w .firstFree)
   new-inside w l j =
       by-test (λ c. j < c → (j < w .slotCount) ⊎ (j ≡ w .firstFree)) (isNew w) (w .slotCount + 1) (w .slotCount)
       (λ e h. ⊎-elim′ e h (decLt j (w .slotCount))) (λ e h. inl h)
@@ -162,7 +166,8 @@ module _ (v : View) (s : Sound v) (n : ℕ) where
       ⊎-elim′ e h (no q) = inr (omega (arith, eqb-true (w .firstFree) (w .slotCount) e))
 
   new-used : (w : View) → w .firstFree ≤ w .slotCount → 0 < cond (isNew w) (w .slotCount + 1) (w .slotCount)
-  new-used w l = by-test (λ c. 0 < c) (isNew w) (w .slotCount + 1) (w .slotCount) (λ e. omega arith) (λ e. omega (arith, eqb-false (w .firstFree) (w .slotCount) e))
+  new-used w l = by-test (λ c. 0 < c) (isNew w) (w .slotCount + 1) (w .slotCount) (λ e. omega arith)
+      (λ e. omega (arith, eqb-false (w .firstFree) (w .slotCount) e))
 
   pub alloc-changes : AllocChanges (allocate v n)
   unfolding allocate
@@ -173,7 +178,8 @@ module _ (v : View) (s : Sound v) (n : ℕ) where
       let k : Kept v w = roomy-kept v _ s in
       let low : w .firstFree ≤ w .slotCount = omega (arith, k .firstFree, k .slotCount, s .first≤) in
       let c : Changes v (w .firstFree) (Ordinary 0 n) (zeros n) (allocating v n) =
-      committed v (w .firstFree) (omega (arith, low, k .slotCount, s .few)) (roomFor v n) k (allocated w n .slotCount) (allocated w n .firstFree) (allocated w n .dataStart) (allocated w n .freeSpace)
+      committed v (w .firstFree) (omega (arith, low, k .slotCount, s .few)) (roomFor v n) k (allocated w n .slotCount) (allocated w n .firstFree)
+      (allocated w n .dataStart) (allocated w n .freeSpace)
       (Ordinary (w .dataStart - n) n) (zeros n) (new-used w low)
       (λ j h. ⊎-elim (λ l. inl (omega (arith, k .slotCount))) (λ q. inr q) (new-inside w low j h)) in (
         s .first-free,
@@ -196,7 +202,8 @@ module _ (v : View) (s : Sound v) (k : ℕ) (inside : k < v .slotCount) (taken :
   pub redirect-changes : (id : ℕ) → Changes v k (Redirect id) [] (eraseForRedirect v k id)
   unfolding eraseForRedirect
   redirect-changes id =
-      committed v k few-slots (stay v) (self-kept v) (redirected v k id .slotCount) (redirected v k id .firstFree) (redirected v k id .dataStart) (redirected v k id .freeSpace) (Redirect id) [] (omega arith) (λ j h. inl h)
+      committed v k few-slots (stay v) (self-kept v) (redirected v k id .slotCount) (redirected v k id .firstFree) (redirected v k id .dataStart)
+      (redirected v k id .freeSpace) (Redirect id) [] (omega arith) (λ j h. inl h)
 
   -- the entry alone
   pub entry-changes : (y : Slot) (bs : List ℕ) (e : Edit) → Changes v k (tag y) bs (plan (e ∷ []) (withSlot v k y bs))
@@ -226,7 +233,8 @@ module _ (v : View) (s : Sound v) (k : ℕ) (inside : k < v .slotCount) (taken :
       let w : View = a .after in
       let q = roomy-kept u n t in
       subst (λ (y : Slot). Changes u k y b (moveUnder u k x n b)) (placed-zero x (w .dataStart - n) n)
-      (committed u k few-slots a q (w .slotCount) (w .firstFree) (w .dataStart - n) (w .freeSpace - n) (placed x (w .dataStart - n) n) b (omega (arith, q .slotCount)) (λ j h. inl (omega (arith, q .slotCount))))
+      (committed u k few-slots a q (w .slotCount) (w .firstFree) (w .dataStart - n) (w .freeSpace - n) (placed x (w .dataStart - n) n) b
+      (omega (arith, q .slotCount)) (λ j h. inl (omega (arith, q .slotCount))))
 
   resized-changes : (n : ℕ) → isRecord (v .at k) ≡ true → Relocates n (resized v k n)
   resized-changes n r =
@@ -234,13 +242,16 @@ module _ (v : View) (s : Sound v) (k : ℕ) (inside : k < v .slotCount) (taken :
       (cond (ltb n (len (v .at k))) (moved (plan (commit k (shrunk v k n) ∷ []) (shrunk v k n))) grow)
       (λ e bs.
       fill-changes v k (placed (v .at k) 0 n) (v .bytes k) (stay v)
-      (subst (λ (y : Slot). Changes v k y (v .bytes k) (stay v)) (same-placed (v .at k) n r (eqb-true n (len (v .at k)) e)) (stay-changes v k few-slots (omega arith))) bs)
+      (subst (λ (y : Slot). Changes v k y (v .bytes k) (stay v)) (same-placed (v .at k) n r (eqb-true n (len (v .at k)) e))
+      (stay-changes v k few-slots (omega arith))) bs)
       (λ e. by-test (Relocates n) (ltb n (len (v .at k))) (moved (plan (commit k (shrunk v k n) ∷ []) (shrunk v k n))) grow
       (λ l bs.
       fill-changes v k (placed (v .at k) 0 n) (take n (v .bytes k)) (plan (commit k (shrunk v k n) ∷ []) (shrunk v k n))
       (subst (λ (y : Slot). Changes v k y (take n (v .bytes k)) (plan (commit k (shrunk v k n) ∷ []) (shrunk v k n))) (placed-zero (v .at k) (off (v .at k)) n)
-      (committed v k few-slots (stay v) (self-kept v) (shrunk v k n .slotCount) (shrunk v k n .firstFree) (shrunk v k n .dataStart) (shrunk v k n .freeSpace) (placed (v .at k) (off (v .at k)) n) (take n (v .bytes k)) (omega arith) (λ j h. inl h))) bs)
-      (λ l. by-test (Relocates n) (ltb (v .freeSpace) (n - len (v .at k))) refused (moved growing) (λ f. omega (arith, ltb-true (v .freeSpace) (n - len (v .at k)) f))
+      (committed v k few-slots (stay v) (self-kept v) (shrunk v k n .slotCount) (shrunk v k n .firstFree) (shrunk v k n .dataStart)
+      (shrunk v k n .freeSpace) (placed (v .at k) (off (v .at k)) n) (take n (v .bytes k)) (omega arith) (λ j h. inl h))) bs)
+      (λ l. by-test (Relocates n) (ltb (v .freeSpace) (n - len (v .at k))) refused (moved growing)
+      (λ f. omega (arith, ltb-true (v .freeSpace) (n - len (v .at k)) f))
       (λ f bs. fill-changes v k (placed (v .at k) 0 n) (fit n (v .bytes k)) growing grown bs)))
     where
       p0 : Plan
@@ -255,9 +266,11 @@ module _ (v : View) (s : Sound v) (k : ℕ) (inside : k < v .slotCount) (taken :
       grown : Changes v k (placed (v .at k) 0 n) (fit n (v .bytes k)) growing
       grown =
           changes-then v k (Redirect 0) [] p0
-          (committed v k few-slots (stay v) (self-kept v) (parked v k .slotCount) (parked v k .firstFree) (parked v k .dataStart) (parked v k .freeSpace) (Redirect 0) [] (omega arith) (λ j h. inl h))
+          (committed v k few-slots (stay v) (self-kept v) (parked v k .slotCount) (parked v k .firstFree) (parked v k .dataStart)
+          (parked v k .freeSpace) (Redirect 0) [] (omega arith) (λ j h. inl h))
           (placed (v .at k) 0 n) (fit n (v .bytes k)) (moveUnder (parked v k) k (v .at k) n (fit n (v .bytes k)))
-          (under-changes (parked v k) (slot-sound v s k (Redirect 0) (parked v k .dataStart) (parked v k .freeSpace) (park-suits v s k inside taken) [] refl) refl (v .at k) n (fit n (v .bytes k)))
+          (under-changes (parked v k) (slot-sound v s k (Redirect 0) (parked v k .dataStart) (parked v k .freeSpace)
+          (park-suits v s k inside taken) [] refl) refl (v .at k) n (fit n (v .bytes k)))
 
   pub relocate-changes : (n : ℕ) → Relocates n (relocate v k n)
   unfolding relocate

@@ -1,4 +1,4 @@
--- Laws of the class table: an arm of it, its bounds, and that more used bytes have no lower class. Assumes nothing.
+-- Laws of the class table: an arm of it, its bounds, and that more used bytes have no lower class.
 use Prim.Native.Nat.{ℕ, zero, suc, _+_, _≤_}
 use mathlib.Core.Path.{_≡_, refl, _∙_, sym}
 use mathlib.Core.Bool.{Bool, true, false, cond}

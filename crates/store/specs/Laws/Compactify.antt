@@ -1,4 +1,4 @@
--- Compactify: each move keeps the page sound, and what is seen after all of them is what the plan says. Assumes nothing.
+-- Compactify: each move keeps the page sound, and what is seen after all of them is what the plan says.
 use Prim.Native.Nat.{ℕ, zero, suc, _+_, _-_, _^_, _≤_, _<_}
 use mathlib.Core.Path.{_≡_, refl, sym, ap, _∙_}
 use mathlib.Core.Bool.{Bool, true, false, cond, _&&_, _||_}
@@ -55,10 +55,24 @@ pub record Placed (s : Slot) (d n : ℕ) : Type 0 where
   pub taken : s ≡ Free → ⊥
 
 pub placed-is : (s : Slot) (d n : ℕ) → isRecord s ≡ true → Placed s d n
-placed-is (Ordinary o l) d n e = record { off = refl; len = refl; free = refl; target = refl; codable = λ a b. (a, b); taken = λ q. let z : _≡_ {A = ℕ} 0 1 = cc in omega arith }
+placed-is (Ordinary o l) d n e = record {
+  off = refl;
+  len = refl;
+  free = refl;
+  target = refl;
+  codable = λ a b. (a, b);
+  taken = λ q. let z : _≡_ {A = ℕ} 0 1 = cc in omega arith;
+}
 placed-is Free d n e = let z : _≡_ {A = ℕ} 0 1 = cc in absurd (omega arith)
 placed-is (Redirect i) d n e = let z : _≡_ {A = ℕ} 0 1 = cc in absurd (omega arith)
-placed-is (Target o l) d n e = record { off = refl; len = refl; free = refl; target = refl; codable = λ a b. (a, b); taken = λ q. let z : _≡_ {A = ℕ} 0 1 = cc in omega arith }
+placed-is (Target o l) d n e = record {
+  off = refl;
+  len = refl;
+  free = refl;
+  target = refl;
+  codable = λ a b. (a, b);
+  taken = λ q. let z : _≡_ {A = ℕ} 0 1 = cc in omega arith;
+}
 
 record-taken : (s : Slot) → isRecord s ≡ true → isFree s ≡ false
 record-taken (Ordinary o l) e = refl
@@ -101,7 +115,8 @@ module _ (k : ℕ) (ks : List ℕ) (d : ℕ) (v : View) (p : Packing (k ∷ ks) 
   below : (j : ℕ) → j ≢ k → off (v .at j) ≤ off (v .at k) → off (v .at j) + len (v .at j) ≤ d → off (v .at j) + len (v .at j) ≤ d - len (v .at k)
   below j n o u = go (decLt 0 (len (v .at j))) (decLt 0 (len (v .at k)))
     where
-      side : 0 < len (v .at k) → (off (v .at j) + len (v .at j) ≤ off (v .at k)) ⊎ (off (v .at k) + len (v .at k) ≤ off (v .at j)) → off (v .at j) + len (v .at j) ≤ d - len (v .at k)
+      side : 0 < len (v .at k) → (off (v .at j) + len (v .at j) ≤ off (v .at k)) ⊎ (off (v .at k) + len (v .at k) ≤ off (v .at j))
+          → off (v .at j) + len (v .at j) ≤ d - len (v .at k)
       side h (inl a) = omega (arith, p .under .0)
       side h (inr b) = absurd (omega arith)
 
@@ -114,7 +129,8 @@ module _ (k : ℕ) (ks : List ℕ) (d : ℕ) (v : View) (p : Packing (k ∷ ks) 
   new-apart j n a b =
       rw (is .off, is .len)
       (go (all-or (λ i. off (v .at i) + len (v .at i) ≤ d - len (v .at k)) j ks
-      (all-two (λ i. (i ≢ k) × (off (v .at i) ≤ off (v .at k))) (λ i. off (v .at i) + len (v .at i) ≤ d) (λ i. off (v .at i) + len (v .at i) ≤ d - len (v .at k)) ks
+      (all-two (λ i. (i ≢ k) × (off (v .at i) ≤ off (v .at k))) (λ i. off (v .at i) + len (v .at i) ≤ d)
+      (λ i. off (v .at i) + len (v .at i) ≤ d - len (v .at k)) ks
       (λ i h u. below i (h .0) (h .1) u) (p .desc .0) (p .under .1))))
     where
       go : (off (v .at j) + len (v .at j) ≤ d - len (v .at k)) ⊎ All (λ i. j ≢ i) ks
@@ -149,7 +165,8 @@ module _ (k : ℕ) (ks : List ℕ) (d : ℕ) (v : View) (p : Packing (k ∷ ks) 
         lower = upd-elim (v .at) k y (λ j z. j < v .firstFree → isFree z ≡ false) (λ h. is .free) (λ j n. s .lower j);
         dir = s .dir;
         start≤ = s .start≤;
-        low = upd-elim (v .at) k y (λ j z. 0 < len z → v .dataStart ≤ off z) (λ h. rw (is .off) (omega (arith, p .under .0, s .low k (rw (is .len) at h)))) (λ j n. s .low j);
+        low = upd-elim (v .at) k y (λ j z. 0 < len z
+            → v .dataStart ≤ off z) (λ h. rw (is .off) (omega (arith, p .under .0, s .low k (rw (is .len) at h)))) (λ j n. s .low j);
         high = upd-elim (v .at) k y (λ j z. off z + len z ≤ 16384) (rw (is .off, is .len) (omega (arith, p .under .0, p .top))) (λ j n. s .high j);
         apart = upd-apart (v .at) k y new-apart (s .apart);
         targets = upd-elim (v .at) k y (λ j z. isTarget z ≡ true → 8 ≤ len z) (λ e. rw (is .len) (s .targets k (sym (is .target) ∙ e))) (λ j n. s .targets j);
@@ -183,7 +200,8 @@ module _ (k : ℕ) (ks : List ℕ) (d : ℕ) (v : View) (p : Packing (k ∷ ks) 
   packing-next =
       record {
         sound = move-sound;
-        recs = all-two (λ j. j ≢ k) (λ j. isRecord (v .at j) ≡ true) (λ j. isRecord (upd (v .at) k (packedTo d (v .at k)) j) ≡ true) ks (λ j n h. ap isRecord (kept j n) ∙ h) not-k (p .recs .1);
+        recs = all-two (λ j. j ≢ k) (λ j. isRecord (v .at j) ≡ true) (λ j. isRecord (upd (v .at) k (packedTo d (v .at k)) j) ≡ true) ks
+            (λ j n h. ap isRecord (kept j n) ∙ h) not-k (p .recs .1);
         desc = desc-kept ks not-k (p .desc .1);
         under =
             all-two (λ j. (j ≢ k) × (off (v .at j) ≤ off (v .at k))) (λ j. off (v .at j) + len (v .at j) ≤ d)
@@ -283,7 +301,8 @@ before-false : (v : View) (i j : ℕ) → before v i j ≡ false → off (v .at 
 before-false v i j e = go (ltb (off (v .at j)) (off (v .at i))) refl e
   where
     go : (a : Bool) → ltb (off (v .at j)) (off (v .at i)) ≡ a
-        → (a || eqb (off (v .at j)) (off (v .at i)) && (ltb (len (v .at j)) (len (v .at i)) || eqb (len (v .at j)) (len (v .at i)) && ltb j i)) ≡ false → off (v .at i) ≤ off (v .at j)
+        → (a || eqb (off (v .at j)) (off (v .at i)) && (ltb (len (v .at j)) (len (v .at i)) || eqb (len (v .at j)) (len (v .at i)) && ltb j i))
+        ≡ false → off (v .at i) ≤ off (v .at j)
     go true p h = let z : _≡_ {A = ℕ} 0 1 = cc in absurd (omega arith)
     go false p h = ltb-false (off (v .at j)) (off (v .at i)) p
 
@@ -300,7 +319,8 @@ module _ (v : View) (k : ℕ) where
   order-not i [] h = h
   order-not i (j ∷ js) h = go (order-not i js) (before v k j) h
     where
-      go : (All (λ m. i ≢ m) (inOrder v k js) → (i ≢ k) × All (λ m. i ≢ m) js) → (b : Bool) → All (λ m. i ≢ m) (cond b (k ∷ j ∷ js) (j ∷ inOrder v k js)) → (i ≢ k) × All (λ m. i ≢ m) (j ∷ js)
+      go : (All (λ m. i ≢ m) (inOrder v k js) → (i ≢ k) × All (λ m. i ≢ m) js) → (b : Bool)
+          → All (λ m. i ≢ m) (cond b (k ∷ j ∷ js) (j ∷ inOrder v k js)) → (i ≢ k) × All (λ m. i ≢ m) (j ∷ js)
       go ih true h = (h .0, h .1)
       go ih false h = (ih (h .1) .0, (h .0, ih (h .1) .1))
 
@@ -308,7 +328,8 @@ module _ (v : View) (k : ℕ) where
   order-lens [] = refl
   order-lens (j ∷ js) = go (order-lens js) (before v k j)
     where
-      go : lensOf v (inOrder v k js) ≡ len (v .at k) + lensOf v js → (b : Bool) → lensOf v (cond b (k ∷ j ∷ js) (j ∷ inOrder v k js)) ≡ len (v .at k) + (len (v .at j) + lensOf v js)
+      go : lensOf v (inOrder v k js) ≡ len (v .at k) + lensOf v js → (b : Bool)
+          → lensOf v (cond b (k ∷ j ∷ js) (j ∷ inOrder v k js)) ≡ len (v .at k) + (len (v .at j) + lensOf v js)
       go ih true = refl
       go ih false = omega arith
 
@@ -321,7 +342,8 @@ module _ (v : View) (k : ℕ) where
           let o = before-true v k j e in (
             (
               (λ q. n .0 (sym q), o),
-              all-two (λ i. k ≢ i) (λ i. (i ≢ j) × (off (v .at i) ≤ off (v .at j))) (λ i. (i ≢ k) × (off (v .at i) ≤ off (v .at k))) js (λ i a b. (λ q. a (sym q), omega arith)) (n .1) (h .0),
+              all-two (λ i. k ≢ i) (λ i. (i ≢ j) × (off (v .at i) ≤ off (v .at j))) (λ i. (i ≢ k) × (off (v .at i) ≤ off (v .at k))) js
+                  (λ i a b. (λ q. a (sym q), omega arith)) (n .1) (h .0),
             ),
             h,
           )
@@ -345,7 +367,8 @@ listing v zero = record { recs = tt; desc = tt; lens = refl; none = λ j a h. ab
 listing v (suc n) = go (listing v n) (isRecord (v .at n)) refl
   where
     later : Listing v n (records v n) → All (λ k. (isRecord (v .at k) ≡ true) × (k < suc n)) (records v n)
-    later h = all-map (λ k. (isRecord (v .at k) ≡ true) × (k < n)) (λ k. (isRecord (v .at k) ≡ true) × (k < suc n)) (records v n) (λ k q. (q .0, omega arith)) (h .recs)
+    later h = all-map (λ k. (isRecord (v .at k) ≡ true) × (k < n)) (λ k. (isRecord (v .at k) ≡ true) × (k < suc n)) (records v n)
+        (λ k q. (q .0, omega arith)) (h .recs)
 
     others : Listing v n (records v n) → (j : ℕ) → All (λ k. j ≢ k) (records v n) → j < suc n → j ≢ n → len (v .at j) ≡ 0
     others h j a l q = h .none j a (omega arith)
@@ -354,7 +377,8 @@ listing v (suc n) = go (listing v n) (isRecord (v .at n)) refl
     go h true e =
         record {
           recs = order-all v n (λ k. (isRecord (v .at k) ≡ true) × (k < suc n)) (records v n) (e, omega arith) (later h);
-          desc = order-desc v n (records v n) (all-map (λ k. (isRecord (v .at k) ≡ true) × (k < n)) (λ k. n ≢ k) (records v n) (λ k q. omega arith) (h .recs)) (h .desc);
+          desc = order-desc v n (records v n)
+              (all-map (λ k. (isRecord (v .at k) ≡ true) × (k < n)) (λ k. n ≢ k) (records v n) (λ k q. omega arith) (h .recs)) (h .desc);
           lens = omega (arith, order-lens v n (records v n), h .lens);
           none = λ j a l. let o = order-not v n j (records v n) a in others h j (o .1) l (o .0);
         }
@@ -375,9 +399,11 @@ start-packing v s =
     let h = listing v (v .slotCount) in
     record {
       sound = s;
-      recs = all-map (λ k. (isRecord (v .at k) ≡ true) × (k < v .slotCount)) (λ k. isRecord (v .at k) ≡ true) (records v (v .slotCount)) (λ k q. q .0) (h .recs);
+      recs = all-map (λ k. (isRecord (v .at k) ≡ true) × (k < v .slotCount)) (λ k. isRecord (v .at k) ≡ true) (records v (v .slotCount))
+          (λ k q. q .0) (h .recs);
       desc = h .desc;
-      under = all-map (λ k. (isRecord (v .at k) ≡ true) × (k < v .slotCount)) (λ k. off (v .at k) + len (v .at k) ≤ 16384) (records v (v .slotCount)) (λ k q. s .high k) (h .recs);
+      under = all-map (λ k. (isRecord (v .at k) ≡ true) × (k < v .slotCount)) (λ k. off (v .at k) + len (v .at k) ≤ 16384) (records v (v .slotCount))
+          (λ k q. s .high k) (h .recs);
       above = λ j a l. by j a l (decLt j (v .slotCount));
       top = omega arith;
       sums = omega (arith, h .lens);

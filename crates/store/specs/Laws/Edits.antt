@@ -1,5 +1,4 @@
 -- One page: what is seen after an edit is the view that the edit names. Every page step is a list of edits.
--- Assumes nothing.
 use Prim.Native.Nat.{ℕ, _+_, _*_, _≤_, _<_}
 use mathlib.Core.Path.{_≡_, refl, sym, ap, _∙_}
 use mathlib.Core.Bool.{cond}
@@ -73,7 +72,14 @@ module _ (q : List ℕ) (k : ℕ) (v : View) (fits : Fits v) (under : Under q k 
 
   pub seen : view q ≡ v
   unfolding view
-  seen = λ i. record { slotCount = under .slotCount i; firstFree = under .firstFree i; dataStart = under .dataStart i; freeSpace = under .freeSpace i; at = λ j. slots j i; bytes = λ j. records j i }
+  seen = λ i. record {
+    slotCount = under .slotCount i;
+    firstFree = under .firstFree i;
+    dataStart = under .dataStart i;
+    freeSpace = under .freeSpace i;
+    at = λ j. slots j i;
+    bytes = λ j. records j i;
+  }
 
 -- the record's bytes, and the entry's, are apart from the rest
 module _ (q : List ℕ) (k : ℕ) (v : View) (fits : Fits v) where
@@ -204,7 +210,12 @@ pub record Shows (p : List ℕ) (u : View) : Type 0 where
 
 pub shows-view : (p : List ℕ) (u : View) → length p ≡ 16384 → view p ≡ u → Shows p u
 unfolding view
-shows-view p u h e = record { whole = h; slotCount = ap (λ (v : View). v .slotCount) (sym e); at = λ j. ap (λ (v : View). v .at j) (sym e); bytes = λ j. ap (λ (v : View). v .bytes j) (sym e) }
+shows-view p u h e = record {
+  whole = h;
+  slotCount = ap (λ (v : View). v .slotCount) (sym e);
+  at = λ j. ap (λ (v : View). v .at j) (sym e);
+  bytes = λ j. ap (λ (v : View). v .bytes j) (sym e);
+}
 
 -- a view that differs from what is shown in slot k and the header alone
 pub record Only (u : View) (k : ℕ) (v : View) : Type 0 where
@@ -225,7 +236,8 @@ module _ (p : List ℕ) (u : View) (k : ℕ) (v : View) (shows : Shows p u) (fit
   pub commit-view : view (apply (commit k v) p) ≡ v
   unfolding apply
   commit-view =
-      let e : view (apply (move k v) (putHead v p)) ≡ v = move-view (putHead v p) k v fits (under-head p v (shows .whole) fits k (entry-of p u k v shows only) (bytes-of p u k v shows only)) clear in
+      let e : view (apply (move k v) (putHead v p)) ≡ v =
+      move-view (putHead v p) k v fits (under-head p v (shows .whole) fits k (entry-of p u k v shows only) (bytes-of p u k v shows only)) clear in
       e
 
 -- where all of view u is seen, and v differs in slot k alone

@@ -1,4 +1,4 @@
--- Each page step leaves what its plan says is seen, and a sound page. Assumes nothing.
+-- Each page step leaves what its plan says is seen, and a sound page.
 use Prim.Native.Nat.{ℕ, _+_, _-_, _*_, _≤_, _<_}
 use mathlib.Core.Path.{_≡_, refl, ap, _∙_}
 use mathlib.Core.Bool.{false}
@@ -8,7 +8,8 @@ use lib.ListN.{length}
 use Rattle.store.specs.Numbers.{zeros}
 use Rattle.store.specs.Slots.{off, len, isFree, slotBytes}
 use Rattle.store.specs.Page.{View, view}
-use Rattle.store.specs.PageSteps.{Edit, head, move, commit, fill, apply, run, putHead, putSlot, headBytes, Plan, stay, andThen, gap, cost, erased, allocated, plan, erase}
+use Rattle.store.specs.PageSteps.{Edit, head, move, commit, fill, apply, run, putHead, putSlot, headBytes, Plan, stay, andThen, gap, cost}
+use Rattle.store.specs.PageSteps.{erased, allocated, plan, erase}
 use Rattle.store.specs.Laws.Numbers.{length-put}
 use Rattle.store.specs.Laws.Edits.{Clear, Only, Shows, shows-view, commit-view}
 use Rattle.store.specs.Laws.Views.{Sound, sound-fits, upd-elim, upd-other, erase-sound, alloc-sound, numbers}
@@ -73,4 +74,8 @@ module _ (p : List ℕ) (u : View) (shows : Shows p u) (s : Sound u) (n : ℕ) (
       let t = alloc-sound u s n room fit in
       exact-commit p u (u .firstFree) (allocated u n) shows t
       (λ j h. omega (arith, t .low j h, t .dir, m .inside))
-      (record { at = upd-other (u .at) (u .firstFree) (Ordinary (u .dataStart - n) n); bytes = upd-other (u .bytes) (u .firstFree) (zeros n); below = m .others })
+      (record {
+        at = upd-other (u .at) (u .firstFree) (Ordinary (u .dataStart - n) n);
+        bytes = upd-other (u .bytes) (u .firstFree) (zeros n);
+        below = m .others;
+      })

@@ -1,5 +1,4 @@
 -- Document 01, "Numbers to meet", those not marked: the same table for them, on what is seen of the pages. One theorem, by computation.
--- Assumes nothing.
 use Prim.Native.Nat.{ℕ}
 use mathlib.Core.Path.{_≡_, refl}
 use mathlib.Core.List.{List, [], _∷_, map}
@@ -7,7 +6,8 @@ use Rattle.store.specs.Numbers.{zeros, idOf}
 use Rattle.store.specs.Slots.{off, len}
 use Rattle.store.specs.Page.{View, sound}
 use Rattle.store.specs.PageSteps.{initialised, compactify, Alloc, noRoom, got, allocate, erase, eraseForRedirect, relocate}
-use Rattle.store.specs.Inventory.{classOf, nibbleAt, setNibble, entryAt, setEntry, firstFrom, nextPage, runEnd, setFrom, pulledBack, movedOn, updated, update, foundIn}
+use Rattle.store.specs.Inventory.{classOf, nibbleAt, setNibble, entryAt, setEntry, firstFrom, nextPage, runEnd, setFrom, pulledBack, movedOn}
+use Rattle.store.specs.Inventory.{updated, update, foundIn}
 use Rattle.store.specs.Segment.{SegView, Out, find, insertPlan, storePlan, writePlan}
 use Rattle.store.specs.Laws.Segments.{settled}
 use Rattle.store.specs.Laws.Marked.{Row}
@@ -75,19 +75,24 @@ forwarded = then three (λ u v. writePlan u v (idOf 1 0) (zeros 5000))
 
 -- "16,365: 3."
 abbrev long : Row
-long = record { got = did (start 1) (λ u v. insertPlan u v (zeros 16365)) .answer ∷ did (start 1) (λ u v. insertPlan u v (zeros 16364)) .answer ∷ []; want = 3 ∷ 0 ∷ [] }
+long = record {
+  got = did (start 1) (λ u v. insertPlan u v (zeros 16365)) .answer ∷ did (start 1) (λ u v. insertPlan u v (zeros 16364)) .answer ∷ [];
+  want = 3 ∷ 0 ∷ [];
+}
 
 -- "forwarded to (2,0), offset 11,376, length 5,008; page 1 free 4,356, page 2 free 11,356."
 abbrev moved : Row
 moved = record {
-  got = off (forwarded .seen .page 2 .at 0) ∷ len (forwarded .seen .page 2 .at 0) ∷ forwarded .seen .page 1 .freeSpace ∷ forwarded .seen .page 2 .freeSpace ∷ [];
+  got = off (forwarded .seen .page 2 .at 0) ∷ len
+      (forwarded .seen .page 2 .at 0) ∷ forwarded .seen .page 1 .freeSpace ∷ forwarded .seen .page 2 .freeSpace ∷ [];
   want = 11376 ∷ 5008 ∷ 4356 ∷ 11356 ∷ [];
 }
 
 -- "Then write 16,356: stays, page 2 free 0."
 abbrev fills : Row
 fills = record {
-  got = did forwarded (λ u v. writePlan u v (idOf 1 0) (zeros 16356)) .answer ∷ then forwarded (λ u v. writePlan u v (idOf 1 0) (zeros 16356)) .seen .page 2 .freeSpace ∷ [];
+  got = did forwarded (λ u v. writePlan u v (idOf 1 0) (zeros 16356)) .answer ∷ then forwarded
+      (λ u v. writePlan u v (idOf 1 0) (zeros 16356)) .seen .page 2 .freeSpace ∷ [];
   want = 0 ∷ 0 ∷ [];
 }
 

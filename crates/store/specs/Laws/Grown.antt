@@ -1,5 +1,4 @@
 -- How a store grows: a sound segment with zero pages behind it is sound with the same inventory, and every id of its pages reads as before.
--- Assumes nothing.
 use Prim.Native.Nat.{ℕ, zero, suc, _+_, _*_, _/_, _%_, _≤_, _<_}
 use mathlib.Core.Path.{_≡_, refl, sym, ap, _∙_, subst}
 use mathlib.Core.Bool.{Bool, true, false, cond}
@@ -91,9 +90,11 @@ module _ (s v : List ℕ) (h : SoundSegment s v) (k : ℕ) (few : length s / 163
       each : (p : ℕ) → Dec (p < length s / 16384) → opened (view (pageOf grown p)) ≡ segView s .page p
       each p (yes l) =
           ap (λ (q : List ℕ). opened (view q))
-          (ap (take 16384) (drop-append-le (p * 16384) s (zeros (k * 16384)) (omega arith)) ∙ take-append-le 16384 (drop (p * 16384) s) (zeros (k * 16384)) (simp length-drop (omega arith)))
+          (ap (take 16384) (drop-append-le (p * 16384) s (zeros (k * 16384)) (omega arith))
+          ∙ take-append-le 16384 (drop (p * 16384) s) (zeros (k * 16384)) (simp length-drop (omega arith)))
       each p (no l) =
-          zero-page (pageOf grown p) (zero-take 16384 (drop (p * 16384) grown) (zero-drop s (zeros (k * 16384)) (zero-zeros (k * 16384)) (p * 16384) (omega (arith, whole))))
+          zero-page (pageOf grown p) (zero-take 16384 (drop (p * 16384) grown)
+          (zero-drop s (zeros (k * 16384)) (zero-zeros (k * 16384)) (p * 16384) (omega (arith, whole))))
           ∙ sym (fresh-past p (omega arith))
 
   free-past : (i : ℕ) → length s / 16384 ≤ pageNo i → slotOn more i ≡ Free
@@ -111,8 +112,10 @@ module _ (s v : List ℕ) (h : SoundSegment s v) (k : ℕ) (few : length s / 163
   more-paired : Paired more
   more-paired =
       record {
-        redirects = λ i t l e. let r = h .pairs .redirects i t (inside i (ap isFree e)) e in record { below = omega (arith, r .below, seen-pages s); other = r .other; target = r .target; back = r .back };
-        targets = λ t l e. let r = h .pairs .targets t (inside t (target-taken (slotOn more t) e)) e in record { by = r .by; below = omega (arith, r .below, seen-pages s); names = r .names };
+        redirects = λ i t l e. let r = h .pairs .redirects i t (inside i (ap isFree e)) e in
+            record { below = omega (arith, r .below, seen-pages s); other = r .other; target = r .target; back = r .back };
+        targets = λ t l e. let r = h .pairs .targets t (inside t (target-taken (slotOn more t) e)) e in
+            record { by = r .by; below = omega (arith, r .below, seen-pages s); names = r .names };
       }
 
   class-past : (p : ℕ) → length s / 16384 ≤ p → classes (segView s) p ≡ 0
@@ -124,10 +127,15 @@ module _ (s v : List ℕ) (h : SoundSegment s v) (k : ℕ) (few : length s / 163
       go : Dec (p < length s / 16384) → classes more p ≡ classes (segView s) p
       go (yes l) = rw (lt-ltb p (length s / 16384 + k) (omega arith), lt-ltb p (segView s .pages) (omega (arith, seen-pages s)))
       go (no l) =
-          ap (λ (w : View). cond (ltb p (length s / 16384 + k)) (nibbleOf w) 0) (fresh-past p (omega arith)) ∙ either (ltb p (length s / 16384 + k)) ∙ sym (class-past p (omega arith))
+          ap (λ (w : View). cond (ltb p (length s / 16384 + k)) (nibbleOf w) 0) (fresh-past p (omega arith)) ∙ either (ltb p (length s / 16384 + k))
+          ∙ sym (class-past p (omega arith))
 
   more-lowest : (c e : ℕ) → Lowest (classes (segView s)) (length s / 16384) c e → Lowest (classes more) (length s / 16384 + k) c e
-  more-lowest c e w = record { within = omega (arith, w .within); before = λ j m. rw (more-classes j) (w .before j m); here = λ m. rw (more-classes e) (go (decLt e (length s / 16384))) }
+  more-lowest c e w = record {
+    within = omega (arith, w .within);
+    before = λ j m. rw (more-classes j) (w .before j m);
+    here = λ m. rw (more-classes e) (go (decLt e (length s / 16384)));
+  }
     where
       go : Dec (e < length s / 16384) → classes (segView s) e ≤ c
       go (yes l) = w .here l
@@ -141,7 +149,8 @@ module _ (s v : List ℕ) (h : SoundSegment s v) (k : ℕ) (few : length s / 163
       record {
         whole = rw (eq-eqb (length grown % 16384) 0 a, le-leb (length grown / 16384) 32527 b);
         page = h .page;
-        pages = λ p l. sound-closed (view (pageOf grown p)) (ap (λ (u : SegView). sound (u .page p)) grown-seen ∙ sound-test (segView s .page p) (seen-sound s v h .sounds p));
+        pages = λ p l. sound-closed (view (pageOf grown p))
+            (ap (λ (u : SegView). sound (u .page p)) grown-seen ∙ sound-test (segView s .page p) (seen-sound s v h .sounds p));
         pairs = subst Paired (sym grown-seen) more-paired;
         inventory = subst (λ (u : SegView). Truth (classes u) (u .pages) v) (sym grown-seen)
             (record { nibbles = λ j l. h .inventory .nibbles j l ∙ sym (more-classes j); entries = λ c l. more-lowest c _ (h .inventory .entries c l) });

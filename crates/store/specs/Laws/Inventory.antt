@@ -1,4 +1,4 @@
--- Laws of the inventory's bytes: what is read after a write, there and elsewhere. Assumes nothing.
+-- Laws of the inventory's bytes: what is read after a write, there and elsewhere.
 use Prim.Native.Nat.{ℕ, _+_, _*_, _/_, _%_, _^_, _≤_, _<_}
 use mathlib.Core.Path.{_≡_, _∙_, sym, ap}
 use mathlib.Core.List.{List, [], _∷_}

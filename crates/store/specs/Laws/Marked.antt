@@ -1,5 +1,5 @@
 -- Document 01, "Numbers to meet", those marked P: one table of what the definitions give and what they should, and one theorem, by
--- computation. Assumes nothing.
+-- computation.
 use Prim.Native.Nat.{ℕ}
 use mathlib.Core.Path.{_≡_, refl}
 use mathlib.Core.List.{List, [], _∷_, _++_, map}
@@ -7,7 +7,8 @@ use Rattle.store.specs.Numbers.{cut, zeros, idOf}
 use Rattle.store.specs.Slots.{slotBytes}
 use Rattle.store.specs.Page.{view, sound}
 use Rattle.store.specs.PageSteps.{initialised, headBytes, apply, compactify, allocate, relocate}
-use Rattle.store.specs.Inventory.{classOf, nibbleAt, nibble, setNibble, entryAt, setEntry, firstFrom, nextPage, runEnd, setFrom, pulledBack, movedOn, updated, update, foundIn}
+use Rattle.store.specs.Inventory.{classOf, nibbleAt, nibble, setNibble, entryAt, setEntry, firstFrom, nextPage, runEnd, setFrom, pulledBack}
+use Rattle.store.specs.Inventory.{movedOn, updated, update, foundIn}
 use Rattle.store.specs.Segment.{Result, segView, result, find, insertPlan, storePlan, insertStep, resizeStep}
 use Rattle.store.specs.declared.Slot.the-variants.{Redirect, Target}
 

@@ -1,4 +1,4 @@
--- Laws of `put` and `cut`, and of numbers as bytes. All that is known of a page after a write follows from these. Assumes nothing.
+-- Laws of `put` and `cut`, and of numbers as bytes. All that is known of a page after a write follows from these.
 use Prim.Native.Nat.{ℕ, zero, suc, _+_, _-_, _*_, _/_, _%_, _^_, _≤_, _<_}
 use mathlib.Core.Path.{_≡_, refl, sym, ap, _∙_}
 use mathlib.Core.List.{List, [], _∷_, _++_, reverse-reverse}
@@ -58,7 +58,8 @@ cut-in p i vs j m h f =
     let g : length vs ≤ length (drop i p) = simp length-drop (omega arith) in
     let a : j ≤ length vs = omega arith in
     let b : m ≤ length (drop j vs) = simp length-drop (omega arith) in
-    ap (take m) (sym (drop-drop j i (put p i vs)) ∙ ap (drop j) (drop-at-put p i vs ∙ put-zero (drop i p) vs g) ∙ drop-append-le j vs (drop (length vs) (drop i p)) a)
+    ap (take m) (sym (drop-drop j i (put p i vs)) ∙ ap (drop j) (drop-at-put p i vs ∙ put-zero (drop i p) vs g)
+    ∙ drop-append-le j vs (drop (length vs) (drop i p)) a)
     ∙ take-append-le m (drop j vs) (drop (length vs) (drop i p)) b
 
 -- ---- a part of a part

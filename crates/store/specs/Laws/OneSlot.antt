@@ -1,4 +1,4 @@
--- One slot's entry and record are replaced: the law that relocate, erase for a redirect, a new target and a write share. Assumes nothing.
+-- One slot's entry and record are replaced: the law that relocate, erase for a redirect, a new target and a write share.
 use Prim.Native.Nat.{ℕ, _+_, _-_, _*_, _^_, _≤_, _<_}
 use mathlib.Core.Path.{_≡_, refl, sym, ap, _∙_}
 use mathlib.Core.Bool.{true, false, cond}
@@ -12,7 +12,8 @@ use borrow.Author.Tests.{le-ltb, lt-ltb}
 use Rattle.store.specs.Numbers.{upd, sum}
 use Rattle.store.specs.Slots.{off, len, isFree, isTarget, isRecord, placed}
 use Rattle.store.specs.Page.{View, view}
-use Rattle.store.specs.PageSteps.{withSlot, withHead, commit, Plan, run, makeRoom, gap, isNew, cost, compactify, allocated, roomFor, allocating, redirected, parked, eraseForRedirect, movedUnder, moveUnder, plan}
+use Rattle.store.specs.PageSteps.{withSlot, withHead, commit, Plan, run, makeRoom, gap, isNew, cost, compactify, allocated, roomFor, allocating}
+use Rattle.store.specs.PageSteps.{redirected, parked, eraseForRedirect, movedUnder, moveUnder, plan}
 use Rattle.store.specs.Laws.Cases.{by-test}
 use Rattle.store.specs.Laws.Slots.{Codable}
 use Rattle.store.specs.Laws.Edits.{Apart, Shows, shows-view}
@@ -70,7 +71,8 @@ module _ (v : View) (s : Sound v) (k : ℕ) (x : Slot) (d r : ℕ) (h : Suits v 
           omega arith
 
   pub slot-exact : (p : List ℕ) → Shows p v
-      → Exact p (plan (commit k (withSlot (withHead v (v .slotCount) (v .firstFree) d r) k x bs) ∷ []) (withSlot (withHead v (v .slotCount) (v .firstFree) d r) k x bs))
+      → Exact p (plan (commit k (withSlot (withHead v (v .slotCount) (v .firstFree) d r) k x bs) ∷ [])
+      (withSlot (withHead v (v .slotCount) (v .firstFree) d r) k x bs))
   slot-exact p shows =
       let t = slot-sound in
       exact-commit p v k (withSlot (withHead v (v .slotCount) (v .firstFree) d r) k x bs) shows t
@@ -97,14 +99,16 @@ redirect-suits v k id d inside was small dir top others =
       freeSpace = omega arith;
     }
 
-pub park-suits : (v : View) → Sound v → (k : ℕ) → k < v .slotCount → isFree (v .at k) ≡ false → Suits v k (Redirect 0) (parked v k .dataStart) (parked v k .freeSpace)
+pub park-suits : (v : View) → Sound v → (k : ℕ) → k < v .slotCount → isFree (v .at k) ≡ false
+    → Suits v k (Redirect 0) (parked v k .dataStart) (parked v k .freeSpace)
 park-suits v s k inside was = redirect-suits v k 0 (v .dataStart) inside was (omega arith) (s .dir) (s .start≤) (λ j q a. s .low j a)
 
 module _ (v : View) (s : Sound v) (k : ℕ) (inside : k < v .slotCount) (was : isFree (v .at k) ≡ false) (id : ℕ) (small : id < 2 ^ 62) where
   pub redirect-exact : (p : List ℕ) → Shows p v → Exact p (eraseForRedirect v k id)
   unfolding eraseForRedirect
   redirect-exact p shows = slot-exact v s k (Redirect id) (redirected v k id .dataStart) (redirected v k id .freeSpace)
-      (redirect-suits v k id (redirected v k id .dataStart) inside was small (omega (arith, s .dir, start-up v s k inside was)) (start-end v s k inside was) (start-low v s k inside was)) [] refl p shows
+      (redirect-suits v k id (redirected v k id .dataStart) inside was small (omega (arith, s .dir, start-up v s k inside was))
+      (start-end v s k inside was) (start-low v s k inside was)) [] refl p shows
 
 -- ---- room is made, if it has to be
 
@@ -113,17 +117,34 @@ pub record MakesRoom (p : List ℕ) (v : View) (need : ℕ) (a : Plan) : Type 0 
   pub kept : Kept v (a .after)
   pub gap : need ≤ gap (a .after)
 
-pub made-roomy : (p : List ℕ) (v : View) (need : ℕ) → Shows p v → (gap v < need → view p ≡ v) → Sound v → need ≤ v .freeSpace → MakesRoom p v need (makeRoom v need)
+pub made-roomy : (p : List ℕ) (v : View) (need : ℕ) → Shows p v → (gap v < need → view p ≡ v) → Sound v → need ≤ v .freeSpace
+    → MakesRoom p v need (makeRoom v need)
 made-roomy p v need shows full s r = go (decLt (gap v) need)
   where
     go : Dec (gap v < need) → MakesRoom p v need (makeRoom v need)
     go (yes l) =
         rw (lt-ltb (gap v) need l)
-        (record { right = exact-right p (compactify v) (shows .whole) (compact-exact p v (shows .whole) (full l) s); kept = compact-keeps v s; gap = omega (arith, compact-gap v s) })
+        (record {
+          right = exact-right p (compactify v) (shows .whole) (compact-exact p v (shows .whole) (full l) s);
+          kept = compact-keeps v s;
+          gap = omega (arith, compact-gap v s);
+        })
     go (no l) =
         let g : need ≤ gap v = omega arith in
         rw (le-ltb (gap v) need g)
-        (record { right = right-stay p v shows s; kept = record { slotCount = refl; firstFree = refl; freeSpace = refl; bytes = λ j. refl; lens = λ j. refl; kinds = λ j. refl; tags = λ j. refl }; gap = g })
+        (record {
+          right = right-stay p v shows s;
+          kept = record {
+            slotCount = refl;
+            firstFree = refl;
+            freeSpace = refl;
+            bytes = λ j. refl;
+            lens = λ j. refl;
+            kinds = λ j. refl;
+            tags = λ j. refl;
+          };
+          gap = g;
+        })
 
 -- ---- allocate
 
@@ -172,8 +193,10 @@ module _ (v : View) (s : Sound v) (k : ℕ) (inside : k < v .slotCount) (was : i
       }
 
 -- what the move needs of the view before room is made
-module _ (p : List ℕ) (v : View) (whole : length p ≡ 16384) (seen : view p ≡ v) (s : Sound v) (k : ℕ) (inside : k < v .slotCount) (was : isFree (v .at k) ≡ false)
-    (none : len (v .at k) ≡ 0) (k0 : Slot) (kind : isRecord k0 ≡ true) (n : ℕ) (target : isTarget k0 ≡ true → 8 ≤ n) (room : n ≤ v .freeSpace) (bs : List ℕ) (size : length bs ≡ n) where
+module _ (p : List ℕ) (v : View) (whole : length p ≡ 16384) (seen : view p ≡ v) (s : Sound v) (k : ℕ) (inside : k < v .slotCount)
+    (was : isFree (v .at k) ≡ false)
+    (none : len (v .at k) ≡ 0) (k0 : Slot) (kind : isRecord k0 ≡ true) (n : ℕ) (target : isTarget k0 ≡ true
+    → 8 ≤ n) (room : n ≤ v .freeSpace) (bs : List ℕ) (size : length bs ≡ n) where
   pub under-exact : Exact p (moveUnder v k k0 n bs)
   under-exact =
       let m = made-roomy p v n (shows-view p v whole seen) (λ l. seen) s room in
@@ -181,5 +204,6 @@ module _ (p : List ℕ) (v : View) (whole : length p ≡ 16384) (seen : view p �
       let i = placed-is k0 (w .dataStart - n) n kind in
       exact-then p (makeRoom v n) (λ u. plan (commit k (movedUnder u k k0 n bs) ∷ []) (movedUnder u k k0 n bs))
       (slot-exact w (m .right .sound) k (placed k0 (w .dataStart - n) n) (movedUnder w k k0 n bs .dataStart) (movedUnder w k k0 n bs .freeSpace)
-      (drop-suits w (m .right .sound) k (omega (arith, m .kept .slotCount)) (m .kept .kinds k ∙ was) (m .kept .lens k ∙ none) k0 kind n target (omega (arith, m .kept .freeSpace)) (m .gap))
+      (drop-suits w (m .right .sound) k (omega (arith, m .kept .slotCount)) (m .kept .kinds k ∙ was) (m .kept .lens k ∙ none) k0 kind n target
+      (omega (arith, m .kept .freeSpace)) (m .gap))
       bs (size ∙ sym (i .len)) (run (makeRoom v n .edits) p) (m .right .shown))

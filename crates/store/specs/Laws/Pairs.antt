@@ -1,4 +1,4 @@
--- Redirects and targets stay paired: over maps from ids to entries and bytes, where at most three ids change. Assumes nothing.
+-- Redirects and targets stay paired: over maps from ids to entries and bytes, where at most three ids change.
 use Prim.Native.Nat.{ℕ, _<_}
 use mathlib.Core.Path.{_≡_, refl, sym, ap, _∙_, subst}
 use mathlib.Core.Bool.{Bool, true, false, cond}
@@ -117,7 +117,8 @@ pub record Moves (n : ℕ) (T : ℕ → Slot) (B : ℕ → List ℕ) (T′ : ℕ
   pub plain : isTarget (T′ d) ≡ false
   pub rows : (j : ℕ) → pageNo j < n → j ≢ d → rowAt B′ j (T′ j) ≡ rowAt B j (T j)
 
-pub moves-by : (n : ℕ) (T : ℕ → Slot) (B : ℕ → List ℕ) (T₁ T₂ : ℕ → Slot) (B₁ B₂ : ℕ → List ℕ) (d : ℕ) (w : Read) → T₂ ≡ T₁ → B₂ ≡ B₁ → Moves n T B T₁ B₁ d w → Moves n T B T₂ B₂ d w
+pub moves-by : (n : ℕ) (T : ℕ → Slot) (B : ℕ → List ℕ) (T₁ T₂ : ℕ → Slot) (B₁ B₂ : ℕ → List ℕ) (d : ℕ) (w : Read) → T₂ ≡ T₁ → B₂ ≡ B₁
+    → Moves n T B T₁ B₁ d w → Moves n T B T₂ B₂ d w
 moves-by n T B T₁ T₂ B₁ B₂ d w e f h = subst (λ (X : ℕ → Slot). Moves n T B X B₂ d w) (sym e) (subst (λ (Y : ℕ → List ℕ). Moves n T B T₁ Y d w) (sym f) h)
 
 -- ---- at most three ids change, each with its partner
@@ -403,7 +404,8 @@ module _ (n : ℕ) (T : ℕ → Slot) (B : ℕ → List ℕ) (old : Pairs n T B)
         b′ = ap (λ (z : List ℕ). be (take 8 z)) (upd-same (upd (upd B i []) t []) q bs) ∙ back
 
         i′ : T′ i ≡ Redirect q
-        i′ = upd-other (upd (upd T i (Redirect q)) t Free) q (Target 0 m) i (λ e. qi (sym e)) ∙ upd-other (upd T i (Redirect q)) t Free i (λ e. apart (sym e)) ∙ upd-same T i (Redirect q)
+        i′ = upd-other (upd (upd T i (Redirect q)) t Free) q (Target 0 m) i (λ e. qi (sym e))
+            ∙ upd-other (upd T i (Redirect q)) t Free i (λ e. apart (sym e)) ∙ upd-same T i (Redirect q)
 
         q′ : T′ q ≡ Target 0 m
         q′ = upd-same (upd (upd T i (Redirect q)) t Free) q (Target 0 m)
@@ -420,7 +422,8 @@ module _ (n : ℕ) (T : ℕ → Slot) (B : ℕ → List ℕ) (old : Pairs n T B)
         row j k ne (no e) (no f) = rows-kept n T T′ B B′ i t q old same ci ct cq j k (λ m. ⊎-elim ne (⊎-elim e f) m)
 
         kt : PairOk n T′ B′ t (T′ t)
-        kt = plain-ok T′ B′ t (T′ t) (subst Plain (sym (upd-other (upd (upd T i (Redirect q)) t Free) q (Target 0 m) t (λ e. u (sym e)) ∙ upd-same (upd T i (Redirect q)) t Free)) tt)
+        kt = plain-ok T′ B′ t (T′ t) (subst Plain
+            (sym (upd-other (upd (upd T i (Redirect q)) t Free) q (Target 0 m) t (λ e. u (sym e)) ∙ upd-same (upd T i (Redirect q)) t Free)) tt)
 
         kq : PairOk n T′ B′ q (T′ q)
         kq = subst (PairOk n T′ B′ q) (sym q′) (subst (λ (r : ℕ). pageNo r < n) (sym b′) below, ap T′ b′ ∙ i′)
@@ -450,7 +453,10 @@ module _ (n : ℕ) (T : ℕ → Slot) (B : ℕ → List ℕ) (old : Pairs n T B)
       B′ = upd (upd B i []) q bs
 
       same : (j : ℕ) → j ≢ i → j ≢ q → j ≢ q → (T′ j ≡ T j) × (B′ j ≡ B j)
-      same j f g h = (upd-other (upd T i (Redirect q)) q (Target 0 m) j g ∙ upd-other T i (Redirect q) j f, upd-other (upd B i []) q bs j g ∙ upd-other B i [] j f)
+      same j f g h = (
+        upd-other (upd T i (Redirect q)) q (Target 0 m) j g ∙ upd-other T i (Redirect q) j f,
+        upd-other (upd B i []) q bs j g ∙ upd-other B i [] j f,
+      )
 
       ci : Closed n T T′ B B′ i q q old same i (T i)
       ci = plain-closed T′ B′ i q q same i (T i) pi

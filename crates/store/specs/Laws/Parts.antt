@@ -1,4 +1,4 @@
--- The part of the lent segment that a read or a scan's step answers has the record's bytes. Assumes nothing.
+-- The part of the lent segment that a read or a scan's step answers has the record's bytes.
 use Prim.Native.Nat.{ℕ, zero, suc, _+_, _-_, _*_, _≤_}
 use mathlib.Core.Path.{_≡_, refl, sym, ap, subst, _∙_}
 use mathlib.Core.Bool.{true, false, cond, not, _&&_}
@@ -59,7 +59,8 @@ module _ (s : List ℕ) (i : ℕ) where
   unfolding locateStep readStep readPlan
   part-read =
       by-test Holds (sizeOk s) (readPlan (segView s) i) (noRead 1)
-      (λ z. by-test Holds (leb (segView s .pages) (pageNo i)) (noRead 2) (cond (not (sound (segView s .page (pageNo i)))) (noRead 4) (readBy (segView s) i (segView s .page (pageNo i) .at (slotNo i))))
+      (λ z. by-test Holds (leb (segView s .pages) (pageNo i)) (noRead 2)
+      (cond (not (sound (segView s .page (pageNo i)))) (noRead 4) (readBy (segView s) i (segView s .page (pageNo i) .at (slotNo i))))
       (λ l. refl)
       (λ l. by-test Holds (not (sound (segView s .page (pageNo i)))) (noRead 4) (readBy (segView s) i (segView s .page (pageNo i) .at (slotNo i))) (λ u. refl)
       (λ u. go (segView s .page (pageNo i) .at (slotNo i)) refl (high (pageNo i) (slotNo i) l (not-false (sound (segView s .page (pageNo i))) u)))))
@@ -74,15 +75,21 @@ module _ (s : List ℕ) (i : ℕ) where
           let h = back-ok s i t b .0 .sound .high (slotNo t) in
           target-part s (pageNo t) (slotNo t) o l e (subst (λ (y : Slot). off y + len y ≤ 16384) e h)
 
-      go : (x : Slot) → segView s .page (pageNo i) .at (slotNo i) ≡ x → off (segView s .page (pageNo i) .at (slotNo i)) + len (segView s .page (pageNo i) .at (slotNo i)) ≤ 16384
-          → held s (cond (eqb (readBy (segView s) i x .answer) 0) (partBy (segView s) i (segView s .page (pageNo i) .at (slotNo i))) noPart) ≡ readBy (segView s) i x .bytes
-      go (Ordinary o l) e h = ap (λ (y : Slot). held s (partBy (segView s) i y)) e ∙ ordinary-part s (pageNo i) (slotNo i) o l e (subst (λ (y : Slot). off y + len y ≤ 16384) e h)
+      go : (x : Slot) → segView s .page (pageNo i) .at (slotNo i) ≡ x
+          → off (segView s .page (pageNo i) .at (slotNo i)) + len (segView s .page (pageNo i) .at (slotNo i)) ≤ 16384
+          → held s (cond (eqb (readBy (segView s) i x .answer) 0) (partBy (segView s) i (segView s .page (pageNo i) .at (slotNo i))) noPart)
+          ≡ readBy (segView s) i x .bytes
+      go (Ordinary o l) e h = ap (λ (y : Slot). held s (partBy (segView s) i y)) e
+          ∙ ordinary-part s (pageNo i) (slotNo i) o l e (subst (λ (y : Slot). off y + len y ≤ 16384) e h)
       go Free e h = refl
       go (Redirect t) e h =
-          by-test (λ (r : Read). held s (cond (eqb (r .answer) 0) (partBy (segView s) i (segView s .page (pageNo i) .at (slotNo i))) noPart) ≡ r .bytes) (pointsBack (segView s) i t)
+          by-test (λ (r : Read). held s (cond (eqb (r .answer) 0) (partBy (segView s) i (segView s .page (pageNo i) .at (slotNo i))) noPart)
+          ≡ r .bytes) (pointsBack (segView s) i t)
           (record { answer = 0; bytes = drop 8 (segView s .page (pageNo t) .bytes (slotNo t)) }) (noRead 4)
-          (λ b. ap (λ (y : Slot). held s (partBy (segView s) i y)) e ∙ target t b (segView s .page (pageNo t) .at (slotNo t)) refl (back-ok s i t b .1)) (λ b. refl)
-      go (Target o l) e h = ap (λ (y : Slot). held s (partBy (segView s) i y)) e ∙ target-part s (pageNo i) (slotNo i) o l e (subst (λ (y : Slot). off y + len y ≤ 16384) e h)
+          (λ b. ap (λ (y : Slot). held s (partBy (segView s) i y)) e
+          ∙ target t b (segView s .page (pageNo t) .at (slotNo t)) refl (back-ok s i t b .1)) (λ b. refl)
+      go (Target o l) e h = ap (λ (y : Slot). held s (partBy (segView s) i y)) e
+          ∙ target-part s (pageNo i) (slotNo i) o l e (subst (λ (y : Slot). off y + len y ≤ 16384) e h)
 
 -- ---- a step of the scan
 
@@ -93,7 +100,8 @@ module _ (s : List ℕ) where
   record-part : (p k : ℕ) → liesWell (segView s .page p) k ≡ true → Shown (recordAt (segView s .page p) p k)
   record-part p k g = go (segView s .page p .at k) refl (in-page (segView s .page p) k g)
     where
-      go : (x : Slot) → segView s .page p .at k ≡ x → off (segView s .page p .at k) + len (segView s .page p .at k) ≤ 16384 → Shown (recordAt (segView s .page p) p k)
+      go : (x : Slot) → segView s .page p .at k ≡ x → off (segView s .page p .at k) + len (segView s .page p .at k) ≤ 16384
+          → Shown (recordAt (segView s .page p) p k)
       go (Ordinary o l) e h = rw e (ordinary-part s p k o l e (subst (λ (y : Slot). off y + len y ≤ 16384) e h))
       go Free e h = rw e (sym (ap (λ (y : Slot). cut s (p * 16384 + off y) (len y)) e) ∙ seen-bytes s p k h)
       go (Redirect j) e h = rw e (sym (ap (λ (y : Slot). cut s (p * 16384 + off y) (len y)) e) ∙ seen-bytes s p k h)
@@ -110,9 +118,12 @@ module _ (s : List ℕ) where
       j = nextRecord (v .slotCount - k) v k
 
       go : Shown (scanFrom m (segView s) (p + 1) 0)
-          → Shown (cond (eqb k 0 && not (sound v)) (without 4 overPage 0) (cond (ltb j (v .slotCount)) (cond (liesWell v j) (recordAt v p j) (without 4 overPage 0)) (scanFrom m (segView s) (p + 1) 0)))
+          → Shown (cond (eqb k 0 && not (sound v)) (without 4 overPage 0)
+          (cond (ltb j (v .slotCount)) (cond (liesWell v j) (recordAt v p j) (without 4 overPage 0)) (scanFrom m (segView s) (p + 1) 0)))
       go ih =
-          by-test Shown (eqb k 0 && not (sound v)) (without 4 overPage 0) (cond (ltb j (v .slotCount)) (cond (liesWell v j) (recordAt v p j) (without 4 overPage 0)) (scanFrom m (segView s) (p + 1) 0)) (λ a. refl)
+          by-test Shown (eqb k 0 && not (sound v)) (without 4 overPage 0)
+          (cond (ltb j (v .slotCount)) (cond (liesWell v j) (recordAt v p j) (without 4 overPage 0))
+          (scanFrom m (segView s) (p + 1) 0)) (λ a. refl)
           (λ a. by-test Shown (ltb j (v .slotCount)) (cond (liesWell v j) (recordAt v p j) (without 4 overPage 0)) (scanFrom m (segView s) (p + 1) 0)
           (λ b. by-test Shown (liesWell v j) (recordAt v p j) (without 4 overPage 0) (λ g. record-part p j g) (λ g. refl)) (λ b. ih))
 

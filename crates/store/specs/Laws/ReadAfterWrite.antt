@@ -1,4 +1,4 @@
--- Read after write: from a sound segment, what a read gives after a call that is carried out, by the answer's id and by every other root. Assumes nothing.
+-- Read after write: from a sound segment, what a read gives after a call that is carried out, by the answer's id and by every other root.
 use Prim.Native.Nat.{ℕ, _/_, _≤_, _<_}
 use mathlib.Core.Path.{_≡_, refl, sym, ap, _∙_, subst}
 use mathlib.Core.Bool.{false, not}
@@ -75,7 +75,8 @@ module _ (s v : List ℕ) (h : SoundSegment s v) (o : Out) (x : AllExact s (o .s
             );
       }
 
-plan-reads : (plan : SegView → Out) (w : SegView → Read) (s v : List ℕ) → Exacting plan → Staying plan w v → SoundSegment s v → Reads s (w (segView s)) (step s v (plan (segView s)))
+plan-reads : (plan : SegView → Out) (w : SegView → Read) (s v : List ℕ) → Exacting plan → Staying plan w v → SoundSegment s v
+    → Reads s (w (segView s)) (step s v (plan (segView s)))
 unfolding result
 plan-reads plan w s v x k h =
     let z = sized s (h .whole) in
@@ -84,7 +85,8 @@ plan-reads plan w s v x k h =
 -- ---- the five writing calls: the bytes are read back, with zeros where a resize or an allocate added some; after an erase the id is 5; every other
 -- root reads as before
 pub call-reads : (c : Call) (s v : List ℕ) → SoundSegment s v → Reads s (rowOf c (segView s)) (called c s v)
-call-reads c s v h = subst (Reads s (rowOf c (segView s))) (sym (called-plan c s v)) (plan-reads (planOf c v) (rowOf c) s v (call-exacting c v) (call-staying c v) h)
+call-reads c s v h = subst (Reads s (rowOf c (segView s))) (sym (called-plan c s v))
+    (plan-reads (planOf c v) (rowOf c) s v (call-exacting c v) (call-staying c v) h)
 
 -- a record at another size, byte by byte: the old bytes as far as both go, and zeros behind
 pub record Refit (n : ℕ) (old new : List ℕ) : Type 0 where
@@ -97,5 +99,6 @@ pub resize-reads : (s v : List ℕ) (i n : ℕ) → SoundSegment s v → Rooted 
     → Refit n (readStep s i .bytes) (readStep (resizeStep s v i n .seg) (resizeStep s v i n .id) .bytes)
 resize-reads s v i n h x e =
     let old : readStep s i .bytes ≡ oldBytes (segView s) i = ap (λ (r : Read). r .bytes) (read-look s v h i (x .below)) in
-    let new : readStep (resizeStep s v i n .seg) (resizeStep s v i n .id) .bytes ≡ fit n (oldBytes (segView s) i) = ap (λ (r : Read). r .bytes) (call-reads (resize i n) s v h .own e) in
+    let new : readStep (resizeStep s v i n .seg) (resizeStep s v i n .id) .bytes ≡ fit n (oldBytes (segView s) i) =
+    ap (λ (r : Read). r .bytes) (call-reads (resize i n) s v h .own e) in
     rw (old, new) (record { long = length-fit n _; kept = fit-kept n _; added = fit-added n _ })

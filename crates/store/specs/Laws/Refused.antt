@@ -1,5 +1,5 @@
 -- Demand 1: a call that is refused keeps every byte of segment and inventory, and each answer is one of 0 to 8: for all bytes, damaged ones
--- too. Assumes nothing.
+-- too.
 use Prim.Native.Nat.{ℕ, _+_, _≤_}
 use mathlib.Core.Path.{_≡_, refl, sym, ap, subst}
 use mathlib.Core.Bool.{Bool, true, false, cond, not, _&&_, _||_}
@@ -12,7 +12,9 @@ use Rattle.store.specs.Numbers.{pageNo, slotNo}
 use Rattle.store.specs.Page.{sound}
 use Rattle.store.specs.PageSteps.{Alloc, noRoom, got, allocate, Relocated, refused, moved, relocate}
 use Rattle.store.specs.Inventory.{foundIn}
-use Rattle.store.specs.Segment.{SegView, segView, sizeOk, invOk, OnPage, Out, done, refuse, refuseIf, Result, result, carried, Found, nowhere, found, taken, findOn, find, inserted, insertPlan, pointsBack, forwarded, fromOrdinary, forwardedAgain, atTarget, atHome, storeBy, storePlan, eraseBy, erasePlan}
+use Rattle.store.specs.Segment.{SegView, segView, sizeOk, invOk, OnPage, Out, done, refuse, refuseIf, Result, result, carried, Found, nowhere}
+use Rattle.store.specs.Segment.{found, taken, findOn, find, inserted, insertPlan, pointsBack, forwarded, fromOrdinary, forwardedAgain, atTarget}
+use Rattle.store.specs.Segment.{atHome, storeBy, storePlan, eraseBy, erasePlan}
 use Rattle.store.specs.Calls.{Call, insert, allocate as allocateCall, write, resize, erase, called}
 use Rattle.store.specs.Laws.Calls.{by-test}
 use Rattle.store.specs.Laws.Segments.{planned}
@@ -67,7 +69,8 @@ module _ (u : SegView) (v : List ℕ) where
 
   insert-plan : (bs : List ℕ) → RefusedOrDone v (insertPlan u v bs)
   unfolding insertPlan
-  insert-plan bs = refuse-if (ltb 16364 (length bs)) v 3 _ (omega arith) (inserted-keeps bs (find foundIn u v (length bs) (λ p. false)) (find-most u v (length bs) (λ p. false)))
+  insert-plan bs = refuse-if (ltb 16364 (length bs)) v 3 _ (omega arith)
+      (inserted-keeps bs (find foundIn u v (length bs) (λ p. false)) (find-most u v (length bs) (λ p. false)))
 
   module _ (i size : ℕ) (new : List ℕ → List ℕ) where
     forwarded-keeps : (old : List ℕ) (f : Found) → NumberMost f → RefusedOrDone v (forwarded u v i size new old f)
@@ -84,7 +87,8 @@ module _ (u : SegView) (v : List ℕ) where
 
     target-keeps : (t : ℕ) (old : List ℕ) (r : Relocated) → RefusedOrDone v (atTarget u v i size new t old r)
     target-keeps t old (moved a) = is-done v _ _ _
-    target-keeps t old refused = let ex : ℕ → Bool = λ p. eqb p (pageNo i) || eqb p (pageNo t) in again-keeps t old (find foundIn u v (size + 8) ex) (find-most u v (size + 8) ex)
+    target-keeps t old refused = let ex : ℕ → Bool = λ p. eqb p (pageNo i) || eqb p (pageNo t) in
+        again-keeps t old (find foundIn u v (size + 8) ex) (find-most u v (size + 8) ex)
 
     home-keeps : (t : ℕ) (old : List ℕ) (r : Relocated) → RefusedOrDone v (atHome u v i size new t old r)
     home-keeps t old (moved a) = is-done v _ _ _
@@ -100,7 +104,8 @@ module _ (u : SegView) (v : List ℕ) where
     unfolding storePlan
     store-plan =
         refuse-if (ltb 16364 size) v 3 _ (omega arith)
-        (refuse-if (leb (u .pages) (pageNo i)) v 2 _ (omega arith) (refuse-if (not (sound (u .page (pageNo i)))) v 4 _ (omega arith) (by-slot (u .page (pageNo i) .at (slotNo i)))))
+        (refuse-if (leb (u .pages) (pageNo i)) v 2 _ (omega arith)
+        (refuse-if (not (sound (u .page (pageNo i)))) v 4 _ (omega arith) (by-slot (u .page (pageNo i) .at (slotNo i)))))
 
   erase-by : (i : ℕ) (x : Slot) → RefusedOrDone v (eraseBy u v i x)
   erase-by i (Ordinary o l) = is-done v _ _ _
@@ -111,7 +116,8 @@ module _ (u : SegView) (v : List ℕ) where
   erase-plan : (i : ℕ) → RefusedOrDone v (erasePlan u v i)
   unfolding erasePlan
   erase-plan i =
-      refuse-if (leb (u .pages) (pageNo i)) v 2 _ (omega arith) (refuse-if (not (sound (u .page (pageNo i)))) v 4 _ (omega arith) (erase-by i (u .page (pageNo i) .at (slotNo i))))
+      refuse-if (leb (u .pages) (pageNo i)) v 2 _ (omega arith)
+      (refuse-if (not (sound (u .page (pageNo i)))) v 4 _ (omega arith) (erase-by i (u .page (pageNo i) .at (slotNo i))))
 
   call-plan : (c : Call) → RefusedOrDone v (planOf c v u)
   call-plan (insert bs) = insert-plan bs

@@ -1,4 +1,4 @@
--- Relocate, and a write in place. Assumes nothing.
+-- Relocate, and a write in place.
 use Prim.Native.Nat.{ℕ, _+_, _-_, _≤_, _<_}
 use mathlib.Core.Path.{_≡_, refl, sym, ap, _∙_}
 use mathlib.Core.Bool.{true, false, cond}
@@ -12,7 +12,8 @@ use borrow.Author.Tests.{le-ltb, lt-ltb, eq-eqb, ne-eqb}
 use Rattle.store.specs.Numbers.{zeros, fit}
 use Rattle.store.specs.Slots.{off, len, isFree, isTarget, isRecord, placed}
 use Rattle.store.specs.Page.{View, view}
-use Rattle.store.specs.PageSteps.{withSlot, commit, fill, move, Plan, andThen, run, makeRoom, parked, moveUnder, shrunk, resized, relocateBy, relocate, Relocated, refused, moved, filled, plan}
+use Rattle.store.specs.PageSteps.{withSlot, commit, fill, move, Plan, andThen, run, makeRoom, parked, moveUnder, shrunk, resized, relocateBy}
+use Rattle.store.specs.PageSteps.{relocate, Relocated, refused, moved, filled, plan}
 use Rattle.store.specs.Laws.Slots.{Codable}
 use Rattle.store.specs.Laws.Edits.{Only, shows-view, under-view, fill-view, move-view, entry-of}
 use Rattle.store.specs.Laws.Views.{Sound, sound-fits, upd-same, upd-other}
@@ -38,7 +39,8 @@ Answered p v k n (moved a) = Moved p v k n a
 
 module _ (p : List ℕ) (v : View) (whole : length p ≡ 16384) (seen : view p ≡ v) (s : Sound v) (k : ℕ) (inside : k < v .slotCount) where
   -- smaller: the length only
-  module _ (n : ℕ) (kind : isRecord (v .at k) ≡ true) (free : isFree (v .at k) ≡ false) (less : n < len (v .at k)) (target : isTarget (v .at k) ≡ true → 8 ≤ n) where
+  module _ (n : ℕ) (kind : isRecord (v .at k) ≡ true) (free : isFree (v .at k) ≡ false) (less : n < len (v .at k)) (target : isTarget (v .at k) ≡ true
+      → 8 ≤ n) where
     shrink-suits : Suits v k (placed (v .at k) (off (v .at k)) n) (shrunk v k n .dataStart) (shrunk v k n .freeSpace)
     shrink-suits =
         let i = placed-is (v .at k) (off (v .at k)) n kind in
@@ -57,7 +59,8 @@ module _ (p : List ℕ) (v : View) (whole : length p ≡ 16384) (seen : view p �
           freeSpace = rw (i .len) (omega arith);
         }
       where
-        side : (j : ℕ) → (off (v .at k) + len (v .at k) ≤ off (v .at j)) ⊎ (off (v .at j) + len (v .at j) ≤ off (v .at k)) → (off (v .at k) + n ≤ off (v .at j)) ⊎ (off (v .at j) + len (v .at j) ≤ off (v .at k))
+        side : (j : ℕ) → (off (v .at k) + len (v .at k) ≤ off (v .at j)) ⊎ (off (v .at j) + len (v .at j) ≤ off (v .at k))
+            → (off (v .at k) + n ≤ off (v .at j)) ⊎ (off (v .at j) + len (v .at j) ≤ off (v .at k))
         side j (inl a) = inl (omega arith)
         side j (inr b) = inr b
 
@@ -66,7 +69,8 @@ module _ (p : List ℕ) (v : View) (whole : length p ≡ 16384) (seen : view p �
         let i = placed-is (v .at k) (off (v .at k)) n kind in
         let e : length (take n (v .bytes k)) ≡ n = length-take n (v .bytes k) ∙ omega (arith, s .lens k) in
         record {
-          exact = slot-exact v s k (placed (v .at k) (off (v .at k)) n) (shrunk v k n .dataStart) (shrunk v k n .freeSpace) shrink-suits (take n (v .bytes k)) (e ∙ sym (i .len)) p (shows-view p v whole seen);
+          exact = slot-exact v s k (placed (v .at k) (off (v .at k)) n) (shrunk v k n .dataStart) (shrunk v k n .freeSpace) shrink-suits
+              (take n (v .bytes k)) (e ∙ sym (i .len)) p (shows-view p v whole seen);
           size = ap len (upd-same (v .at) k (placed (v .at k) (off (v .at k)) n)) ∙ i .len;
           inside = inside;
           free = ap isFree (upd-same (v .at) k (placed (v .at k) (off (v .at k)) n)) ∙ i .free;
@@ -75,10 +79,12 @@ module _ (p : List ℕ) (v : View) (whole : length p ≡ 16384) (seen : view p �
   -- parked: the page that room is made on
   module _ (free : isFree (v .at k) ≡ false) where
     pub park-exact : Exact p (plan (commit k (parked v k) ∷ []) (parked v k))
-    park-exact = slot-exact v s k (Redirect 0) (parked v k .dataStart) (parked v k .freeSpace) (park-suits v s k inside free) [] refl p (shows-view p v whole seen)
+    park-exact = slot-exact v s k (Redirect 0) (parked v k .dataStart) (parked v k .freeSpace) (park-suits v s k inside free) [] refl p
+        (shows-view p v whole seen)
 
   -- larger: parked, and put under data start
-  module _ (n : ℕ) (kind : isRecord (v .at k) ≡ true) (free : isFree (v .at k) ≡ false) (more : len (v .at k) < n) (room : n - len (v .at k) ≤ v .freeSpace) where
+  module _ (n : ℕ) (kind : isRecord (v .at k) ≡ true) (free : isFree (v .at k) ≡ false) (more : len (v .at k) < n)
+      (room : n - len (v .at k) ≤ v .freeSpace) where
     grow-moved : Moved p v k n (andThen (plan (commit k (parked v k) ∷ []) (parked v k)) (λ w. moveUnder w k (v .at k) n (fit n (v .bytes k))))
     grow-moved =
         let x = park-exact free in
@@ -87,11 +93,16 @@ module _ (p : List ℕ) (v : View) (whole : length p ≡ 16384) (seen : view p �
         record {
           exact =
               exact-then p (plan (commit k (parked v k) ∷ []) (parked v k)) (λ w. moveUnder w k (v .at k) n (fit n (v .bytes k)))
-              (under-exact q (parked v k) (length-run (commit k (parked v k) ∷ []) p ∙ whole) (x .seen) (x .sound) k inside (ap isFree e) (ap len e) (v .at k) kind n
+              (under-exact q (parked v k) (length-run (commit k (parked v k) ∷ []) p ∙ whole) (x .seen) (x .sound) k inside (ap isFree e) (ap len e)
+              (v .at k) kind n
               (λ t. omega (arith, s .targets k t)) (omega arith) (fit n (v .bytes k)) (length-fit n (v .bytes k)));
           size = let w : View = makeRoom (parked v k) n .after in
               ap len (upd-same (w .at) k (placed (v .at k) (w .dataStart - n) n)) ∙ placed-is (v .at k) (w .dataStart - n) n kind .len;
-          inside = omega (arith, made-roomy q (parked v k) n (shows-view q (parked v k) (length-run (commit k (parked v k) ∷ []) p ∙ whole) (x .seen)) (λ l. x .seen) (x .sound) (omega arith) .kept .slotCount);
+          inside = omega (
+            arith,
+            made-roomy q (parked v k) n (shows-view q (parked v k) (length-run (commit k (parked v k) ∷ []) p ∙ whole) (x .seen))
+                (λ l. x .seen) (x .sound) (omega arith) .kept .slotCount,
+          );
           free = let w : View = makeRoom (parked v k) n .after in
               ap isFree (upd-same (w .at) k (placed (v .at k) (w .dataStart - n) n)) ∙ placed-is (v .at k) (w .dataStart - n) n kind .free;
         }
@@ -121,7 +132,8 @@ module _ (p : List ℕ) (v : View) (whole : length p ≡ 16384) (seen : view p �
           let w : View = makeRoom v n .after in
           rw (le-ltb (v .freeSpace) n d)
           (record {
-            exact = under-exact p v whole seen s k inside (ap isFree e) (ap len e) (Ordinary 0 0) refl n (λ t. let z : _≡_ {A = ℕ} 0 1 = cc in omega arith) d (zeros n) (length-replicate n 0);
+            exact = under-exact p v whole seen s k inside (ap isFree e) (ap len e) (Ordinary 0 0) refl n (λ t. let z : _≡_ {A = ℕ} 0 1 = cc in
+                omega arith) d (zeros n) (length-replicate n 0);
             size = ap len (upd-same (w .at) k (Ordinary (w .dataStart - n) n));
             inside = omega (arith, made-roomy p v n (shows-view p v whole seen) (λ l. seen) s d .kept .slotCount);
             free = ap isFree (upd-same (w .at) k (Ordinary (w .dataStart - n) n));
@@ -139,7 +151,8 @@ module _ (p : List ℕ) (v : View) (whole : length p ≡ 16384) (seen : view p �
 
 -- ---- a record's bytes written where it stands
 
-module _ (p : List ℕ) (a : Plan) (whole : length p ≡ 16384) (x : Exact p a) (k : ℕ) (inside : k < a .after .slotCount) (free : isFree (a .after .at k) ≡ false) where
+module _ (p : List ℕ) (a : Plan) (whole : length p ≡ 16384) (x : Exact p a) (k : ℕ) (inside : k < a .after .slotCount)
+    (free : isFree (a .after .at k) ≡ false) where
   keep-suits : Suits (a .after) k (a .after .at k) (a .after .dataStart) (a .after .freeSpace)
   keep-suits =
       let s = x .sound in
@@ -176,7 +189,8 @@ module _ (p : List ℕ) (a : Plan) (whole : length p ≡ 16384) (x : Exact p a) 
       })
 
   -- its entry and bytes replaced, at the same place
-  module _ (y : Slot) (place : off y ≡ off (a .after .at k)) (extent : len y ≡ len (a .after .at k)) (is : isFree y ≡ false) (bits : Codable y) (long : isTarget y ≡ true → 8 ≤ len y)
+  module _ (y : Slot) (place : off y ≡ off (a .after .at k)) (extent : len y ≡ len (a .after .at k)) (is : isFree y ≡ false) (bits : Codable y)
+      (long : isTarget y ≡ true → 8 ≤ len y)
       (bs : List ℕ) (size : length bs ≡ len y) where
     retype-suits : Suits (a .after) k y (a .after .dataStart) (a .after .freeSpace)
     retype-suits =

@@ -1,4 +1,4 @@
--- A row that the scan hands out is the row that a read by its id gives, in a sound segment. Assumes nothing.
+-- A row that the scan hands out is the row that a read by its id gives, in a sound segment.
 use Prim.Native.Nat.{ℕ, zero, suc, _+_, _-_, _≤_, _<_}
 use mathlib.Core.Path.{_≡_, refl, sym, ap, subst, _∙_}
 use mathlib.Core.Bool.{Bool, true, false, cond, not, _&&_}
@@ -68,7 +68,8 @@ module _ (s v : List ℕ) (h : SoundSegment s v) where
     same-bytes = λ i. segView s .page (page-of p j small i) .bytes (slot-of p j small i)
 
     -- a target's back id is its root's, which is a redirect to it
-    by-root : (o l : ℕ) → segView s .page p .at j ≡ Target o l → readStep s (be (take 8 (segView s .page p .bytes j))) ≡ row (drop 8 (segView s .page p .bytes j))
+    by-root : (o l : ℕ) → segView s .page p .at j ≡ Target o l
+        → readStep s (be (take 8 (segView s .page p .bytes j))) ≡ row (drop 8 (segView s .page p .bytes j))
     by-root o l e =
         let t : ℕ = idOf p j in
         let n = h .pairs .targets t inside (ap isTarget (here ∙ e)) in
@@ -102,9 +103,12 @@ module _ (s v : List ℕ) (h : SoundSegment s v) where
           record-reads p j (omega arith) c (w .at j) refl (next-record (w .slotCount - k) w k (omega (arith, next-low (w .slotCount - k) w k)))
 
       go : Reads (scanFrom m (segView s) (p + 1) 0)
-          → Reads (cond (eqb k 0 && not (sound w)) (without 4 overPage 0) (cond (ltb j (w .slotCount)) (cond (liesWell w j) (recordAt w p j) (without 4 overPage 0)) (scanFrom m (segView s) (p + 1) 0)))
+          → Reads (cond (eqb k 0 && not (sound w)) (without 4 overPage 0)
+          (cond (ltb j (w .slotCount)) (cond (liesWell w j) (recordAt w p j) (without 4 overPage 0)) (scanFrom m (segView s) (p + 1) 0)))
       go ih =
-          by-test Reads (eqb k 0 && not (sound w)) (without 4 overPage 0) (cond (ltb j (w .slotCount)) (cond (liesWell w j) (recordAt w p j) (without 4 overPage 0)) (scanFrom m (segView s) (p + 1) 0)) (λ a. none 4 overPage 0)
+          by-test Reads (eqb k 0 && not (sound w)) (without 4 overPage 0)
+          (cond (ltb j (w .slotCount)) (cond (liesWell w j) (recordAt w p j) (without 4 overPage 0)) (scanFrom m (segView s) (p + 1) 0))
+          (λ a. none 4 overPage 0)
           (λ a. by-test Reads (ltb j (w .slotCount)) (cond (liesWell w j) (recordAt w p j) (without 4 overPage 0)) (scanFrom m (segView s) (p + 1) 0)
           (λ b. by-test Reads (liesWell w j) (recordAt w p j) (without 4 overPage 0) (λ g. at-j b) (λ g. none 4 overPage 0)) (λ b. ih))
 

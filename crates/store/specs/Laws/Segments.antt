@@ -1,4 +1,4 @@
--- A segment: what is seen after a call's steps, and demand 3 over every plan. Assumes nothing.
+-- A segment: what is seen after a call's steps, and demand 3 over every plan.
 use Prim.Native.Nat.{ℕ, _+_, _-_, _*_, _/_, _%_, _≤_, _<_}
 use mathlib.Core.Path.{_≡_, refl, sym, ap, _∙_}
 use mathlib.Core.Bool.{Bool, true, false, cond, not, _&&_}
@@ -65,8 +65,10 @@ carried-on s e x = λ i. record { pages = same-length i / 16384; page = λ r. ea
     same-length : length (carriedOn e s) ≡ length s
     same-length = length-put s (e .on * 16384) q
 
-    each : (r : ℕ) → Dec (r ≡ e .on) → opened (view (pageOf (carriedOn e s) r)) ≡ upd (λ (t : ℕ). opened (view (pageOf s t))) (e .on) (opened (e .plan .after)) r
-    each r (yes d) = rw (eq-eqb r (e .on) d) (rw d (ap (λ (l : List ℕ). opened (view l)) (page-same s (e .on) q whole (x .inside)) ∙ ap opened (x .exact .seen)))
+    each : (r : ℕ) → Dec (r ≡ e .on)
+        → opened (view (pageOf (carriedOn e s) r)) ≡ upd (λ (t : ℕ). opened (view (pageOf s t))) (e .on) (opened (e .plan .after)) r
+    each r (yes d) = rw (eq-eqb r (e .on) d)
+        (rw d (ap (λ (l : List ℕ). opened (view l)) (page-same s (e .on) q whole (x .inside)) ∙ ap opened (x .exact .seen)))
     each r (no n) = rw (ne-eqb r (e .on) n) (ap (λ (l : List ℕ). opened (view l)) (page-other s (e .on) q whole r n))
 
 pub carried-seen : (es : List OnPage) (s : List ℕ) → AllExact s es → segView (carried es s) ≡ settled es (segView s)
@@ -83,7 +85,8 @@ exact-skip s e f x y n =
 pub two-exact : (s : List ℕ) (e f : OnPage) → ExactOn s e → ExactOn s f → f .on ≢ e .on → AllExact s (e ∷ f ∷ [])
 two-exact s e f x y n = (x, (exact-skip s e f x y n, tt))
 
-pub three-exact : (s : List ℕ) (e f g : OnPage) → ExactOn s e → ExactOn s f → ExactOn s g → f .on ≢ e .on → g .on ≢ e .on → g .on ≢ f .on → AllExact s (e ∷ f ∷ g ∷ [])
+pub three-exact : (s : List ℕ) (e f g : OnPage) → ExactOn s e → ExactOn s f → ExactOn s g → f .on ≢ e .on → g .on ≢ e .on → g .on ≢ f .on
+    → AllExact s (e ∷ f ∷ g ∷ [])
 three-exact s e f g x y z n m o =
     let y′ = exact-skip s e f x y n in
     (x, (y′, (exact-skip (carriedOn e s) f g y′ (exact-skip s e g x z m) o, tt)))

@@ -1,4 +1,4 @@
--- One page step of a call: the entries and records of all ids after it, the classes, and a true inventory after its update. Assumes nothing.
+-- One page step of a call: the entries and records of all ids after it, the classes, and a true inventory after its update.
 use Prim.Native.Nat.{ℕ, _-_, _≤_, _<_}
 use mathlib.Core.Path.{_≡_, sym, ap, _∙_}
 use mathlib.Core.Bool.{cond}
@@ -42,13 +42,15 @@ module _ (u : SegView) (p : ℕ) (a : Plan) (used : 0 < a .after .slotCount) whe
     step-map : (λ (j : ℕ). F (settledOn (on p a) u .page (pageNo j)) (slotNo j)) ≡ upd (λ (j : ℕ). F (u .page (pageNo j)) (slotNo j)) i y
     step-map = λ z j. each j (ℕ-discrete (pageNo j) p) (ℕ-discrete (slotNo j) k) z
       where
-        each : (j : ℕ) → Dec (pageNo j ≡ p) → Dec (slotNo j ≡ k) → F (settledOn (on p a) u .page (pageNo j)) (slotNo j) ≡ upd (λ (m : ℕ). F (u .page (pageNo m)) (slotNo m)) i y j
+        each : (j : ℕ) → Dec (pageNo j ≡ p) → Dec (slotNo j ≡ k)
+            → F (settledOn (on p a) u .page (pageNo j)) (slotNo j) ≡ upd (λ (m : ℕ). F (u .page (pageNo m)) (slotNo m)) i y j
         each j (yes e) (yes f) =
             let w : j ≡ i = omega arith in
             rw (eq-eqb j i w) (ap (λ (v : View). F v (slotNo j)) (page-here (pageNo j) e) ∙ ap (F (a .after)) f ∙ own)
         each j (yes e) (no f) =
             let w : j ≢ i = λ q. f (omega arith) in
-            rw (ne-eqb j i w) (ap (λ (v : View). F v (slotNo j)) (page-here (pageNo j) e) ∙ rest (slotNo j) f ∙ ap (λ (q : ℕ). F (u .page q) (slotNo j)) (sym e))
+            rw (ne-eqb j i w) (ap (λ (v : View). F v (slotNo j)) (page-here (pageNo j) e) ∙ rest (slotNo j) f
+            ∙ ap (λ (q : ℕ). F (u .page q) (slotNo j)) (sym e))
         each j (no e) f =
             let w : j ≢ i = λ q. e (omega arith) in
             rw (ne-eqb j i w) (ap (λ (v : View). F v (slotNo j)) (page-else (pageNo j) e))
@@ -62,7 +64,8 @@ module _ (u : SegView) (p k : ℕ) (x : Slot) (bs : List ℕ) (a : Plan) (c : Ch
 
 -- ---- the classes after one step
 
-pub classes-step : (u : SegView) (p : ℕ) (a : Plan) → p < u .pages → 0 < a .after .slotCount → classes (settledOn (on p a) u) ≡ upd (classes u) p (classOf (16372 - a .after .freeSpace))
+pub classes-step : (u : SegView) (p : ℕ) (a : Plan) → p < u .pages → 0 < a .after .slotCount
+    → classes (settledOn (on p a) u) ≡ upd (classes u) p (classOf (16372 - a .after .freeSpace))
 classes-step u p a below used = λ z q. each q (ℕ-discrete q p) z
   where
     each : (q : ℕ) → Dec (q ≡ p) → classes (settledOn (on p a) u) q ≡ upd (classes u) p (classOf (16372 - a .after .freeSpace)) q
@@ -73,13 +76,17 @@ classes-step u p a below used = λ z q. each q (ℕ-discrete q p) z
     each q (no n) = rw (ne-eqb q p n)
 
 -- a page in use whose free space stays keeps its class
-pub classes-same : (u : SegView) (p : ℕ) (a : Plan) → 0 < u .page p .slotCount → 0 < a .after .slotCount → a .after .freeSpace ≡ u .page p .freeSpace → classes (settledOn (on p a) u) ≡ classes u
+pub classes-same : (u : SegView) (p : ℕ) (a : Plan) → 0 < u .page p .slotCount → 0 < a .after .slotCount → a .after .freeSpace ≡ u .page p .freeSpace
+    → classes (settledOn (on p a) u) ≡ classes u
 classes-same u p a was used same = λ z q. each q (ℕ-discrete q p) z
   where
     each : (q : ℕ) → Dec (q ≡ p) → classes (settledOn (on p a) u) q ≡ classes u q
     each q (yes e) =
         ap (λ (m : ℕ). cond (ltb q (u .pages)) m 0)
-        (ap nibbleOf (page-here u p a used q e) ∙ rw (ne-eqb (a .after .slotCount) 0 (omega arith), same) (sym (ap (λ (r : ℕ). nibbleOf (u .page r)) e ∙ rw (ne-eqb (u .page p .slotCount) 0 (omega arith)))))
+        (ap nibbleOf (page-here u p a used q e) ∙ rw (
+          ne-eqb (a .after .slotCount) 0 (omega arith),
+          same,
+        ) (sym (ap (λ (r : ℕ). nibbleOf (u .page r)) e ∙ rw (ne-eqb (u .page p .slotCount) 0 (omega arith)))))
     each q (no n) = ap (λ (v : View). cond (ltb q (u .pages)) (nibbleOf v) 0) (page-else u p a used q n)
 
 -- ---- the inventory
@@ -90,7 +97,8 @@ Bounded f = (k : ℕ) → f k < 16
 pub classes-bounded : (u : SegView) → Bounded (classes u)
 classes-bounded u p =
     by-test (λ m. m < 16) (ltb p (u .pages)) (nibbleOf (u .page p)) 0
-    (λ e. by-test (λ m. m < 16) (fresh (u .page p)) 0 (classOf (16372 - u .page p .freeSpace)) (λ f. omega arith) (λ f. omega (arith, class-top (16372 - u .page p .freeSpace))))
+    (λ e. by-test (λ m. m < 16) (fresh (u .page p)) 0 (classOf (16372 - u .page p .freeSpace)) (λ f. omega arith)
+    (λ f. omega (arith, class-top (16372 - u .page p .freeSpace))))
     (λ e. omega arith)
 
 pub changed-bounded : (f : ℕ → ℕ) (p x : ℕ) → Bounded f → Bounded (upd f p (classOf x))
@@ -109,7 +117,8 @@ module _ (f : ℕ → ℕ) (n : ℕ) (few : n ≤ 32527) (v : List ℕ) (one : l
   pub update-true : Truth (upd f p (classOf (16372 - r))) n (update v n p r)
   unfolding update
   update-true =
-      updated-true f n p (classOf (16372 - r)) v truth (record { entries = omega arith; pages = omega arith }) (omega arith) below (bounded p) (class-top (16372 - r))
+      updated-true f n p (classOf (16372 - r)) v truth (record { entries = omega arith; pages = omega arith }) (omega arith) below (bounded p)
+      (class-top (16372 - r))
 
 pub length-update : (v : List ℕ) (n p r : ℕ) → length (update v n p r) ≡ length v
 unfolding update

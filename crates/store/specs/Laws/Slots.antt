@@ -1,4 +1,4 @@
--- The slot codec's facts: an entry that is written is read back, whatever its kind. Assumes nothing.
+-- The slot codec's facts: an entry that is written is read back, whatever its kind.
 use Prim.Native.Nat.{ℕ, _+_, _*_, _/_, _%_, _^_, _<_}
 use mathlib.Core.Path.{_≡_, refl, ap, _∙_}
 use native.Mathlib.Omega.{arith}

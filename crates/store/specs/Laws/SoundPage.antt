@@ -1,4 +1,4 @@
--- The sound-page test, taken apart: a page that passes it shows a sound view. Assumes nothing.
+-- The sound-page test, taken apart: a page that passes it shows a sound view.
 use Prim.Native.Nat.{ℕ, zero, suc, _+_, _*_, _/_, _%_, _^_, _≤_, _<_}
 use mathlib.Core.Path.{_≡_, refl, sym, ap, _∙_}
 use mathlib.Core.Bool.{Bool, true, false, cond, not, _&&_, _||_}
@@ -67,9 +67,12 @@ not-true false e = refl
 -- what one slot's test says
 module _ (v : View) (k : ℕ) (g : liesWell v k ≡ true) where
   place : ((len (v .at k) ≡ 0) × (off (v .at k) ≤ 16384)) ⊎ ((v .dataStart ≤ off (v .at k)) × (off (v .at k) + len (v .at k) ≤ 16384))
-  place = go (ℕ-discrete (len (v .at k)) 0) (and-both (cond (eqb (len (v .at k)) 0) (leb (off (v .at k)) 16384) (leb (v .dataStart) (off (v .at k)) && leb (off (v .at k) + len (v .at k)) 16384)) (not (isTarget (v .at k)) || leb 8 (len (v .at k))) g .0)
+  place = go (ℕ-discrete (len (v .at k)) 0)
+      (and-both (cond (eqb (len (v .at k)) 0) (leb (off (v .at k)) 16384)
+      (leb (v .dataStart) (off (v .at k)) && leb (off (v .at k) + len (v .at k)) 16384)) (not (isTarget (v .at k)) || leb 8 (len (v .at k))) g .0)
     where
-      go : Dec (len (v .at k) ≡ 0) → cond (eqb (len (v .at k)) 0) (leb (off (v .at k)) 16384) (leb (v .dataStart) (off (v .at k)) && leb (off (v .at k) + len (v .at k)) 16384) ≡ true
+      go : Dec (len (v .at k) ≡ 0) → cond (eqb (len (v .at k)) 0) (leb (off (v .at k)) 16384)
+          (leb (v .dataStart) (off (v .at k)) && leb (off (v .at k) + len (v .at k)) 16384) ≡ true
           → ((len (v .at k) ≡ 0) × (off (v .at k) ≤ 16384)) ⊎ ((v .dataStart ≤ off (v .at k)) × (off (v .at k) + len (v .at k) ≤ 16384))
       go (yes e) q = inl (e, leb-true (off (v .at k)) 16384 (rw (eq-eqb (len (v .at k)) 0 e) at q))
       go (no n) q =
@@ -78,20 +81,24 @@ module _ (v : View) (k : ℕ) (g : liesWell v k ≡ true) where
 
   long : isTarget (v .at k) ≡ true → 8 ≤ len (v .at k)
   long t =
-      let q = and-both (cond (eqb (len (v .at k)) 0) (leb (off (v .at k)) 16384) (leb (v .dataStart) (off (v .at k)) && leb (off (v .at k) + len (v .at k)) 16384)) (not (isTarget (v .at k)) || leb 8 (len (v .at k))) g .1 in
+      let q = and-both (cond (eqb (len (v .at k)) 0) (leb (off (v .at k)) 16384)
+      (leb (v .dataStart) (off (v .at k)) && leb (off (v .at k) + len (v .at k)) 16384))
+      (not (isTarget (v .at k)) || leb 8 (len (v .at k))) g .1 in
       leb-true 8 (len (v .at k)) (or-right (not (isTarget (v .at k))) (leb 8 (len (v .at k))) (ap not t) q)
 
   pub in-page : off (v .at k) + len (v .at k) ≤ 16384
   in-page = go place
     where
-      go : ((len (v .at k) ≡ 0) × (off (v .at k) ≤ 16384)) ⊎ ((v .dataStart ≤ off (v .at k)) × (off (v .at k) + len (v .at k) ≤ 16384)) → off (v .at k) + len (v .at k) ≤ 16384
+      go : ((len (v .at k) ≡ 0) × (off (v .at k) ≤ 16384)) ⊎ ((v .dataStart ≤ off (v .at k)) × (off (v .at k) + len (v .at k) ≤ 16384))
+          → off (v .at k) + len (v .at k) ≤ 16384
       go (inl h) = omega arith
       go (inr h) = h .1
 
   above : 0 < len (v .at k) → v .dataStart ≤ off (v .at k)
   above p = go place
     where
-      go : ((len (v .at k) ≡ 0) × (off (v .at k) ≤ 16384)) ⊎ ((v .dataStart ≤ off (v .at k)) × (off (v .at k) + len (v .at k) ≤ 16384)) → v .dataStart ≤ off (v .at k)
+      go : ((len (v .at k) ≡ 0) × (off (v .at k) ≤ 16384)) ⊎ ((v .dataStart ≤ off (v .at k)) × (off (v .at k) + len (v .at k) ≤ 16384))
+          → v .dataStart ≤ off (v .at k)
       go (inl h) = absurd (omega arith)
       go (inr h) = h .0
 
@@ -168,9 +175,11 @@ module _ (p : List ℕ) (whole : length p ≡ 16384) where
 
       target-by : (j : ℕ) → isTarget (slotAt p j) ≡ true → ((i : ℕ) → i < count p → liesWell (view p) i ≡ true) → Dec (j < count p) → 8 ≤ len (slotAt p j)
       target-by j t g (yes h) = long (view p) j (g j h) t
-      target-by j t g (no h) = let q : isTarget (slotAt p j) ≡ false = ap isTarget (past-free p j (omega arith)) in let z : _≡_ {A = ℕ} 0 1 = cc in absurd (omega arith)
+      target-by j t g (no h) = let q : isTarget (slotAt p j) ≡ false = ap isTarget (past-free p j (omega arith)) in let z : _≡_ {A = ℕ} 0 1 = cc in
+          absurd (omega arith)
 
-      apart-by : (i j : ℕ) → i ≢ j → ((m : ℕ) → m < count p → all (count p) (apart (view p) m) ≡ true) → Dec (i < count p) → Dec (j < count p) → Apart (slotAt p i) (slotAt p j)
+      apart-by : (i j : ℕ) → i ≢ j → ((m : ℕ) → m < count p → all (count p) (apart (view p) m) ≡ true) → Dec (i < count p) → Dec (j < count p)
+          → Apart (slotAt p i) (slotAt p j)
       apart-by i j n g (yes a) (yes b) = two-apart (view p) i j n (all-at (count p) (apart (view p) i) (g i a) j b)
       apart-by i j n g (yes a) (no b) = λ x y. let q : len (slotAt p j) ≡ 0 = ap len (past-free p j (omega arith)) in absurd (omega arith)
       apart-by i j n g (no a) b = λ x y. let q : len (slotAt p i) ≡ 0 = ap len (past-free p i (omega arith)) in absurd (omega arith)
@@ -223,12 +232,16 @@ not-in false e = refl
 
 module _ (v : View) (s : Sound v) where
   pub good-in : (k : ℕ) → liesWell v k ≡ true
-  good-in k = and-in (cond (eqb (len (v .at k)) 0) (leb (off (v .at k)) 16384) (leb (v .dataStart) (off (v .at k)) && leb (off (v .at k) + len (v .at k)) 16384)) (not (isTarget (v .at k)) || leb 8 (len (v .at k)))
+  good-in k = and-in (cond (eqb (len (v .at k)) 0) (leb (off (v .at k)) 16384)
+      (leb (v .dataStart) (off (v .at k)) && leb (off (v .at k) + len (v .at k)) 16384)) (not (isTarget (v .at k)) || leb 8 (len (v .at k)))
       (by (ℕ-discrete (len (v .at k)) 0)) (kind (isTarget (v .at k)) refl)
     where
-      by : Dec (len (v .at k) ≡ 0) → cond (eqb (len (v .at k)) 0) (leb (off (v .at k)) 16384) (leb (v .dataStart) (off (v .at k)) && leb (off (v .at k) + len (v .at k)) 16384) ≡ true
+      by : Dec (len (v .at k) ≡ 0) → cond (eqb (len (v .at k)) 0) (leb (off (v .at k)) 16384)
+          (leb (v .dataStart) (off (v .at k)) && leb (off (v .at k) + len (v .at k)) 16384) ≡ true
       by (yes e) = rw (eq-eqb (len (v .at k)) 0 e) (le-leb (off (v .at k)) 16384 (omega (arith, s .high k)))
-      by (no n) = rw (ne-eqb (len (v .at k)) 0 n) (and-in (leb (v .dataStart) (off (v .at k))) (leb (off (v .at k) + len (v .at k)) 16384) (le-leb (v .dataStart) (off (v .at k)) (s .low k (omega arith))) (le-leb (off (v .at k) + len (v .at k)) 16384 (s .high k)))
+      by (no n) = rw (ne-eqb (len (v .at k)) 0 n)
+          (and-in (leb (v .dataStart) (off (v .at k))) (leb (off (v .at k) + len (v .at k)) 16384)
+          (le-leb (v .dataStart) (off (v .at k)) (s .low k (omega arith))) (le-leb (off (v .at k) + len (v .at k)) 16384 (s .high k)))
 
       kind : (b : Bool) → isTarget (v .at k) ≡ b → (not b || leb 8 (len (v .at k))) ≡ true
       kind true e = le-leb 8 (len (v .at k)) (s .targets k e)
@@ -258,8 +271,10 @@ module _ (v : View) (s : Sound v) where
 
       go : Dec (i ≡ j) → Dec (0 < len (v .at i)) → Dec (0 < len (v .at j)) → (c1 || c2 || c3 || c4 || c5) ≡ true
       go (yes e) a b = or-in (c1 || c2 || c3 || c4) c5 (or-in (c1 || c2 || c3) c4 (or-in (c1 || c2) c3 (or-in c1 c2 (eq-eqb i j e))))
-      go (no n) (no a) b = or-in (c1 || c2 || c3 || c4) c5 (or-in (c1 || c2 || c3) c4 (or-in (c1 || c2) c3 (or-out c1 c2 (let z : len (v .at i) ≡ 0 = omega arith in eq-eqb (len (v .at i)) 0 z))))
-      go (no n) (yes a) (no b) = or-in (c1 || c2 || c3 || c4) c5 (or-in (c1 || c2 || c3) c4 (or-out (c1 || c2) c3 (let z : len (v .at j) ≡ 0 = omega arith in eq-eqb (len (v .at j)) 0 z)))
+      go (no n) (no a) b = or-in (c1 || c2 || c3 || c4) c5
+          (or-in (c1 || c2 || c3) c4 (or-in (c1 || c2) c3 (or-out c1 c2 (let z : len (v .at i) ≡ 0 = omega arith in eq-eqb (len (v .at i)) 0 z))))
+      go (no n) (yes a) (no b) = or-in (c1 || c2 || c3 || c4) c5
+          (or-in (c1 || c2 || c3) c4 (or-out (c1 || c2) c3 (let z : len (v .at j) ≡ 0 = omega arith in eq-eqb (len (v .at j)) 0 z)))
       go (no n) (yes a) (yes b) = side (s .apart i j n a b)
 
   pub sound-test : sound v ≡ true
@@ -269,7 +284,8 @@ module _ (v : View) (s : Sound v) where
       (pass soundTests v (
         omega (arith, le-leb, s .few),
         (
-          and-in (leb (v .firstFree) (v .slotCount)) (isFree (v .at (v .firstFree)) && all (v .firstFree) (λ j. not (isFree (v .at j)))) (le-leb (v .firstFree) (v .slotCount) (s .first≤))
+          and-in (leb (v .firstFree) (v .slotCount)) (isFree (v .at (v .firstFree)) && all (v .firstFree) (λ j. not (isFree (v .at j))))
+              (le-leb (v .firstFree) (v .slotCount) (s .first≤))
               (and-in (isFree (v .at (v .firstFree))) (all (v .firstFree) (λ j. not (isFree (v .at j)))) (ap isFree (s .first-free))
               (all-in (v .firstFree) (λ j. not (isFree (v .at j))) (λ j h. not-in (isFree (v .at j)) (s .lower j h)))),
           (

@@ -1,4 +1,4 @@
--- A sound segment stays sound, whatever the calls; and from one no call answers 4 or 8. Assumes nothing.
+-- A sound segment stays sound, whatever the calls; and from one no call answers 4 or 8.
 use Prim.Native.Nat.{ℕ, zero, suc, _+_, _-_, _/_, _%_, _≤_, _<_}
 use mathlib.Core.Path.{_≡_, refl, sym, ap, _∙_, subst}
 use mathlib.Core.Bool.{Bool, true, false, cond, not, _&&_, _||_}
@@ -13,7 +13,8 @@ use Rattle.store.specs.Numbers.{zeros, fit, pageNo, slotNo}
 use Rattle.store.specs.Page.{View, view, fresh, soundTests, passes, sound, liesWell}
 use Rattle.store.specs.PageSteps.{initialised, opened, plan}
 use Rattle.store.specs.Inventory.{Truth}
-use Rattle.store.specs.Segment.{SegView, segView, pageOf, sizeOk, OnPage, Out, Result, result, carried, step, refuse, insertPlan, Read, noRead, readBy, readPlan, readStep}
+use Rattle.store.specs.Segment.{SegView, segView, pageOf, sizeOk, OnPage, Out, Result, result, carried, step, refuse, insertPlan, Read, noRead}
+use Rattle.store.specs.Segment.{readBy, readPlan, readStep}
 use Rattle.store.specs.Laws.Views.{Sound}
 use Rattle.store.specs.Laws.SoundPage.{and-both, sound-init, sound-opened, sound-test, good-in}
 use Rattle.store.specs.Scan.{Scanned, without, overPage, recordAt, nextRecord, scanFrom, scanPlan, scanStep}
@@ -135,7 +136,8 @@ module _ (s v : List ℕ) (h : SoundSegment s v) (o : Out) (x : AllExact s (o .s
 abbrev pub Staying : (SegView → Out) → (SegView → Read) → List ℕ → Type 0
 Staying plan w v = (s : List ℕ) → Seen s v → Stays (segView s) v (w (segView s)) (plan (segView s))
 
-pub plan-right : (plan : SegView → Out) (w : SegView → Read) (s v : List ℕ) → Exacting plan → Staying plan w v → SoundSegment s v → Right (step s v (plan (segView s)))
+pub plan-right : (plan : SegView → Out) (w : SegView → Read) (s v : List ℕ) → Exacting plan → Staying plan w v → SoundSegment s v
+    → Right (step s v (plan (segView s)))
 unfolding result
 plan-right plan w s v x k h =
     let z = sized s (h .whole) in
@@ -160,7 +162,8 @@ pub call-staying : (c : Call) (v : List ℕ) → Staying (planOf c v) (rowOf c) 
 call-staying (insert bs) v z e = insert-keeps z v bs e
 call-staying (allocate n) v z e =
     by-test (Stays (segView z) v (wrote (zeros n))) (ltb 16364 n) (refuse v 3) (insertPlan (segView z) v _)
-    (λ f. refusal (segView z) (e .sounds) (e .few) v (e .one) (e .pairs) (e .truth) (wrote (zeros n)) 3 (λ x. omega arith) (λ x. omega arith) (λ x. omega arith))
+    (λ f. refusal (segView z) (e .sounds) (e .few) v (e .one) (e .pairs) (e .truth) (wrote (zeros n)) 3 (λ x. omega arith) (λ x. omega arith)
+    (λ x. omega arith))
     (λ f. insert-keeps z v _ e)
 call-staying (write i bs) v z e = store-stays (segView z) (e .sounds) (e .few) v (e .one) (e .pairs) (e .truth) i _ _
 call-staying (resize i n) v z e = store-stays (segView z) (e .sounds) (e .few) v (e .one) (e .pairs) (e .truth) i _ _
@@ -193,7 +196,8 @@ module _ (s v : List ℕ) (h : SoundSegment s v) where
   read-whole i =
       let e = seen-sound s v h in
       let r : View = segView s .page (pageNo i) in
-      by-test (λ (d : Read). d .answer ≢ 4) (leb (segView s .pages) (pageNo i)) (noRead 2) (cond (not (sound r)) (noRead 4) (readBy (segView s) i (r .at (slotNo i)))) (λ a x. omega arith)
+      by-test (λ (d : Read). d .answer ≢ 4) (leb (segView s .pages) (pageNo i)) (noRead 2)
+      (cond (not (sound r)) (noRead 4) (readBy (segView s) i (r .at (slotNo i)))) (λ a x. omega arith)
       (λ a. by-test (λ (d : Read). d .answer ≢ 4) (not (sound r)) (noRead 4) (readBy (segView s) i (r .at (slotNo i)))
       (λ b. let y : not (sound r) ≡ false = ap not (sound-test r (e .sounds (pageNo i))) in let z : _≡_ {A = ℕ} 0 1 = cc in absurd (omega arith))
       (λ b. go e (leb-false (segView s .pages) (pageNo i) a) (r .at (slotNo i)) refl))
@@ -227,11 +231,13 @@ module _ (s v : List ℕ) (h : SoundSegment s v) where
       go ih =
           let t = seen-sound s v h .sounds p in
           let b : (eqb k 0 && not (sound w)) ≡ false = ap (λ (y : Bool). eqb k 0 && not y) (sound-test w t) ∙ and-no (eqb k 0) in
-          rw (b, good-in w t j) (by-test (λ (d : Scanned). d .answer ≢ 4) (ltb j (w .slotCount)) (recordAt w p j) (scanFrom m (segView s) (p + 1) 0) (λ a. record-whole) (λ a. ih))
+          rw (b, good-in w t j) (by-test (λ (d : Scanned). d .answer ≢ 4) (ltb j (w .slotCount)) (recordAt w p j) (scanFrom m (segView s) (p + 1) 0)
+          (λ a. record-whole) (λ a. ih))
 
   -- wherever the scan stands
   pub scan-right : (p k : ℕ) → scanStep s p k .answer ≢ 4
   unfolding scanStep scanPlan
   scan-right p k =
-      by-test (λ (d : Scanned). d .answer ≢ 4) (ltb 32527 p) (without 0 p k) (cond (sizeOk s) (scanPlan (segView s) p k) (without 1 overPage 0)) (λ a x. omega arith)
+      by-test (λ (d : Scanned). d .answer ≢ 4) (ltb 32527 p) (without 0 p k) (cond (sizeOk s) (scanPlan (segView s) p k) (without 1 overPage 0))
+      (λ a x. omega arith)
       (λ a. rw (h .whole) (scan-whole (segView s .pages - p) p k))

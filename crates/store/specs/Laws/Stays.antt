@@ -1,5 +1,5 @@
 -- From a sound segment each plan leaves one: redirects and targets paired, the inventory true; and no plan answers 4 or 8. Over what is seen of
--- the segment and the inventory alone. Assumes nothing.
+-- the segment and the inventory alone.
 use Prim.Native.Nat.{ℕ, _+_, _-_, _*_, _^_, _≤_, _<_}
 use mathlib.Core.Path.{_≡_, refl, sym, ap, _∙_, subst}
 use mathlib.Core.Bool.{Bool, true, false, cond, not, _||_}
@@ -14,9 +14,12 @@ use Rattle.store.specs.Numbers.{be, toBE, zeros, upd, sum, pageNo, slotN
 use Rattle.store.specs.Laws.Slots.{tag}
 use Rattle.store.specs.Slots.{off, len, isFree, isTarget, placed}
 use Rattle.store.specs.Page.{View, sound}
-use Rattle.store.specs.PageSteps.{move, Plan, withSlot, Alloc, noRoom, got, eraseForRedirect, Relocated, refused, moved, relocate, filled, plan, allocate, erase}
+use Rattle.store.specs.PageSteps.{move, Plan, withSlot, Alloc, noRoom, got, eraseForRedirect, Relocated, refused, moved, relocate, filled, plan}
+use Rattle.store.specs.PageSteps.{allocate, erase}
 use Rattle.store.specs.Inventory.{classOf, entryFor, entryAt, Truth, update, foundIn}
-use Rattle.store.specs.Segment.{SegView, OnPage, on, Out, done, refuse, refuseIf, Found, nowhere, found, taken, findOn, needFor, find, inserted, insertPlan, pointsBack, targeted, forwarded, fromOrdinary, forwardedAgain, atTarget, atHome, fromRedirect, storeBy, storePlan, eraseBy, erasePlan, Read, noRead}
+use Rattle.store.specs.Segment.{SegView, OnPage, on, Out, done, refuse, refuseIf, Found, nowhere, found, taken, findOn, needFor, find, inserted}
+use Rattle.store.specs.Segment.{insertPlan, pointsBack, targeted, forwarded, fromOrdinary, forwardedAgain, atTarget, atHome, fromRedirect}
+use Rattle.store.specs.Segment.{storeBy, storePlan, eraseBy, erasePlan, Read, noRead}
 use Rattle.store.specs.Laws.Numbers.{be-toBE}
 use Rattle.store.specs.Laws.Classes.{class-low, class-top, class-mono}
 use Rattle.store.specs.Laws.Truth.{truth-by}
@@ -25,10 +28,13 @@ use Rattle.store.specs.Laws.SoundPage.{sound-test}
 use Rattle.store.specs.Laws.Segments.{settledOn, settled}
 use Rattle.store.specs.Laws.Calls.{by-test}
 use Rattle.store.specs.Laws.OneSlot.{cost-most}
-use Rattle.store.specs.Laws.Changes.{Writes, Headed, Changes, retag, fill-changes, alloc-changes, AllocChanges, erase-changes, redirect-changes, entry-changes, Relocates, relocate-changes}
+use Rattle.store.specs.Laws.Changes.{Writes, Headed, Changes, retag, fill-changes, alloc-changes, AllocChanges, erase-changes, redirect-changes}
+use Rattle.store.specs.Laws.Changes.{entry-changes, Relocates, relocate-changes}
 use Rattle.store.specs.SoundSegment.{slotOn, bytesOn, nibbleOf, classes}
-use Rattle.store.specs.Laws.Pairs.{PairOk, Pairs, tagOn, tag-target, moves-by, Moves, look, rowAt, Root, Plain, pairs-one, pairs-target, pairs-home, pairs-again, pairs-forward}
-use Rattle.store.specs.Laws.Settled.{page-else, tags-step, bytes-step, classes-step, classes-same, classes-bounded, changed-bounded, changed-swap, update-true, length-update}
+use Rattle.store.specs.Laws.Pairs.{PairOk, Pairs, tagOn, tag-target, moves-by, Moves, look, rowAt, Root, Plain, pairs-one, pairs-target}
+use Rattle.store.specs.Laws.Pairs.{pairs-home, pairs-again, pairs-forward}
+use Rattle.store.specs.Laws.Settled.{page-else, tags-step, bytes-step, classes-step, classes-same, classes-bounded, changed-bounded}
+use Rattle.store.specs.Laws.Settled.{changed-swap, update-true, length-update}
 use Rattle.store.specs.declared.Named.{Named}
 use Rattle.store.specs.declared.Named.the-variants.{At, Full}
 use Rattle.store.specs.declared.Slot.{Slot}
@@ -52,7 +58,8 @@ pub record Stays (u : SegView) (v : List ℕ) (w : Read) (o : Out) : Type 0 wher
   pub pairs : Pairs (u .pages) (tagOn (settled (o .steps) u)) (bytesOn (settled (o .steps) u))
   pub own : o .answer ≡ 0 → look (bytesOn (settled (o .steps) u)) (o .id) (tagOn (settled (o .steps) u) (o .id)) ≡ w
   pub others : (j : ℕ) → pageNo j < u .pages → (o .answer ≡ 0 → j ≢ o .id) → Root (tagOn u j)
-      → (tagOn (settled (o .steps) u) j ≡ tagOn u j) × (look (bytesOn (settled (o .steps) u)) j (tagOn (settled (o .steps) u) j) ≡ look (bytesOn u) j (tagOn u j))
+      → (tagOn (settled (o .steps) u) j ≡ tagOn u j)
+      × (look (bytesOn (settled (o .steps) u)) j (tagOn (settled (o .steps) u) j) ≡ look (bytesOn u) j (tagOn u j))
   pub plain : o .answer ≡ 0 → isTarget (tagOn (settled (o .steps) u) (o .id)) ≡ false
   pub rows : (j : ℕ) → pageNo j < u .pages → (o .answer ≡ 0 → j ≢ o .id)
       → rowAt (bytesOn (settled (o .steps) u)) j (tagOn (settled (o .steps) u) j) ≡ rowAt (bytesOn u) j (tagOn u j)
@@ -100,11 +107,24 @@ or-true false b e = inr e
 module _ (u : SegView) (sounds : (p : ℕ) → Sound (u .page p)) (few : u .pages ≤ 32527) (v : List ℕ) (one : length v ≡ 16384)
     (pairs : Pairs (u .pages) (tagOn u) (bytesOn u)) (truth : Truth (classes u) (u .pages) v) where
   pub refusal : (w : Read) (a : ℕ) → a ≢ 0 → a ≢ 4 → a ≢ 8 → Stays u v w (refuse v a)
-  refusal w a z f g = record { steps = tt; pairs = pairs; own = λ e. absurd (z e); others = λ j l n r. (refl, refl); plain = λ e. absurd (z e); rows = λ j l n. refl; below = λ e. absurd (z e); truth = truth; long = refl; whole = f; current = g }
+  refusal w a z f g = record {
+    steps = tt;
+    pairs = pairs;
+    own = λ e. absurd (z e);
+    others = λ j l n r. (refl, refl);
+    plain = λ e. absurd (z e);
+    rows = λ j l n. refl;
+    below = λ e. absurd (z e);
+    truth = truth;
+    long = refl;
+    whole = f;
+    current = g;
+  }
 
   -- ---- one, two and three steps
 
-  module _ (w : Read) (i : ℕ) (at-id : pageNo i < u .pages) (p k : ℕ) (x : Slot) (bs : List ℕ) (a : Plan) (below : p < u .pages) (c : Changes (u .page p) k x bs a) (d : ℕ) (is : idOf p k ≡ d) where
+  module _ (w : Read) (i : ℕ) (at-id : pageNo i < u .pages) (p k : ℕ) (x : Slot) (bs : List ℕ) (a : Plan) (below : p < u .pages)
+      (c : Changes (u .page p) k x bs a) (d : ℕ) (is : idOf p k ≡ d) where
     u1 : SegView
     u1 = settledOn (on p a) u
 
@@ -113,7 +133,8 @@ module _ (u : SegView) (sounds : (p : ℕ) → Sound (u .page p)) (few : u .page
         truth-by _ (classes (settledOn (on p a) u)) (u .pages) _ (sym (classes-step u p a below (c .used)))
         (update-true (classes u) (u .pages) few v one (classes-bounded u) truth p (a .after .freeSpace) below)
 
-    one-step : Moves (u .pages) (tagOn u) (bytesOn u) (upd (tagOn u) d x) (upd (bytesOn u) d bs) i w → Stays u v w (done i (on p a ∷ []) (update v (u .pages) p (a .after .freeSpace)))
+    one-step : Moves (u .pages) (tagOn u) (bytesOn u) (upd (tagOn u) d x) (upd (bytesOn u) d bs) i w
+        → Stays u v w (done i (on p a ∷ []) (update v (u .pages) p (a .after .freeSpace)))
     one-step h =
         let g = moves-by (u .pages) (tagOn u) (bytesOn u) _ _ _ _ i w (tags-step u p k x bs a c d is) (bytes-step u p k x bs a c d is) h in
         record {
@@ -130,7 +151,8 @@ module _ (u : SegView) (sounds : (p : ℕ) → Sound (u .page p)) (few : u .page
           current = λ e. omega arith;
         }
 
-    module _ (q j : ℕ) (y : Slot) (cs : List ℕ) (b : Plan) (below′ : q < u .pages) (c′ : Changes (u .page q) j y cs b) (n : q ≢ p) (d′ : ℕ) (is′ : idOf q j ≡ d′) where
+    module _ (q j : ℕ) (y : Slot) (cs : List ℕ) (b : Plan) (below′ : q < u .pages) (c′ : Changes (u .page q) j y cs b) (n : q ≢ p) (d′ : ℕ)
+        (is′ : idOf q j ≡ d′) where
       next : Changes (settledOn (on p a) u .page q) j y cs b
       next = subst (λ (w : View). Changes w j y cs b) (sym (page-else u p a (c .used) q n)) c′
 
@@ -140,7 +162,8 @@ module _ (u : SegView) (sounds : (p : ℕ) → Sound (u .page p)) (few : u .page
       bytes2 : bytesOn (settledOn (on q b) (settledOn (on p a) u)) ≡ upd (upd (bytesOn u) d bs) d′ cs
       bytes2 = bytes-step (settledOn (on p a) u) q j y cs b next d′ is′ ∙ ap (λ (B : ℕ → List ℕ). upd B d′ cs) (bytes-step u p k x bs a c d is)
 
-      classes2 : classes (settledOn (on q b) (settledOn (on p a) u)) ≡ upd (upd (classes u) p (classOf (16372 - a .after .freeSpace))) q (classOf (16372 - b .after .freeSpace))
+      classes2 : classes (settledOn (on q b) (settledOn (on p a) u))
+          ≡ upd (upd (classes u) p (classOf (16372 - a .after .freeSpace))) q (classOf (16372 - b .after .freeSpace))
       classes2 =
           classes-step (settledOn (on p a) u) q b below′ (c′ .used)
           ∙ ap (λ (f : ℕ → ℕ). upd f q (classOf (16372 - b .after .freeSpace))) (classes-step u p a below (c .used))
@@ -167,8 +190,10 @@ module _ (u : SegView) (sounds : (p : ℕ) → Sound (u .page p)) (few : u .page
             plain = λ e. g .plain;
             rows = λ j l n. g .rows j l (n refl);
             below = λ e. at-id;
-            truth = truth-by _ (classes (settledOn (on q b) (settledOn (on p a) u))) (u .pages) _ (sym classes2) (inv-two (classes u) refl v one truth (a .after .freeSpace) (b .after .freeSpace));
-            long = length-update (update v (u .pages) p (a .after .freeSpace)) (u .pages) q (b .after .freeSpace) ∙ length-update v (u .pages) p (a .after .freeSpace);
+            truth = truth-by _ (classes (settledOn (on q b) (settledOn (on p a) u))) (u .pages) _ (sym classes2)
+                (inv-two (classes u) refl v one truth (a .after .freeSpace) (b .after .freeSpace));
+            long = length-update (update v (u .pages) p (a .after .freeSpace)) (u .pages) q (b .after .freeSpace)
+                ∙ length-update v (u .pages) p (a .after .freeSpace);
             whole = λ e. omega arith;
             current = λ e. omega arith;
           }
@@ -188,16 +213,19 @@ module _ (u : SegView) (sounds : (p : ℕ) → Sound (u .page p)) (few : u .page
             below = λ e. at-id;
             truth = truth-by _ (classes (settledOn (on q b) (settledOn (on p a) u))) (u .pages) _
                 (sym (classes2 ∙ changed-swap (classes u) p q (classOf (16372 - a .after .freeSpace)) (classOf (16372 - b .after .freeSpace)) n))
-                (update-true (upd (classes u) q (classOf (16372 - b .after .freeSpace))) (u .pages) few (update v (u .pages) q (b .after .freeSpace)) (length-update v (u .pages) q (b .after .freeSpace) ∙ one)
+                (update-true (upd (classes u) q (classOf (16372 - b .after .freeSpace))) (u .pages) few (update v (u .pages) q (b .after .freeSpace))
+                (length-update v (u .pages) q (b .after .freeSpace) ∙ one)
                 (changed-bounded (classes u) q (16372 - b .after .freeSpace) (classes-bounded u))
                 (update-true (classes u) (u .pages) few v one (classes-bounded u) truth q (b .after .freeSpace) below′) p (a .after .freeSpace) below);
-            long = length-update (update v (u .pages) q (b .after .freeSpace)) (u .pages) p (a .after .freeSpace) ∙ length-update v (u .pages) q (b .after .freeSpace);
+            long = length-update (update v (u .pages) q (b .after .freeSpace)) (u .pages) p (a .after .freeSpace)
+                ∙ length-update v (u .pages) q (b .after .freeSpace);
             whole = λ e. omega arith;
             current = λ e. omega arith;
           }
 
       -- the first page keeps its free space and is not updated
-      module _ (was : 0 < u .page p .slotCount) (kept : a .after .freeSpace ≡ u .page p .freeSpace) (r m : ℕ) (z : Slot) (ds : List ℕ) (g : Plan) (below″ : r < u .pages) (c″ : Changes (u .page r) m z ds g)
+      module _ (was : 0 < u .page p .slotCount) (kept : a .after .freeSpace ≡ u .page p .freeSpace) (r m : ℕ) (z : Slot) (ds : List ℕ) (g : Plan)
+          (below″ : r < u .pages) (c″ : Changes (u .page r) m z ds g)
           (n1 : r ≢ p) (n2 : r ≢ q) (d″ : ℕ) (is″ : idOf r m ≡ d″) where
         last : Changes (settledOn (on q b) (settledOn (on p a) u) .page r) m z ds g
         last =
@@ -208,7 +236,8 @@ module _ (u : SegView) (sounds : (p : ℕ) → Sound (u .page p)) (few : u .page
             → Stays u v w (done i (on p a ∷ on q b ∷ on r g ∷ []) (update (update v (u .pages) q (b .after .freeSpace)) (u .pages) r (g .after .freeSpace)))
         three-steps h =
             let u2 : SegView = settledOn (on q b) (settledOn (on p a) u) in
-            let cl : classes (settledOn (on r g) u2) ≡ upd (upd (classes u) q (classOf (16372 - b .after .freeSpace))) r (classOf (16372 - g .after .freeSpace)) =
+            let cl : classes (settledOn (on r g) u2)
+            ≡ upd (upd (classes u) q (classOf (16372 - b .after .freeSpace))) r (classOf (16372 - g .after .freeSpace)) =
             classes-step u2 r g below″ (c″ .used)
             ∙ ap (λ (f : ℕ → ℕ). upd f r (classOf (16372 - g .after .freeSpace)))
             (classes-step (settledOn (on p a) u) q b below′ (c′ .used)
@@ -227,10 +256,12 @@ module _ (u : SegView) (sounds : (p : ℕ) → Sound (u .page p)) (few : u .page
               rows = λ j l n. gm .rows j l (n refl);
               below = λ e. at-id;
               truth = truth-by _ (classes (settledOn (on r g) u2)) (u .pages) _ (sym cl)
-                  (update-true (upd (classes u) q (classOf (16372 - b .after .freeSpace))) (u .pages) few (update v (u .pages) q (b .after .freeSpace)) (length-update v (u .pages) q (b .after .freeSpace) ∙ one)
+                  (update-true (upd (classes u) q (classOf (16372 - b .after .freeSpace))) (u .pages) few
+                  (update v (u .pages) q (b .after .freeSpace)) (length-update v (u .pages) q (b .after .freeSpace) ∙ one)
                   (changed-bounded (classes u) q (16372 - b .after .freeSpace) (classes-bounded u))
                   (update-true (classes u) (u .pages) few v one (classes-bounded u) truth q (b .after .freeSpace) below′) r (g .after .freeSpace) below″);
-              long = length-update (update v (u .pages) q (b .after .freeSpace)) (u .pages) r (g .after .freeSpace) ∙ length-update v (u .pages) q (b .after .freeSpace);
+              long = length-update (update v (u .pages) q (b .after .freeSpace)) (u .pages) r (g .after .freeSpace)
+                  ∙ length-update v (u .pages) q (b .after .freeSpace);
               whole = λ e. omega arith;
               current = λ e. omega arith;
             }
@@ -241,13 +272,15 @@ module _ (u : SegView) (sounds : (p : ℕ) → Sound (u .page p)) (few : u .page
   NamedFits need Full = Unit {0}
   NamedFits need (At p) = (p < u .pages) × (need ≤ u .page p .freeSpace) × (0 < u .page p .slotCount → need < u .page p .freeSpace)
 
-  roomy-page : (p need : ℕ) → need ≤ 16372 → p < u .pages → classes u p ≤ entryFor need → (need ≤ u .page p .freeSpace) × (0 < u .page p .slotCount → need < u .page p .freeSpace)
+  roomy-page : (p need : ℕ) → need ≤ 16372 → p < u .pages → classes u p ≤ entryFor need
+      → (need ≤ u .page p .freeSpace) × (0 < u .page p .slotCount → need < u .page p .freeSpace)
   roomy-page p need h l c = go (ℕ-discrete (u .page p .slotCount) 0) (decLt need (u .page p .freeSpace))
     where
       nibble : nibbleOf (u .page p) ≤ entryFor need
       nibble = rw (lt-ltb p (u .pages) l) at c
 
-      go : Dec (u .page p .slotCount ≡ 0) → Dec (need < u .page p .freeSpace) → (need ≤ u .page p .freeSpace) × (0 < u .page p .slotCount → need < u .page p .freeSpace)
+      go : Dec (u .page p .slotCount ≡ 0) → Dec (need < u .page p .freeSpace)
+          → (need ≤ u .page p .freeSpace) × (0 < u .page p .slotCount → need < u .page p .freeSpace)
       go (yes e) d =
           let t : u .page p .freeSpace + 8 * 0 + sum 0 (λ j. len (u .page p .at j)) ≡ 16372 = rw e at (sounds p .sums) in
           (omega arith, λ q. absurd (omega arith))
@@ -275,11 +308,13 @@ module _ (u : SegView) (sounds : (p : ℕ) → Sound (u .page p)) (few : u .page
   FoundFits m ex (found q j a) =
       (q < u .pages) × (ex q ≡ false) × (u .page q .at j ≡ Free) × Changes (u .page q) j (Ordinary 0 m) (zeros m) a × (len (a .after .at j) ≡ m)
 
-  find-fits : (m : ℕ) (ex : ℕ → Bool) → ((q : ℕ) → ex q ≡ true → (0 < u .page q .slotCount) × (u .page q .freeSpace ≤ needFor m)) → FoundFits m ex (find foundIn u v m ex)
+  find-fits : (m : ℕ) (ex : ℕ → Bool) → ((q : ℕ) → ex q ≡ true → (0 < u .page q .slotCount) × (u .page q .freeSpace ≤ needFor m))
+      → FoundFits m ex (find foundIn u v m ex)
   unfolding find
   find-fits m ex out = go (foundIn v (u .pages) (needFor m)) (named-fits (needFor m))
     where
-      placed-in : (p : ℕ) → p < u .pages → ex p ≡ false → needFor m ≤ u .page p .freeSpace → (a : Alloc) → AllocChanges (u .page p) (sounds p) m a → FoundFits m ex (taken p a)
+      placed-in : (p : ℕ) → p < u .pages → ex p ≡ false → needFor m ≤ u .page p .freeSpace → (a : Alloc) → AllocChanges (u .page p) (sounds p) m a
+          → FoundFits m ex (taken p a)
       placed-in p l x r noRoom h = absurd (omega (arith, cost-most (u .page p) m .0))
       placed-in p l x r (got k a) h = (l, x, h .0, h .1, h .2)
 
@@ -287,7 +322,8 @@ module _ (u : SegView) (sounds : (p : ℕ) → Sound (u .page p)) (few : u .page
       go Full h = refl
       go (At p) h =
           by-test (FoundFits m ex) (not (sound (u .page p))) (nowhere 4) (cond (ex p) (nowhere 8) (taken p (allocate (u .page p) m)))
-          (λ e. let y = sound-test (u .page p) (sounds p) in let f : not (sound (u .page p)) ≡ false = ap not y in let z : _≡_ {A = ℕ} 0 1 = cc in absurd (omega arith))
+          (λ e. let y = sound-test (u .page p) (sounds p) in let f : not (sound (u .page p)) ≡ false = ap not y in let z : _≡_ {A = ℕ} 0 1 = cc in
+          absurd (omega arith))
           (λ e. by-test (FoundFits m ex) (ex p) (nowhere 8) (taken p (allocate (u .page p) m))
           (λ x. absurd (omega (arith, out p x .1, h .2 (out p x .0))))
           (λ x. placed-in p (h .0) x (h .1) (allocate (u .page p) m) (alloc-changes (u .page p) (sounds p) m)))
@@ -300,21 +336,25 @@ module _ (u : SegView) (sounds : (p : ℕ) → Sound (u .page p)) (few : u .page
   pub insert-stays : (bs : List ℕ) → Stays u v (wrote bs) (insertPlan u v bs)
   unfolding insertPlan
   insert-stays bs =
-      by-test (Stays u v (wrote bs)) (ltb 16364 (length bs)) (refuse v 3) (inserted u v bs (find foundIn u v (length bs) (λ p. false))) (λ e. refusal (wrote bs) 3 (λ x. omega arith) (λ x. omega arith) (λ x. omega arith))
+      by-test (Stays u v (wrote bs)) (ltb 16364 (length bs)) (refuse v 3) (inserted u v bs (find foundIn u v (length bs) (λ p. false)))
+      (λ e. refusal (wrote bs) 3 (λ x. omega arith) (λ x. omega arith) (λ x. omega arith))
       (λ e. go (find foundIn u v (length bs) (λ p. false)) (find-fits (length bs) (λ p. false) (λ q x. let z : _≡_ {A = ℕ} 0 1 = cc in absurd (omega arith))))
     where
       go : (f : Found) → FoundFits (length bs) (λ p. false) f → Stays u v (wrote bs) (inserted u v bs f)
       go (nowhere a) o = refusal (wrote bs) a (λ x. omega arith) (λ x. omega arith) (λ x. omega arith)
       go (found q j a) o =
           let c = fill-changes (u .page q) j (Ordinary 0 (length bs)) (zeros (length bs)) a (o .3) bs in
-          one-step (wrote bs) (idOf q j) (subst (λ (p : ℕ). p < u .pages) (sym (page-of q j (o .3 .small))) (o .0)) q j (Ordinary 0 (length bs)) bs (filled a j bs) (o .0) c (idOf q j) refl
-          (pairs-one (u .pages) (tagOn u) (bytesOn u) pairs (idOf q j) (Ordinary 0 (length bs)) bs (wrote bs) (subst Plain (sym (free-tag q j (o .3 .small) (o .2))) tt) tt refl)
+          one-step (wrote bs) (idOf q j) (subst (λ (p : ℕ). p < u .pages) (sym (page-of q j (o .3 .small))) (o .0)) q j (Ordinary 0 (length bs)) bs
+          (filled a j bs) (o .0) c (idOf q j) refl
+          (pairs-one (u .pages) (tagOn u) (bytesOn u) pairs (idOf q j) (Ordinary 0 (length bs)) bs (wrote bs)
+          (subst Plain (sym (free-tag q j (o .3 .small) (o .2))) tt) tt refl)
 
   -- an id that is handed out was free
   pub insert-new : (bs : List ℕ) → insertPlan u v bs .answer ≡ 0 → tagOn u (insertPlan u v bs .id) ≡ Free
   unfolding insertPlan
   insert-new bs =
-      by-test (λ (o : Out). o .answer ≡ 0 → tagOn u (o .id) ≡ Free) (ltb 16364 (length bs)) (refuse v 3) (inserted u v bs (find foundIn u v (length bs) (λ p. false))) (λ e x. absurd (omega arith))
+      by-test (λ (o : Out). o .answer ≡ 0 → tagOn u (o .id) ≡ Free) (ltb 16364 (length bs)) (refuse v 3)
+      (inserted u v bs (find foundIn u v (length bs) (λ p. false))) (λ e x. absurd (omega arith))
       (λ e. go (find foundIn u v (length bs) (λ p. false)) (find-fits (length bs) (λ p. false) (λ q x. let z : _≡_ {A = ℕ} 0 1 = cc in absurd (omega arith))))
     where
       go : (f : Found) → FoundFits (length bs) (λ p. false) f → inserted u v bs f .answer ≡ 0 → tagOn u (inserted u v bs f .id) ≡ Free
@@ -375,7 +415,8 @@ module _ (u : SegView) (sounds : (p : ℕ) → Sound (u .page p)) (few : u .page
   pub erase-stays : (i : ℕ) → Stays u v (noRead 5) (erasePlan u v i)
   unfolding erasePlan
   erase-stays i =
-      by-test (Stays u v (noRead 5)) (leb (u .pages) (pageNo i)) (refuse v 2) (refuseIf (not (sound r)) v 4 (eraseBy u v i (r .at (slotNo i)))) (λ e. refusal (noRead 5) 2 (λ x. omega arith) (λ x. omega arith) (λ x. omega arith))
+      by-test (Stays u v (noRead 5)) (leb (u .pages) (pageNo i)) (refuse v 2) (refuseIf (not (sound r)) v 4 (eraseBy u v i (r .at (slotNo i))))
+      (λ e. refusal (noRead 5) 2 (λ x. omega arith) (λ x. omega arith) (λ x. omega arith))
       (λ e. by-test (Stays u v (noRead 5)) (not (sound r)) (refuse v 4) (eraseBy u v i (r .at (slotNo i)))
       (λ f. let y : not (sound r) ≡ false = ap not (sound-test r (sounds (pageNo i))) in let z : _≡_ {A = ℕ} 0 1 = cc in absurd (omega arith))
       (λ f. go (leb-false (u .pages) (pageNo i) e) (r .at (slotNo i)) refl))
@@ -392,10 +433,12 @@ module _ (u : SegView) (sounds : (p : ℕ) → Sound (u .page p)) (few : u .page
       go l (Redirect t) e =
           by-test (Stays u v (noRead 5)) (not (pointsBack u i t)) (refuse v 4)
           (done i (on (pageNo i) (erase r (slotNo i)) ∷ on (pageNo t) (erase (u .page (pageNo t)) (slotNo t)) ∷ [])
-          (update (update v (u .pages) (pageNo t) (erase (u .page (pageNo t)) (slotNo t) .after .freeSpace)) (u .pages) (pageNo i) (erase r (slotNo i) .after .freeSpace)))
+          (update (update v (u .pages) (pageNo t) (erase (u .page (pageNo t)) (slotNo t) .after .freeSpace)) (u .pages) (pageNo i)
+          (erase r (slotNo i) .after .freeSpace)))
           (λ f. let y : not (pointsBack u i t) ≡ false = ap not (points-back i t l e) in let z : _≡_ {A = ℕ} 0 1 = cc in absurd (omega arith))
           (λ f.
-          two-swapped (noRead 5) i l (pageNo i) (slotNo i) Free [] (erase r (slotNo i)) l (erase-changes r (sounds (pageNo i)) (slotNo i) (root-counted i t l e) (root-taken i t l e)) i (id-of i)
+          two-swapped (noRead 5) i l (pageNo i) (slotNo i) Free [] (erase r (slotNo i)) l
+          (erase-changes r (sounds (pageNo i)) (slotNo i) (root-counted i t l e) (root-taken i t l e)) i (id-of i)
           (pageNo t) (slotNo t) Free [] (erase (u .page (pageNo t)) (slotNo t)) (partner i t l e .0) (target-erased i t l e) (partner i t l e .1) t (id-of t)
           (pairs-home (u .pages) (tagOn u) (bytesOn u) pairs i t l (ap tag e) Free [] (noRead 5) tt refl))
       go l (Target o k) e = refusal (noRead 5) 6 (λ x. omega arith) (λ x. omega arith) (λ x. omega arith)
@@ -419,30 +462,37 @@ module _ (u : SegView) (sounds : (p : ℕ) → Sound (u .page p)) (few : u .page
       inside : slotNo i < u .page (pageNo i) .slotCount
       inside = counted (u .page (pageNo i)) (sounds (pageNo i)) (slotNo i) taken
 
-      forwarded-stays : Plain (tagOn u i) → (old : List ℕ) (f : Found) → FoundFits (size + 8) (λ p. eqb p (pageNo i)) f → Stays u v (wrote (new old)) (forwarded u v i size new old f)
+      forwarded-stays : Plain (tagOn u i) → (old : List ℕ) (f : Found) → FoundFits (size + 8) (λ p. eqb p (pageNo i)) f
+          → Stays u v (wrote (new old)) (forwarded u v i size new old f)
       forwarded-stays plain old (nowhere a) o = refusal (wrote (new old)) a (λ x. omega arith) (λ x. omega arith) (λ x. omega arith)
       forwarded-stays plain old (found q j a) o =
           let n : q ≢ pageNo i = eqb-false q (pageNo i) (o .1) in
           let h = o .3 .small in
           two-steps (wrote (new old)) i below (pageNo i) (slotNo i) (Redirect (idOf q j)) [] (eraseForRedirect (u .page (pageNo i)) (slotNo i) (idOf q j)) below
           (redirect-changes (u .page (pageNo i)) (sounds (pageNo i)) (slotNo i) inside taken (idOf q j)) i (id-of i)
-          q j (Target 0 (len (a .after .at j))) (toBE 8 i ++ new old) (targeted u v i size new j a old) (o .0) (target-new old q j a (size + 8) (o .3)) n (idOf q j) refl
-          (pairs-forward (u .pages) (tagOn u) (bytesOn u) pairs i (idOf q j) (len (a .after .at j)) (toBE 8 i ++ new old) below (subst (λ (p : ℕ). p < u .pages) (sym (page-of q j h)) (o .0))
+          q j (Target 0 (len (a .after .at j))) (toBE 8 i ++ new old) (targeted u v i size new j a old) (o .0)
+          (target-new old q j a (size + 8) (o .3)) n (idOf q j) refl
+          (pairs-forward (u .pages) (tagOn u) (bytesOn u) pairs i (idOf q j) (len (a .after .at j)) (toBE 8 i ++ new old) below
+          (subst (λ (p : ℕ). p < u .pages) (sym (page-of q j h)) (o .0))
           (λ e. n (sym (page-of q j h) ∙ e)) plain (free-tag q j h (o .2)) (back-read i (new old) small-id))
 
       ordinary-stays : (o l : ℕ) → slotOn u i ≡ Ordinary o l → (old : List ℕ) (r : Relocated)
           → Relocates (u .page (pageNo i)) (sounds (pageNo i)) (slotNo i) inside taken size r → Stays u v (wrote (new old)) (fromOrdinary u v i size new old r)
       ordinary-stays o l e old (moved a) m =
-          one-step (wrote (new old)) i below (pageNo i) (slotNo i) (placed (slotOn u i) 0 size) (new old) (filled a (slotNo i) (new old)) below (m (new old)) i (id-of i)
-          (pairs-one (u .pages) (tagOn u) (bytesOn u) pairs i (placed (slotOn u i) 0 size) (new old) (wrote (new old)) (subst Plain (sym (ap tag e)) tt) (subst Plain (sym (ap (λ (x : Slot). placed x 0 size) e)) tt)
+          one-step (wrote (new old)) i below (pageNo i) (slotNo i) (placed (slotOn u i) 0 size) (new old) (filled a (slotNo i) (new old)) below
+          (m (new old)) i (id-of i)
+          (pairs-one (u .pages) (tagOn u) (bytesOn u) pairs i (placed (slotOn u i) 0 size) (new old) (wrote (new old))
+          (subst Plain (sym (ap tag e)) tt) (subst Plain (sym (ap (λ (x : Slot). placed x 0 size) e)) tt)
           (ap (λ (x : Slot). look (λ m. new old) i (placed x 0 size)) e))
       ordinary-stays o l e old refused m =
           forwarded-stays (subst Plain (sym (ap tag e)) tt) old (find foundIn u v (size + 8) (λ p. eqb p (pageNo i)))
           (find-fits (size + 8) (λ p. eqb p (pageNo i))
-          (λ q x. subst (λ (p : ℕ). (0 < u .page p .slotCount) × (u .page p .freeSpace ≤ size + 8 + 8)) (sym (eqb-true q (pageNo i) x)) (omega (arith, inside), omega arith)))
+          (λ q x. subst (λ (p : ℕ). (0 < u .page p .slotCount) × (u .page p .freeSpace ≤ size + 8 + 8)) (sym (eqb-true q (pageNo i) x))
+          (omega (arith, inside), omega arith)))
 
       module _ (t : ℕ) (here : slotOn u i ≡ Redirect t) where
-        again-stays : (old : List ℕ) (f : Found) → FoundFits (size + 8) (λ p. eqb p (pageNo i) || eqb p (pageNo t)) f → Stays u v (wrote (new old)) (forwardedAgain u v i size new t old f)
+        again-stays : (old : List ℕ) (f : Found) → FoundFits (size + 8) (λ p. eqb p (pageNo i) || eqb p (pageNo t)) f
+            → Stays u v (wrote (new old)) (forwardedAgain u v i size new t old f)
         again-stays old (nowhere a) o = refusal (wrote (new old)) a (λ x. omega arith) (λ x. omega arith) (λ x. omega arith)
         again-stays old (found q j a) o =
             let n = or-false (eqb q (pageNo i)) (eqb q (pageNo t)) (o .1) in
@@ -452,12 +502,16 @@ module _ (u : SegView) (sounds : (p : ℕ) → Sound (u .page p)) (few : u .page
             let r : View = u .page (pageNo i) in
             three-steps (wrote (new old)) i below (pageNo i) (slotNo i) (Redirect (idOf q j)) []
             (plan (move (slotNo i) (withSlot r (slotNo i) (Redirect (idOf q j)) []) ∷ []) (withSlot r (slotNo i) (Redirect (idOf q j)) [])) below
-            (entry-changes r (sounds (pageNo i)) (slotNo i) inside taken (Redirect (idOf q j)) [] (move (slotNo i) (withSlot r (slotNo i) (Redirect (idOf q j)) []))) i (id-of i)
-            (pageNo t) (slotNo t) Free [] (erase (u .page (pageNo t)) (slotNo t)) (partner i t below here .0) (target-erased i t below here) (partner i t below here .1) t (id-of t)
+            (entry-changes r (sounds (pageNo i)) (slotNo i) inside taken (Redirect (idOf q j)) []
+            (move (slotNo i) (withSlot r (slotNo i) (Redirect (idOf q j)) []))) i (id-of i)
+            (pageNo t) (slotNo t) Free [] (erase (u .page (pageNo t)) (slotNo t)) (partner i t below here .0) (target-erased i t below here)
+            (partner i t below here .1) t (id-of t)
             (omega (arith, inside)) refl
-            q j (Target 0 (len (a .after .at j))) (toBE 8 i ++ new old) (targeted u v i size new j a old) (o .0) (target-new old q j a (size + 8) (o .3)) ni nt (idOf q j) refl
+            q j (Target 0 (len (a .after .at j))) (toBE 8 i ++ new old) (targeted u v i size new j a old) (o .0)
+            (target-new old q j a (size + 8) (o .3)) ni nt (idOf q j) refl
             (pairs-again (u .pages) (tagOn u) (bytesOn u) pairs i t below (ap tag here) (idOf q j) (len (a .after .at j)) (toBE 8 i ++ new old)
-            (subst (λ (p : ℕ). p < u .pages) (sym (page-of q j h)) (o .0)) (λ e. ni (sym (page-of q j h) ∙ e)) (λ e. nt (sym (page-of q j h) ∙ ap pageNo e)) (free-tag q j h (o .2))
+            (subst (λ (p : ℕ). p < u .pages) (sym (page-of q j h)) (o .0)) (λ e. ni (sym (page-of q j h) ∙ e))
+            (λ e. nt (sym (page-of q j h) ∙ ap pageNo e)) (free-tag q j h (o .2))
             (back-read i (new old) small-id))
           where
             or-false : (x y : Bool) → (x || y) ≡ false → (x ≡ false) × (y ≡ false)
@@ -465,26 +519,34 @@ module _ (u : SegView) (sounds : (p : ℕ) → Sound (u .page p)) (few : u .page
             or-false false y e = (refl, e)
 
         at-target-stays : (old : List ℕ) → u .page (pageNo i) .freeSpace < size → (r : Relocated)
-            → Relocates (u .page (pageNo t)) (sounds (pageNo t)) (slotNo t) (target-counted i t below here) (target-taken i t below here) (size + 8) r → Stays u v (wrote (new old)) (atTarget u v i size new t old r)
+            → Relocates (u .page (pageNo t)) (sounds (pageNo t)) (slotNo t) (target-counted i t below here) (target-taken i t below here) (size + 8) r
+            → Stays u v (wrote (new old)) (atTarget u v i size new t old r)
         at-target-stays old short (moved a) m =
             let bs : List ℕ = toBE 8 i ++ new old in
             one-step (wrote (new old)) i below (pageNo t) (slotNo t) (Target 0 (size + 8)) bs (filled a (slotNo t) bs) (partner i t below here .0)
-            (subst (λ (x : Slot). Changes (u .page (pageNo t)) (slotNo t) x bs (filled a (slotNo t) bs)) (placed-target i t below here (size + 8)) (m bs)) t (id-of t)
+            (subst (λ (x : Slot). Changes (u .page (pageNo t)) (slotNo t) x bs (filled a (slotNo t) bs)) (placed-target i t below here (size + 8))
+            (m bs)) t (id-of t)
             (pairs-target (u .pages) (tagOn u) (bytesOn u) pairs i t below (ap tag here) (size + 8) bs (back-read i (new old) small-id))
         at-target-stays old short refused m =
             again-stays old (find foundIn u v (size + 8) (λ p. eqb p (pageNo i) || eqb p (pageNo t)))
             (find-fits (size + 8) (λ p. eqb p (pageNo i) || eqb p (pageNo t))
             (λ q x.
             ⊎-elim
-            (λ y. subst (λ (p : ℕ). (0 < u .page p .slotCount) × (u .page p .freeSpace ≤ size + 8 + 8)) (sym (eqb-true q (pageNo i) y)) (omega (arith, inside), omega arith))
-            (λ y. subst (λ (p : ℕ). (0 < u .page p .slotCount) × (u .page p .freeSpace ≤ size + 8 + 8)) (sym (eqb-true q (pageNo t) y)) (omega (arith, target-counted i t below here), omega arith))
+            (λ y. subst (λ (p : ℕ). (0 < u .page p .slotCount) × (u .page p .freeSpace ≤ size + 8 + 8)) (sym (eqb-true q (pageNo i) y))
+            (omega (arith, inside), omega arith))
+            (λ y. subst (λ (p : ℕ). (0 < u .page p .slotCount) × (u .page p .freeSpace ≤ size + 8 + 8)) (sym (eqb-true q (pageNo t) y))
+            (omega (arith, target-counted i t below here), omega arith))
             (or-true (eqb q (pageNo i)) (eqb q (pageNo t)) x)))
 
-        home-stays : (old : List ℕ) (r : Relocated) → Relocates (u .page (pageNo i)) (sounds (pageNo i)) (slotNo i) inside taken size r → Stays u v (wrote (new old)) (atHome u v i size new t old r)
+        home-stays : (old : List ℕ) (r : Relocated) → Relocates (u .page (pageNo i)) (sounds (pageNo i)) (slotNo i) inside taken size r
+            → Stays u v (wrote (new old)) (atHome u v i size new t old r)
         home-stays old (moved a) m =
-            two-steps (wrote (new old)) i below (pageNo i) (slotNo i) (placed (slotOn u i) 0 size) (new old) (filled a (slotNo i) (new old)) below (m (new old)) i (id-of i)
-            (pageNo t) (slotNo t) Free [] (erase (u .page (pageNo t)) (slotNo t)) (partner i t below here .0) (target-erased i t below here) (partner i t below here .1) t (id-of t)
-            (pairs-home (u .pages) (tagOn u) (bytesOn u) pairs i t below (ap tag here) (placed (slotOn u i) 0 size) (new old) (wrote (new old)) (subst Plain (sym (ap (λ (x : Slot). placed x 0 size) here)) tt)
+            two-steps (wrote (new old)) i below (pageNo i) (slotNo i) (placed (slotOn u i) 0 size) (new old) (filled a (slotNo i) (new old)) below
+            (m (new old)) i (id-of i)
+            (pageNo t) (slotNo t) Free [] (erase (u .page (pageNo t)) (slotNo t)) (partner i t below here .0) (target-erased i t below here)
+            (partner i t below here .1) t (id-of t)
+            (pairs-home (u .pages) (tagOn u) (bytesOn u) pairs i t below (ap tag here) (placed (slotOn u i) 0 size) (new old) (wrote (new old))
+            (subst Plain (sym (ap (λ (x : Slot). placed x 0 size) here)) tt)
             (ap (λ (x : Slot). look (λ m. new old) i (placed x 0 size)) here))
         home-stays old refused m =
             at-target-stays old m (relocate (u .page (pageNo t)) (slotNo t) (size + 8))
@@ -493,9 +555,12 @@ module _ (u : SegView) (sounds : (p : ℕ) → Sound (u .page p)) (few : u .page
   pub store-stays : (i size : ℕ) (new : List ℕ → List ℕ) → Stays u v (wrote (new (oldBytes u i))) (storePlan u v i size new)
   unfolding storePlan
   store-stays i size new =
-      by-test (Stays u v (wrote (new (oldBytes u i)))) (ltb 16364 size) (refuse v 3) (refuseIf (leb (u .pages) (pageNo i)) v 2 (refuseIf (not (sound r)) v 4 (storeBy u v i size new (r .at (slotNo i)))))
+      by-test (Stays u v (wrote (new (oldBytes u i)))) (ltb 16364 size) (refuse v 3)
+      (refuseIf (leb (u .pages) (pageNo i)) v 2 (refuseIf (not (sound r)) v 4 (storeBy u v i size new (r .at (slotNo i)))))
       (λ d. refusal (wrote (new (oldBytes u i))) 3 (λ x. omega arith) (λ x. omega arith) (λ x. omega arith))
-      (λ d. by-test (Stays u v (wrote (new (oldBytes u i)))) (leb (u .pages) (pageNo i)) (refuse v 2) (refuseIf (not (sound r)) v 4 (storeBy u v i size new (r .at (slotNo i)))) (λ e. refusal (wrote (new (oldBytes u i))) 2 (λ x. omega arith) (λ x. omega arith) (λ x. omega arith))
+      (λ d. by-test (Stays u v (wrote (new (oldBytes u i)))) (leb (u .pages) (pageNo i)) (refuse v 2)
+      (refuseIf (not (sound r)) v 4 (storeBy u v i size new (r .at (slotNo i))))
+      (λ e. refusal (wrote (new (oldBytes u i))) 2 (λ x. omega arith) (λ x. omega arith) (λ x. omega arith))
       (λ e. by-test (Stays u v (wrote (new (oldBytes u i)))) (not (sound r)) (refuse v 4) (storeBy u v i size new (r .at (slotNo i)))
       (λ f. let y : not (sound r) ≡ false = ap not (sound-test r (sounds (pageNo i))) in let z : _≡_ {A = ℕ} 0 1 = cc in absurd (omega arith))
       (λ f. go (leb-false (u .pages) (pageNo i) e) (r .at (slotNo i)) refl)))

@@ -1,5 +1,4 @@
 -- An update keeps the inventory true; and the lowest page that suits is one, and is what a search from page 0 finds.
--- Assumes nothing.
 use Prim.Native.Nat.{ℕ, zero, suc, _+_, _-_, _*_, _^_, _≤_, _<_}
 use mathlib.Core.Path.{_≡_, refl, _∙_, sym, ap, subst}
 use mathlib.Core.Bool.{Bool, true, false, cond}
@@ -10,7 +9,8 @@ use lib.Dec.{eqb}
 use lib.ListN.{length}
 use borrow.Author.Tests.{eq-eqb, ne-eqb}
 use Rattle.store.specs.Numbers.{upd}
-use Rattle.store.specs.Inventory.{setNibble, entryAt, setEntry, Room, nibble, suits, firstFrom, nextPage, names, runEnd, setFrom, namesNoLater, pulledBack, movedOn, updated, Lowest, Truth}
+use Rattle.store.specs.Inventory.{setNibble, entryAt, setEntry, Room, nibble, suits, firstFrom, nextPage, names, runEnd, setFrom, namesNoLater}
+use Rattle.store.specs.Inventory.{pulledBack, movedOn, updated, Lowest, Truth}
 use Rattle.store.specs.Laws.Cases.{lt-or-le, eq-or-ne, by-test, tests}
 use Rattle.store.specs.Laws.Inventory.{length-setEntry, entry-same, entry-other, nibble-entry, length-setNibble, nibble-same, nibble-other, entry-nibble}
 
@@ -212,7 +212,8 @@ module _ (f : ℕ → ℕ) (n p v : ℕ) (s : List ℕ) (true₀ : Truth f n s) 
   nibbles₁ k l =
       ⊎-elim
       (λ x. rw x (nibble-same s (p + 240) v (omega (arith, room .pages)) (omega arith) ∙ sym (changed-here f n p v)))
-      (λ x. nibble-other s (p + 240) v (omega (arith, room .pages)) (omega arith) (k + 240) (omega arith) ∙ true₀ .nibbles k l ∙ sym (changed-other f n p v k x))
+      (λ x. nibble-other s (p + 240) v (omega (arith, room .pages)) (omega arith) (k + 240) (omega arith) ∙ true₀ .nibbles k l
+      ∙ sym (changed-other f n p v k x))
       (eq-or-ne k p)
 
   entries₁ : (c : ℕ) → c < 15 → entryAt s₁ c ≡ entryAt s c
@@ -341,7 +342,8 @@ pull-length : (p c k : ℕ) (s : List ℕ) → length (pulledBack p c k s) ≡ l
 unfolding pulledBack
 pull-length p c zero s = refl
 pull-length p c (suc k) s =
-    by-test (λ t. length t ≡ length s) (namesNoLater s p c) s (pulledBack p (suc c) k (setEntry s c p)) (λ e. refl) (λ e. pull-length p (suc c) k (setEntry s c p) ∙ length-setEntry s c p)
+    by-test (λ t. length t ≡ length s) (namesNoLater s p c) s (pulledBack p (suc c) k (setEntry s c p)) (λ e. refl)
+    (λ e. pull-length p (suc c) k (setEntry s c p) ∙ length-setEntry s c p)
 
 pub length-updated : (s : List ℕ) (n p v : ℕ) → length (updated s n p v) ≡ length s
 unfolding updated movedOn
@@ -355,7 +357,8 @@ length-updated s n p v = go (eqb (nibble s p) v)
 
     go : (b : Bool) → length (cond b s (pulledBack p v (15 - v) (setFrom (nextPage t n p) (nibble s p) d t))) ≡ length s
     go true = refl
-    go false = pull-length p v (15 - v) (setFrom (nextPage t n p) (nibble s p) d t) ∙ down-length (nextPage t n p) (nibble s p) d t ∙ length-setNibble s (p + 240) v
+    go false = pull-length p v (15 - v) (setFrom (nextPage t n p) (nibble s p) d t) ∙ down-length (nextPage t n p) (nibble s p) d t
+        ∙ length-setNibble s (p + 240) v
 
 -- the classes as another function says them
 pub truth-by : (f g : ℕ → ℕ) (n : ℕ) (s : List ℕ) → f ≡ g → Truth f n s → Truth g n s

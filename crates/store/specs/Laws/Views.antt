@@ -1,4 +1,4 @@
--- Laws of `upd` and `sum`, sound views, and: erase keeps a view sound. Numbers and slots alone: no byte of a page occurs here. Assumes nothing.
+-- Laws of `upd` and `sum`, sound views, and: erase keeps a view sound. Numbers and slots alone: no byte of a page occurs here.
 use Prim.Native.Nat.{ℕ, zero, suc, _+_, _-_, _*_, _≤_, _<_, min}
 use mathlib.Core.Path.{_≡_, refl, sym, ap, _∙_}
 use mathlib.Core.Bool.{Bool, true, false, cond}
@@ -137,7 +137,8 @@ below-free : (at : ℕ → Slot) (k j : ℕ) → k ≤ j + freeBelow at k → j 
 below-free at zero j h l = absurd (not-suc-le-zero l)
 below-free at (suc k) j h l = go (below-free at k j) (isFree (at k)) refl h
   where
-    go : (k ≤ j + freeBelow at k → j < k → isFree (at j) ≡ true) → (b : Bool) → isFree (at k) ≡ b → suc k ≤ j + cond b (suc (freeBelow at k)) 0 → isFree (at j) ≡ true
+    go : (k ≤ j + freeBelow at k → j < k → isFree (at j) ≡ true) → (b : Bool) → isFree (at k) ≡ b → suc k ≤ j + cond b (suc (freeBelow at k)) 0
+        → isFree (at j) ≡ true
     go ih true e g = last (ℕ-discrete j k)
       where
         last : Dec (j ≡ k) → isFree (at j) ≡ true
@@ -150,7 +151,8 @@ module _ (v : View) (s : Sound v) (k : ℕ) (inside : k < v .slotCount) (taken :
   pruning : (pruned v k ≡ 0) ⊎ ((k + 1 ≡ v .slotCount) × (pruned v k ≤ k) × ((j : ℕ) → k ≤ j + pruned v k → j < k → isFree (v .at j) ≡ true))
   pruning = go (ℕ-discrete (k + 1) (v .slotCount))
     where
-      go : Dec (k + 1 ≡ v .slotCount) → (pruned v k ≡ 0) ⊎ ((k + 1 ≡ v .slotCount) × (pruned v k ≤ k) × ((j : ℕ) → k ≤ j + pruned v k → j < k → isFree (v .at j) ≡ true))
+      go : Dec (k + 1 ≡ v .slotCount)
+          → (pruned v k ≡ 0) ⊎ ((k + 1 ≡ v .slotCount) × (pruned v k ≤ k) × ((j : ℕ) → k ≤ j + pruned v k → j < k → isFree (v .at j) ≡ true))
       go (yes e) = rw (eq-eqb (k + 1) (v .slotCount) e) (inr (e, below≤ (v .at) k, below-free (v .at) k))
       go (no n) = rw (ne-eqb (k + 1) (v .slotCount) n) (inl refl)
 
@@ -176,7 +178,8 @@ module _ (v : View) (s : Sound v) (k : ℕ) (inside : k < v .slotCount) (taken :
       by e (no z) = omega (arith, s .low j h)
       by e (yes z) = side (s .apart k j (λ q. n (sym q)) z h)
         where
-          side : (off (v .at k) + len (v .at k) ≤ off (v .at j)) ⊎ (off (v .at j) + len (v .at j) ≤ off (v .at k)) → v .dataStart + len (v .at k) ≤ off (v .at j)
+          side : (off (v .at k) + len (v .at k) ≤ off (v .at j)) ⊎ (off (v .at j) + len (v .at j) ≤ off (v .at k))
+              → v .dataStart + len (v .at k) ≤ off (v .at j)
           side (inl a) = omega arith
           side (inr b) = absurd (omega (arith, s .low j h))
 
@@ -261,7 +264,8 @@ next-low : (n : ℕ) (at : ℕ → Slot) (j : ℕ) → (j ≤ nextFree n at j) �
 next-low zero at j = (omega arith, omega arith)
 next-low (suc n) at j = go (next-low n at (j + 1)) (isFree (at j))
   where
-    go : (j + 1 ≤ nextFree n at (j + 1)) × (nextFree n at (j + 1) ≤ j + 1 + n) → (b : Bool) → (j ≤ cond b j (nextFree n at (j + 1))) × (cond b j (nextFree n at (j + 1)) ≤ j + suc n)
+    go : (j + 1 ≤ nextFree n at (j + 1)) × (nextFree n at (j + 1) ≤ j + 1 + n) → (b : Bool)
+        → (j ≤ cond b j (nextFree n at (j + 1))) × (cond b j (nextFree n at (j + 1)) ≤ j + suc n)
     go h true = (omega arith, omega arith)
     go h false = (omega arith, omega arith)
 
@@ -270,7 +274,8 @@ next-taken : (n : ℕ) (at : ℕ → Slot) (j i : ℕ) → j ≤ i → i < nextF
 next-taken zero at j i a b = absurd (omega arith)
 next-taken (suc n) at j i a b = go (next-taken n at (j + 1) i) (isFree (at j)) refl b
   where
-    go : (j + 1 ≤ i → i < nextFree n at (j + 1) → isFree (at i) ≡ false) → (c : Bool) → isFree (at j) ≡ c → i < cond c j (nextFree n at (j + 1)) → isFree (at i) ≡ false
+    go : (j + 1 ≤ i → i < nextFree n at (j + 1) → isFree (at i) ≡ false) → (c : Bool) → isFree (at j) ≡ c → i < cond c j (nextFree n at (j + 1))
+        → isFree (at i) ≡ false
     go ih true e h = absurd (omega arith)
     go ih false e h = same (ℕ-discrete i j)
       where
@@ -308,8 +313,18 @@ module _ (v : View) (s : Sound v) (n : ℕ) (room : cost v n ≤ v .freeSpace) (
   numbers = go newness
     where
       go : ((v .firstFree ≡ v .slotCount) × (isNew v ≡ true)) ⊎ ((v .firstFree < v .slotCount) × (isNew v ≡ false)) → Numbers
-      go (inl h) = record { more = rw (h .1) (omega arith); most = rw (h .1) (omega arith); inside = rw (h .1) (omega arith); others = λ j q. rw (h .1) (λ l. omega arith) }
-      go (inr h) = record { more = rw (h .1) (omega arith); most = rw (h .1) (omega arith); inside = rw (h .1) (omega arith); others = λ j q. rw (h .1) (λ l. omega arith) }
+      go (inl h) = record {
+        more = rw (h .1) (omega arith);
+        most = rw (h .1) (omega arith);
+        inside = rw (h .1) (omega arith);
+        others = λ j q. rw (h .1) (λ l. omega arith);
+      }
+      go (inr h) = record {
+        more = rw (h .1) (omega arith);
+        most = rw (h .1) (omega arith);
+        inside = rw (h .1) (omega arith);
+        others = λ j q. rw (h .1) (λ l. omega arith);
+      }
 
   -- the next free slot
   next-place : (v .firstFree + 1 ≤ allocated v n .firstFree) × (allocated v n .firstFree ≤ v .firstFree + 1 + (v .slotCount - (v .firstFree + 1)))
@@ -347,12 +362,19 @@ module _ (v : View) (s : Sound v) (n : ℕ) (room : cost v n ≤ v .freeSpace) (
         lower = upd-elim (v .at) (v .firstFree) (Ordinary (v .dataStart - n) n) (λ j x. j < allocated v n .firstFree → isFree x ≡ false) (λ h. refl) next-lower;
         dir = omega (arith, numbers, s .dir);
         start≤ = omega (arith, s .start≤);
-        low = upd-elim (v .at) (v .firstFree) (Ordinary (v .dataStart - n) n) (λ j x. 0 < len x → v .dataStart - n ≤ off x) (λ h. omega arith) (λ j q h. omega (arith, s .low j h));
-        high = upd-elim (v .at) (v .firstFree) (Ordinary (v .dataStart - n) n) (λ j x. off x + len x ≤ 16384) (omega (arith, numbers, s .dir, s .start≤)) (λ j q. s .high j);
+        low = upd-elim (v .at) (v .firstFree) (Ordinary (v .dataStart - n) n) (λ j x. 0 < len x
+            → v .dataStart - n ≤ off x) (λ h. omega arith) (λ j q h. omega (arith, s .low j h));
+        high = upd-elim (v .at) (v .firstFree) (Ordinary (v .dataStart - n) n) (λ j x. off x + len x ≤ 16384)
+            (omega (arith, numbers, s .dir, s .start≤)) (λ j q. s .high j);
         apart = upd-apart (v .at) (v .firstFree) (Ordinary (v .dataStart - n) n) (λ j q a b. inl (omega (arith, numbers, s .dir, s .low j b))) (s .apart);
-        targets = upd-elim (v .at) (v .firstFree) (Ordinary (v .dataStart - n) n) (λ j x. isTarget x ≡ true → 8 ≤ len x) (λ e. let z : _≡_ {A = ℕ} 0 1 = cc in omega arith) (λ j q. s .targets j);
+        targets = upd-elim (v .at) (v .firstFree) (Ordinary (v .dataStart - n) n) (λ j x. isTarget x ≡ true
+            → 8 ≤ len x) (λ e. let z : _≡_ {A = ℕ} 0 1 = cc in omega arith) (λ j q. s .targets j);
         sums = omega (arith, sum-more, s .sums, numbers .most);
-        codable = upd-elim (v .at) (v .firstFree) (Ordinary (v .dataStart - n) n) (λ j x. Codable x) (omega (arith, s .start≤), omega (arith, numbers, s .dir, s .start≤)) (λ j q. s .codable j);
-        past = upd-elim (v .at) (v .firstFree) (Ordinary (v .dataStart - n) n) (λ j x. allocated v n .slotCount ≤ j → x ≡ Free) (λ h. absurd (omega (arith, numbers .inside))) (λ j q h. s .past j (omega (arith, numbers .more)));
+        codable = upd-elim (v .at) (v .firstFree) (Ordinary (v .dataStart - n) n) (λ j x. Codable x) (
+          omega (arith, s .start≤),
+          omega (arith, numbers, s .dir, s .start≤),
+        ) (λ j q. s .codable j);
+        past = upd-elim (v .at) (v .firstFree) (Ordinary (v .dataStart - n) n) (λ j x. allocated v n .slotCount ≤ j
+            → x ≡ Free) (λ h. absurd (omega (arith, numbers .inside))) (λ j q h. s .past j (omega (arith, numbers .more)));
         lens = upd-lens (v .at) (v .bytes) (v .firstFree) (Ordinary (v .dataStart - n) n) (zeros n) (length-replicate n 0) (s .lens);
       }

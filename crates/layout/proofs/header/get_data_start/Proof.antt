@@ -1,11 +1,8 @@
--- `layout::header::get_data_start` meets its contract. Assumes nothing.
+-- `layout::header::get_data_start` meets its contract.
 use Rattle.store.specs.Page.{view}
 use borrow.Author.Needs.{needs}
 use Rattle.layout.proofs.header.get_data_start.Statement.{statement}
 use Rattle.layout.proofs.header.get_data_start.Tie as tie
-use Rattle.layout.proofs.header.get_data_start.Reads as reads
-use Rattle.layout.proofs.header.get_data_start.Lts as lts
-use Rattle.layout.proofs.get_u32.Reads as get-u32-reads
 
 get-u32-requires : tie.Need-get-u32-requires
 get-u32-requires c κs = search needs

@@ -1,11 +1,8 @@
--- `layout::header::get_slot_count` meets its contract. Assumes nothing.
+-- `layout::header::get_slot_count` meets its contract.
 use Rattle.store.specs.Page.{view}
 use borrow.Author.Needs.{needs}
 use Rattle.layout.proofs.header.get_slot_count.Statement.{statement}
 use Rattle.layout.proofs.header.get_slot_count.Tie as tie
-use Rattle.layout.proofs.header.get_slot_count.Reads as reads
-use Rattle.layout.proofs.header.get_slot_count.Lts as lts
-use Rattle.layout.proofs.get_u16.Reads as get-u16-reads
 
 get-u16-requires : tie.Need-get-u16-requires
 get-u16-requires c κs = search needs

@@ -1,12 +1,8 @@
--- `layout::header::set_header` meets its contract. Assumes nothing.
+-- `layout::header::set_header` meets its contract.
 use Rattle.layout.proofs.Codec.{header-put}
 use borrow.Author.Needs.{needs}
 use Rattle.layout.proofs.header.set_header.Statement.{statement}
 use Rattle.layout.proofs.header.set_header.Tie as tie
-use Rattle.layout.proofs.header.set_header.Reads as reads
-use Rattle.layout.proofs.header.set_header.Lts as lts
-use Rattle.layout.proofs.put_u16.Reads as put-u16-reads
-use Rattle.layout.proofs.put_u32.Reads as put-u32-reads
 
 put-u16-requires : tie.Need-put-u16-requires
 put-u16-requires c κs = search needs

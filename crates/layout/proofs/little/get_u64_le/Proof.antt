@@ -1,4 +1,4 @@
--- `layout::little::get_u64_le` meets its contract. Assumes nothing.
+-- `layout::little::get_u64_le` meets its contract.
 use Prim.Native.Nat.{_-_, _≤_}
 use mathlib.Core.Path.{_≡_}
 use native.Mathlib.Omega.{arith}

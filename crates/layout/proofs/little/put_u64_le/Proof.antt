@@ -1,4 +1,4 @@
--- `layout::little::put_u64_le` meets its contract. Assumes nothing.
+-- `layout::little::put_u64_le` meets its contract.
 use Prim.Native.Nat.{ℕ, _+_, _-_, _*_, _/_, _%_, _^_, _≤_}
 use mathlib.Core.Path.{_≡_, sym, ap, _∙_}
 use mathlib.Core.List.{List}

@@ -1,14 +1,10 @@
--- `layout::slots::get_slot` meets its contract. Assumes nothing.
+-- `layout::slots::get_slot` meets its contract.
 use mathlib.Core.Path.{_∙_}
 use native.Mathlib.Omega.{arith}
 use Rattle.layout.proofs.Codec.{counted-slot}
 use borrow.Author.Needs.{needs}
 use Rattle.layout.proofs.slots.get_slot.Statement.{statement}
 use Rattle.layout.proofs.slots.get_slot.Tie as tie
-use Rattle.layout.proofs.slots.get_slot.Reads as reads
-use Rattle.layout.proofs.slots.get_slot.Lts as lts
-use Rattle.layout.proofs.get_u32.Reads as get-u32-reads
-use Rattle.layout.proofs.slots.slot_of.Reads as slot-of-reads
 
 mul-at : tie.Need-mul-at
 mul-at c = search needs
@@ -34,7 +30,8 @@ returns c =
     let h = c .before .before in
     let b = c .before .before .before .before in (
       c .slot-of .ensures .0
-          ∙ counted-slot (b .args .page .now) (b .args .k) (h .get-u32 .result) (l .get-u322 .result) (omega arith) (omega arith) (h .get-u32 .ensures .is) (l .get-u322 .ensures .is),
+          ∙ counted-slot (b .args .page .now) (b .args .k) (h .get-u32 .result) (l .get-u322 .result) (omega arith) (omega arith)
+          (h .get-u32 .ensures .is) (l .get-u322 .ensures .is),
       c .slot-of .ensures .1,
     )
 

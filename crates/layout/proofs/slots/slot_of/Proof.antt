@@ -1,12 +1,10 @@
--- `layout::slots::slot_of` meets its contract. Assumes nothing.
+-- `layout::slots::slot_of` meets its contract.
 use Prim.Native.Nat.{_+_, _*_, _/_, _%_}
 use native.Mathlib.Omega.{arith}
 use Rattle.layout.proofs.Codec.{kind-three, kind-high, half-high, half-low}
 use borrow.Author.Needs.{needs}
 use Rattle.layout.proofs.slots.slot_of.Statement.{statement}
 use Rattle.layout.proofs.slots.slot_of.Tie as tie
-use Rattle.layout.proofs.slots.slot_of.Reads as reads
-use Rattle.layout.proofs.slots.slot_of.Lts as lts
 
 returns : tie.Need-returns
 returns c =
@@ -41,8 +39,15 @@ returns-4 c =
     let b = c .before .before .before in
     let h = b .args .high in
     let l = b .args .low in
-    let o = h % 1073741824 in
-    (rw (kind-high h l (b .pre .1), kind-three (h / 1073741824) (o * 4294967296 + l) (omega arith), half-high o l (b .pre .1), half-low o l (b .pre .1)), omega arith)
+    let o = h % 1073741824 in (
+      rw (
+        kind-high h l (b .pre .1),
+        kind-three (h / 1073741824) (o * 4294967296 + l) (omega arith),
+        half-high o l (b .pre .1),
+        half-low o l (b .pre .1),
+      ),
+      omega arith,
+    )
 
 pub slot-of-spec : {M : Type 1} → statement M
 slot-of-spec = tie.close (tie.spec returns returns-2 mul-t6 add-t7 returns-3 returns-4)

@@ -1,4 +1,4 @@
--- `layout::slots::slot_word` meets its contract. Assumes nothing.
+-- `layout::slots::slot_word` meets its contract.
 use native.Mathlib.Omega.{arith}
 use mathlib.Core.Path.{subst, ap}
 use Rattle.store.specs.Slots.{slotWord}
@@ -6,8 +6,6 @@ use Rattle.store.specs.Laws.Slots.{Codable}
 use borrow.Author.Needs.{needs}
 use Rattle.layout.proofs.slots.slot_word.Statement.{statement}
 use Rattle.layout.proofs.slots.slot_word.Tie as tie
-use Rattle.layout.proofs.slots.slot_word.Reads as reads
-use Rattle.layout.proofs.slots.slot_word.Lts as lts
 
 enum-known-s : tie.Need-enum-known-s
 enum-known-s c = search needs

@@ -1,14 +1,10 @@
--- `layout::slots::write_slot` meets its contract. Assumes nothing.
+-- `layout::slots::write_slot` meets its contract.
 use mathlib.Core.Path.{ap, _∙_}
 use Prim.Native.Nat.{ℕ, _+_, _*_}
 use Rattle.store.specs.Numbers.{put, toBE}
 use borrow.Author.Needs.{needs}
 use Rattle.layout.proofs.slots.write_slot.Statement.{statement}
 use Rattle.layout.proofs.slots.write_slot.Tie as tie
-use Rattle.layout.proofs.slots.write_slot.Reads as reads
-use Rattle.layout.proofs.slots.write_slot.Lts as lts
-use Rattle.layout.proofs.slots.slot_word.Reads as slot-word-reads
-use Rattle.layout.proofs.put_u64.Reads as put-u64-reads
 
 slot-word-requires : tie.Need-slot-word-requires
 slot-word-requires c κs = search needs

@@ -1,12 +1,10 @@
--- `page_check::map::bits_from` meets its contract. Assumes nothing.
+-- `page_check::map::bits_from` meets its contract.
 use native.Mathlib.Omega.{arith}
 use lib.Pow.{pow-pos}
 use Rattle.page_check.proofs.MapLaws.{mask-of, one-shl}
 use borrow.Author.Needs.{needs}
 use Rattle.page_check.proofs.map.bits_from.Statement.{statement}
 use Rattle.page_check.proofs.map.bits_from.Tie as tie
-use Rattle.page_check.proofs.map.bits_from.Reads as reads
-use Rattle.page_check.proofs.map.bits_from.Lts as lts
 
 shl-result : tie.Need-shl-result
 shl-result c = search needs

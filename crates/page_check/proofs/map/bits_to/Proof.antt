@@ -1,4 +1,4 @@
--- `page_check::map::bits_to` meets its contract. Assumes nothing.
+-- `page_check::map::bits_to` meets its contract.
 use Prim.Native.Nat.{_+_, _-_}
 use mathlib.Core.Path.{_≡_}
 use native.Mathlib.Omega.{arith}
@@ -6,8 +6,6 @@ use Rattle.page_check.proofs.MapLaws.{mask-of, ones-shr}
 use borrow.Author.Needs.{needs}
 use Rattle.page_check.proofs.map.bits_to.Statement.{statement}
 use Rattle.page_check.proofs.map.bits_to.Tie as tie
-use Rattle.page_check.proofs.map.bits_to.Reads as reads
-use Rattle.page_check.proofs.map.bits_to.Lts as lts
 
 sub-result : tie.Need-sub-result
 sub-result c = search needs

@@ -1,4 +1,4 @@
--- `page_check::map::claim` meets its contract. Assumes nothing.
+-- `page_check::map::claim` meets its contract.
 use Prim.Native.Nat.{ℕ, _+_, _-_, _*_, _/_, _%_, _≤_, _<_}
 use mathlib.Core.Path.{_≡_, refl, subst}
 use mathlib.Core.Bool.{true}
@@ -14,27 +14,26 @@ use Rattle.page_check.proofs.SlotLaws.{tells-no, told, refuted}
 use Rattle.page_check.proofs.MapLaws.{mask-of, mask-and, claimed-none, claim-more}
 use Rattle.page_check.proofs.map.claim.Statement.{statement}
 use Rattle.page_check.proofs.map.claim.Tie as tie
-use Rattle.page_check.proofs.map.claim.Reads as reads
-use Rattle.page_check.proofs.map.claim.Lts as lts
-use Rattle.page_check.proofs.map.bits_from.Reads as bits-from-reads
-use Rattle.page_check.proofs.map.bits_to.Reads as bits-to-reads
-use Rattle.page_check.proofs.map.claim_word.Reads as claim-word-reads
 
 abbrev Inv-loop : tie.InvT-loop
 Inv-loop used₀ o end last m₀ i₀ used m i =
-    (i ≤ last) × (length used ≡ 256) × (length used ≡ length used₀) × (a : ℕ) × (a < 64) × (o ≤ 64 * i + a) × (64 * i + a < end) × Mask m a 64 × Claimed used₀ used o (64 * i + a)
+    (i ≤ last) × (length used ≡ 256) × (length used ≡ length used₀) × (a : ℕ) × (a < 64) × (o ≤ 64 * i + a) × (64 * i + a < end) × Mask m a 64
+    × Claimed used₀ used o (64 * i + a)
 
 abbrev μ-loop : tie.MeasureT-loop
 μ-loop used₀ o end last m₀ i₀ used m i = last - i
 
 -- the word that the loop is at
-one : (c : tie.After-slice-known2 Inv-loop μ-loop) → let a = c .before .before .before .before .before .before .before .before .args in let at = c .before .before .before .before .before .loop in let w = c .before .before .claim-word in let e = 64 * at .i + 64 in Tells (w .result) (Clear (now (a .used)) (a .o) e) × (w .result ≡ true → Claimed (now (a .used)) (w .last .0) (a .o) e)
+one : (c : tie.After-slice-known2 Inv-loop μ-loop) → let a = c .before .before .before .before .before .before .before .before .args in
+    let at = c .before .before .before .before .before .loop in let w = c .before .before .claim-word in let e = 64 * at .i + 64 in
+    Tells (w .result) (Clear (now (a .used)) (a .o) e) × (w .result ≡ true → Claimed (now (a .used)) (w .last .0) (a .o) e)
 one c =
     let a = c .before .before .before .before .before .before .before .before .args in
     let at = c .before .before .before .before .before .loop in
     let v = at .inv in
     let w = c .before .before .claim-word in
-    claim-more (now (a .used)) (at .used) (w .last .0) (a .o) (64 * at .i + 64) (at .i) (v .3) 64 (at .m) (w .result) (v .7) (omega arith) (omega arith) (v .5) (omega arith) refl (v .8) (w .ensures)
+    claim-more (now (a .used)) (at .used) (w .last .0) (a .o) (64 * at .i + 64) (at .i) (v .3) 64 (at .m) (w .result) (v .7) (omega arith)
+    (omega arith) (v .5) (omega arith) refl (v .8) (w .ensures)
 
 sub-last : tie.Need-sub-last Inv-loop μ-loop
 sub-last c = omega arith
@@ -97,7 +96,8 @@ returns-2 c =
     let e : at .i ≡ last = omega arith in
     let mask = mask-and (at .m) (to .result) (v .3) 64 b (v .7) (to .ensures) (omega arith) in
     let s = subst (λ (x : ℕ). Claimed (now (a .used)) (at .used) (a .o) (64 * x + v .3)) e (v .8) in
-    claim-more (now (a .used)) (at .used) (w .last .0) (a .o) (a .end) last (v .3) b (bitAnd (at .m) (to .result)) (w .result) mask (omega arith) (omega arith) (omega arith) (omega arith) (omega arith) s (w .ensures)
+    claim-more (now (a .used)) (at .used) (w .last .0) (a .o) (a .end) last (v .3) b (bitAnd (at .m) (to .result)) (w .result) mask (omega arith)
+    (omega arith) (omega arith) (omega arith) (omega arith) s (w .ensures)
 
 pub claim-spec : {M : Type 1} → statement M
 claim-spec =

@@ -1,4 +1,4 @@
--- `page_check::map::claim_all` meets its contract. Assumes nothing.
+-- `page_check::map::claim_all` meets its contract.
 use Prim.Native.Nat.{_+_, _-_, _*_, _≤_, _<_}
 use mathlib.Core.Path.{_≡_, refl}
 use native.Mathlib.Omega.{arith}
@@ -14,32 +14,39 @@ use Rattle.page_check.proofs.FitLaws.{fit-none, fit-more, total-none, t
 use Rattle.page_check.proofs.MarkLaws.{Marked, marked-none, marked-more, apart-before, clear-apart}
 use Rattle.page_check.proofs.map.claim_all.Statement.{statement}
 use Rattle.page_check.proofs.map.claim_all.Tie as tie
-use Rattle.page_check.proofs.map.claim_all.Reads as reads
-use Rattle.page_check.proofs.map.claim_all.Lts as lts
-use Rattle.layout.proofs.get_u32.Reads as get-u32-reads
-use Rattle.page_check.proofs.map.claim_record.Reads as claim-record-reads
-use Rattle.page_check.proofs.slot.run_of.Reads as run-of-reads
 
 abbrev Inv-loop : tie.InvT-loop
 Inv-loop page n f d used₀ total₀ k₀ o₀ used total k o =
-    (k ≤ n) × (length used ≡ 256) × (length used ≡ length used₀) × RecordsFit (view page) k f d × Total (view page) k total × Marked (view page) k used × (o ≡ be (cut page (12 + 8 * k) 4)) × (o < 4294967296)
+    (k ≤ n) × (length used ≡ 256) × (length used ≡ length used₀) × RecordsFit (view page) k f d × Total (view page) k total
+    × Marked (view page) k used × (o ≡ be (cut page (12 + 8 * k) 4)) × (o < 4294967296)
 
 abbrev μ-loop : tie.MeasureT-loop
 μ-loop page n f d used₀ total₀ k₀ o₀ used total k o = n - k
 
 -- what is found of slot k
-found : (c : tie.After-run-of Inv-loop μ-loop) → let a = c .before .before .before .before .before .before .before .args in let at = c .before .before .before .loop in let r = c .run-of .result in Found (view (now (a .page)) .at (at .k)) (at .k) (a .f) 16384 (r .fits) (r .start) (r .size)
+found : (c : tie.After-run-of Inv-loop μ-loop) → let a = c .before .before .before .before .before .before .before .args in
+    let at = c .before .before .before .loop in let r = c .run-of .result in
+    Found (view (now (a .page)) .at (at .k)) (at .k) (a .f) 16384 (r .fits) (r .start) (r .size)
 found c =
     let a = c .before .before .before .before .before .before .before .args in
     let at = c .before .before .before .loop in
-    found-at (now (a .page)) (at .k) (at .o) (c .before .get-u322 .result) (a .f) 16384 _ _ _ (omega arith) (omega arith) (omega arith) (at .inv .6) (c .before .get-u322 .ensures .is) (c .run-of .ensures)
+    found-at (now (a .page)) (at .k) (at .o) (c .before .get-u322 .result) (a .f) 16384 _ _ _ (omega arith) (omega arith) (omega arith) (at .inv .6)
+    (c .before .get-u322 .ensures .is) (c .run-of .ensures)
 
 get-u32-requires : tie.Need-get-u32-requires Inv-loop μ-loop
 get-u32-requires c κs = search needs
 
 loop-holds : tie.Need-loop-holds Inv-loop μ-loop
-loop-holds c =
-    (omega arith, omega arith, refl, fit-none _ _ _, total-none _, marked-none _ _ (c .before .before .before .pre .4), c .get-u32 .ensures .is, omega (arith, c .get-u32 .ensures .small))
+loop-holds c = (
+  omega arith,
+  omega arith,
+  refl,
+  fit-none _ _ _,
+  total-none _,
+  marked-none _ _ (c .before .before .before .pre .4),
+  c .get-u32 .ensures .is,
+  omega (arith, c .get-u32 .ensures .small),
+)
 
 mul-get-u32 : tie.Need-mul-get-u32 Inv-loop μ-loop
 mul-get-u32 c = omega arith
@@ -84,7 +91,8 @@ returns-2 c =
 
 add-total : tie.Need-add-total Inv-loop μ-loop
 add-total c =
-    let r = found (c .before .before .before .before .before .before .before .before) .runs (not-false _ (c .before .before .before .before .before .before .if1 .left)) in
+    let r = found (c .before .before .before .before .before .before .before .before) .runs
+    (not-false _ (c .before .before .before .before .before .before .if1 .left)) in
     omega (arith, c .before .before .before .before .before .before .before .before .before .before .before .loop .inv .4 .small, r .down)
 
 add-k : tie.Need-add-k Inv-loop μ-loop
@@ -114,7 +122,8 @@ loop-again c =
       omega arith,
       omega arith,
       omega arith,
-      fit-more _ _ _ _ (at .inv .3) (s .tells .yes e) (λ p. omega (arith, lies .0 (omega (arith, r .size)), r .start (omega (arith, r .size)))) (apart-before _ _ _ _ _ _ (at .inv .5) r (lies .1)),
+      fit-more _ _ _ _ (at .inv .3) (s .tells .yes e) (λ p. omega (arith, lies .0 (omega (arith, r .size)), r .start (omega (arith, r .size))))
+          (apart-before _ _ _ _ _ _ (at .inv .5) r (lies .1)),
       total-more _ _ _ _ (at .inv .4) (r .size) (omega (arith, r .down)),
       marked-more _ _ _ _ _ _ (at .inv .5) r _ (w .ensures .1 g),
       c .get-u323 .ensures .is,

@@ -1,13 +1,10 @@
--- `page_check::map::claim_record` meets its contract. Assumes nothing.
+-- `page_check::map::claim_record` meets its contract.
 use native.Mathlib.Omega.{arith}
 use borrow.Author.Needs.{needs}
 use Rattle.page_check.proofs.SlotLaws.{tells-no, tells-yes, refuted}
 use Rattle.page_check.proofs.MapLaws.{claimed-none}
 use Rattle.page_check.proofs.map.claim_record.Statement.{statement}
 use Rattle.page_check.proofs.map.claim_record.Tie as tie
-use Rattle.page_check.proofs.map.claim_record.Reads as reads
-use Rattle.page_check.proofs.map.claim_record.Lts as lts
-use Rattle.page_check.proofs.map.claim.Reads as claim-reads
 
 returns : tie.Need-returns
 returns c = (tells-yes (λ p. omega arith, λ i f g. absurd (omega arith)), λ _. claimed-none _ _ _ (omega arith))

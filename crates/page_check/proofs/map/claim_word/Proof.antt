@@ -1,10 +1,8 @@
--- `page_check::map::claim_word` meets its contract. Assumes nothing.
+-- `page_check::map::claim_word` meets its contract.
 use Rattle.page_check.proofs.SlotLaws.{tells-no, refuted}
 use borrow.Author.Needs.{needs}
 use Rattle.page_check.proofs.map.claim_word.Statement.{statement}
 use Rattle.page_check.proofs.map.claim_word.Tie as tie
-use Rattle.page_check.proofs.map.claim_word.Reads as reads
-use Rattle.page_check.proofs.map.claim_word.Lts as lts
 
 mul-w : tie.Need-mul-w
 mul-w c = search needs

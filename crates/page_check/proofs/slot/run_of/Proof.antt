@@ -1,12 +1,9 @@
--- `page_check::slot::run_of` meets its contract. Assumes nothing.
+-- `page_check::slot::run_of` meets its contract.
 use native.Mathlib.Omega.{arith}
 use Rattle.page_check.proofs.SlotLaws.{found-ordinary, found-over, found-free, found-redirect, found-short, found-target}
 use borrow.Author.Needs.{needs}
 use Rattle.page_check.proofs.slot.run_of.Statement.{statement}
 use Rattle.page_check.proofs.slot.run_of.Tie as tie
-use Rattle.page_check.proofs.slot.run_of.Reads as reads
-use Rattle.page_check.proofs.slot.run_of.Lts as lts
-use Rattle.page_check.proofs.slot.no_bytes.Reads as no-bytes-reads
 
 add-if1 : tie.Need-add-if1
 add-if1 c = search needs

@@ -1,4 +1,4 @@
--- `page_check::sweep::sweep` meets its contract. Assumes nothing.
+-- `page_check::sweep::sweep` meets its contract.
 use Prim.Native.Nat.{_+_, _-_, _*_, _≤_, _<_}
 use mathlib.Core.Path.{_≡_}
 use native.Mathlib.Omega.{arith}
@@ -12,10 +12,6 @@ use Rattle.page_check.proofs.SlotLaws.{found-at, refuted}
 use Rattle.page_check.proofs.FitLaws.{fit-none, fit-lower, fit-under, total-none, total-more}
 use Rattle.page_check.proofs.sweep.sweep.Statement.{statement}
 use Rattle.page_check.proofs.sweep.sweep.Tie as tie
-use Rattle.page_check.proofs.sweep.sweep.Reads as reads
-use Rattle.page_check.proofs.sweep.sweep.Lts as lts
-use Rattle.layout.proofs.get_u32.Reads as get-u32-reads
-use Rattle.page_check.proofs.slot.run_of.Reads as run-of-reads
 
 abbrev Inv-loop : tie.InvT-loop
 Inv-loop page n f d low₀ total₀ k₀ o₀ low total k o =
@@ -25,11 +21,14 @@ abbrev μ-loop : tie.MeasureT-loop
 μ-loop page n f d low₀ total₀ k₀ o₀ low total k o = n - k
 
 -- what is found of slot k
-found : (c : tie.Else1 Inv-loop μ-loop) → let a = c .before .before .before .before .before .before .before .before .args in let at = c .before .before .before .before .before .loop in let r = c .before .before .run-of .result in Found (view (now (a .page)) .at (at .k)) (at .k) (a .f) (at .low) (r .fits) (r .start) (r .size)
+found : (c : tie.Else1 Inv-loop μ-loop) → let a = c .before .before .before .before .before .before .before .before .args in
+    let at = c .before .before .before .before .before .loop in let r = c .before .before .run-of .result in
+    Found (view (now (a .page)) .at (at .k)) (at .k) (a .f) (at .low) (r .fits) (r .start) (r .size)
 found c =
     let a = c .before .before .before .before .before .before .before .before .args in
     let at = c .before .before .before .before .before .loop in
-    found-at (now (a .page)) (at .k) (at .o) (c .before .before .before .get-u322 .result) (a .f) (at .low) _ _ _ (omega arith) (omega arith) (omega arith) (at .inv .4) (c .before .before .before .get-u322 .ensures .is) (c .before .before .run-of .ensures)
+    found-at (now (a .page)) (at .k) (at .o) (c .before .before .before .get-u322 .result) (a .f) (at .low) _ _ _ (omega arith) (omega arith)
+    (omega arith) (at .inv .4) (c .before .before .before .get-u322 .ensures .is) (c .before .before .run-of .ensures)
 
 get-u32-requires : tie.Need-get-u32-requires Inv-loop μ-loop
 get-u32-requires c κs = search needs
@@ -77,8 +76,14 @@ loop-again c =
     let at = c .before .before .before .before .before .before .before .loop in
     let s = found (c .before .before) in
     let e = not-false _ (c .before .before .if1 .left) in
-    let r = s .runs e in
-    (omega arith, omega (arith, r .down), fit-under _ _ _ _ _ _ (at .inv .1) (at .inv .2) (s .tells .yes e) r, total-more _ _ _ _ (at .inv .3) (r .size) (omega (arith, r .down)), c .get-u323 .ensures .is, omega (arith, c .get-u323 .ensures .small))
+    let r = s .runs e in (
+      omega arith,
+      omega (arith, r .down),
+      fit-under _ _ _ _ _ _ (at .inv .1) (at .inv .2) (s .tells .yes e) r,
+      total-more _ _ _ _ (at .inv .3) (r .size) (omega (arith, r .down)),
+      c .get-u323 .ensures .is,
+      omega (arith, c .get-u323 .ensures .small),
+    )
 
 returns-2 : tie.Need-returns-2 Inv-loop μ-loop
 returns-2 c =

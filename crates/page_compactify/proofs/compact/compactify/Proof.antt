@@ -1,4 +1,4 @@
--- `page_compactify::compact::compactify` meets its contract. Assumes nothing.
+-- `page_compactify::compact::compactify` meets its contract.
 use mathlib.Core.Path.{_≡_, ap, _∙_}
 use Prim.Native.Nat.{ℕ}
 use native.Mathlib.Omega.{arith}
@@ -10,11 +10,6 @@ use Rattle.page_compactify.proofs.PackLaws.{keys-ready, keys-slots}
 use borrow.Author.Needs.{needs}
 use Rattle.page_compactify.proofs.compact.compactify.Statement.{statement}
 use Rattle.page_compactify.proofs.compact.compactify.Tie as tie
-use Rattle.page_compactify.proofs.compact.compactify.Reads as reads
-use Rattle.page_compactify.proofs.compact.compactify.Lts as lts
-use Rattle.page_compactify.proofs.compact.pack.Reads as pack-reads
-use Rattle.layout.proofs.header.get_slot_count.Reads as get-slot-count-reads
-use Rattle.page_compactify.proofs.table.collect.Reads as collect-reads
 
 -- the table's first entries are the keys of the page's records
 listed : (c : tie.After-collect) →

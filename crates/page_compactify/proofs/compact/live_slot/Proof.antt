@@ -1,10 +1,8 @@
--- `page_compactify::compact::live_slot` meets its contract. Assumes nothing.
+-- `page_compactify::compact::live_slot` meets its contract.
 use native.Mathlib.Omega.{arith}
 use Rattle.page_compactify.proofs.KeyLaws.{live-target}
 use Rattle.page_compactify.proofs.compact.live_slot.Statement.{statement}
 use Rattle.page_compactify.proofs.compact.live_slot.Tie as tie
-use Rattle.page_compactify.proofs.compact.live_slot.Reads as reads
-use Rattle.page_compactify.proofs.compact.live_slot.Lts as lts
 
 returns : tie.Need-returns
 returns c = (rw (c .if1 .taken), omega arith)

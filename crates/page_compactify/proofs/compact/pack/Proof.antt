@@ -1,4 +1,4 @@
--- `page_compactify::compact::pack` meets its contract. Assumes nothing.
+-- `page_compactify::compact::pack` meets its contract.
 use mathlib.Core.Path.{_≡_, refl}
 use Prim.Native.Nat.{_+_, _≤_, _-_}
 use native.Mathlib.Omega.{arith}
@@ -9,16 +9,11 @@ use Rattle.page_compactify.specs.Keys.{lenIn, slotsOf}
 use Rattle.page_compactify.proofs.PackLaws.{ToPack, Turn, turn-at, to-pack-end}
 use Rattle.page_compactify.proofs.compact.pack.Statement.{statement}
 use Rattle.page_compactify.proofs.compact.pack.Tie as tie
-use Rattle.page_compactify.proofs.compact.pack.Reads as reads
-use Rattle.page_compactify.proofs.compact.pack.Lts as lts
-use Rattle.page_compactify.proofs.compact.place.Reads as place-reads
-use Rattle.layout.proofs.header.get_slot_count.Reads as get-slot-count-reads
-use Rattle.layout.proofs.header.get_first_free_slot.Reads as get-first-free-slot-reads
-use Rattle.layout.proofs.header.get_free_space.Reads as get-free-space-reads
-use Rattle.layout.proofs.header.set_header.Reads as set-header-reads
 
 abbrev Inv-loop : tie.InvT-loop
-Inv-loop page₀ t n d₀ j₀ page d j = ToPack (drop j (take n t)) d page (run (pack (slotsOf (take n t)) 16384 (view page₀) .edits) page₀) (pack (slotsOf (take n t)) 16384 (view page₀) .after .dataStart) × (j ≤ n) × (length page ≡ 16384) × (d ≤ 16384)
+Inv-loop page₀ t n d₀ j₀ page d j =
+    ToPack (drop j (take n t)) d page (run (pack (slotsOf (take n t)) 16384 (view page₀) .edits) page₀)
+    (pack (slotsOf (take n t)) 16384 (view page₀) .after .dataStart) × (j ≤ n) × (length page ≡ 16384) × (d ≤ 16384)
 
 abbrev μ-loop : tie.MeasureT-loop
 μ-loop page₀ t n d₀ j₀ page d j = n - j
@@ -29,13 +24,15 @@ next : (c : tie.In-loop Inv-loop μ-loop) →
     let l = c .before .loop in
     let v = view (s .page .now) in
     let ks = slotsOf (take (s .n) (s .t .now)) in
-    Turn (getD (s .t .now) (l .j) 0) (drop (l .j + 1) (take (s .n) (s .t .now))) (l .d) (l .page) (run (pack ks 16384 v .edits) (s .page .now)) (pack ks 16384 v .after .dataStart)
+    Turn (getD (s .t .now) (l .j) 0) (drop (l .j + 1) (take (s .n) (s .t .now))) (l .d) (l .page) (run (pack ks 16384 v .edits) (s .page .now))
+    (pack ks 16384 v .after .dataStart)
 next c =
     let s = c .before .before .before .before .args in
     let l = c .before .loop in
     let v = view (s .page .now) in
     let ks = slotsOf (take (s .n) (s .t .now)) in
-    turn-at (s .t .now) (s .n) (l .j) (l .d) (pack ks 16384 v .after .dataStart) (l .page) (run (pack ks 16384 v .edits) (s .page .now)) (omega arith) (omega arith) (omega arith) (l .inv .0)
+    turn-at (s .t .now) (s .n) (l .j) (l .d) (pack ks 16384 v .after .dataStart) (l .page) (run (pack ks 16384 v .edits) (s .page .now)) (omega arith)
+    (omega arith) (omega arith) (l .inv .0)
 
 loop-holds : tie.Need-loop-holds Inv-loop μ-loop
 loop-holds c = (record { ready = c .before .before .pre .2; same = refl; last = refl }, omega arith, omega arith, omega arith)
@@ -92,8 +89,10 @@ returns c =
     let v = view (s .page .now) in
     let ks = slotsOf (take (s .n) (s .t .now)) in
     let e : l .j ≡ s .n = omega arith in
-    to-pack-end (s .t .now) (s .n) (l .d) (pack ks 16384 v .after .dataStart) (n .get-slot-count .result) (f .get-first-free-slot .result) (r .get-free-space .result) (l .page) (run (pack ks 16384 v .edits) (s .page .now)) (z .set-header .last .0)
-    (c .before .before .before .before .before .before .before .before .before .before .before .before .before .before .pre .1) (rw e at (l .inv .0)) (n .get-slot-count .ensures .0) (f .get-first-free-slot .ensures .0) (r .get-free-space .ensures .0) (z .set-header .ensures)
+    to-pack-end (s .t .now) (s .n) (l .d) (pack ks 16384 v .after .dataStart) (n .get-slot-count .result) (f .get-first-free-slot .result)
+    (r .get-free-space .result) (l .page) (run (pack ks 16384 v .edits) (s .page .now)) (z .set-header .last .0)
+    (c .before .before .before .before .before .before .before .before .before .before .before .before .before .before .pre .1) (rw e at (l .inv .0))
+    (n .get-slot-count .ensures .0) (f .get-first-free-slot .ensures .0) (r .get-free-space .ensures .0) (z .set-header .ensures)
 
 pub pack-spec : {M : Type 1} → statement M
 pack-spec =

@@ -1,14 +1,9 @@
--- `page_compactify::compact::place` meets its contract. Assumes nothing.
+-- `page_compactify::compact::place` meets its contract.
 use native.Mathlib.Omega.{arith}
 use Rattle.page_compactify.specs.Keys.{offsetIn, lenIn, slotIn, kindIn, moveKey}
 use borrow.Author.Needs.{needs}
 use Rattle.page_compactify.proofs.compact.place.Statement.{statement}
 use Rattle.page_compactify.proofs.compact.place.Tie as tie
-use Rattle.page_compactify.proofs.compact.place.Reads as reads
-use Rattle.page_compactify.proofs.compact.place.Lts as lts
-use Rattle.page_compactify.proofs.compact.live_slot.Reads as live-slot-reads
-use Rattle.layout.proofs.slots.write_slot.Reads as write-slot-reads
-use Rattle.layout.proofs.move_within.Reads as move-within-reads
 
 live-slot-requires : tie.Need-live-slot-requires
 live-slot-requires c κs = search needs

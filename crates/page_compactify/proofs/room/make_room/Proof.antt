@@ -1,14 +1,9 @@
--- `page_compactify::room::make_room` meets its contract. Assumes nothing.
+-- `page_compactify::room::make_room` meets its contract.
 use native.Mathlib.Omega.{arith}
 use Rattle.page_compactify.proofs.RoomLaws.{room-made, room-there}
 use borrow.Author.Needs.{needs}
 use Rattle.page_compactify.proofs.room.make_room.Statement.{statement}
 use Rattle.page_compactify.proofs.room.make_room.Tie as tie
-use Rattle.page_compactify.proofs.room.make_room.Reads as reads
-use Rattle.page_compactify.proofs.room.make_room.Lts as lts
-use Rattle.page_compactify.proofs.compact.compactify.Reads as compactify-reads
-use Rattle.layout.proofs.header.get_slot_count.Reads as get-slot-count-reads
-use Rattle.layout.proofs.header.get_data_start.Reads as get-data-start-reads
 
 get-slot-count-requires : tie.Need-get-slot-count-requires
 get-slot-count-requires c κs = search needs
@@ -35,7 +30,8 @@ returns : tie.Need-returns
 returns c =
     let s = c .before .before .before .before .before .before .before .before .before .before in
     let z = c .before .before in
-    room-made (s .args .page .now) (s .args .n) (z .compactify .result) (s .pre .0) (s .pre .1) (z .compactify .last .0) (s .pre .2) (omega arith) (z .compactify .ensures .0) (z .compactify .ensures .1)
+    room-made (s .args .page .now) (s .args .n) (z .compactify .result) (s .pre .0) (s .pre .1) (z .compactify .last .0) (s .pre .2) (omega arith)
+    (z .compactify .ensures .0) (z .compactify .ensures .1)
 
 same-length-2 : tie.Need-same-length-2
 same-length-2 c = search needs
@@ -43,7 +39,8 @@ same-length-2 c = search needs
 returns-2 : tie.Need-returns-2
 returns-2 c =
     let s = c .before .before .before .before .before .before in
-    room-there (s .args .page .now) (s .args .n) (c .before .get-data-start .result) (s .pre .0) (s .pre .1) (omega arith) (c .before .get-data-start .ensures .0)
+    room-there (s .args .page .now) (s .args .n) (c .before .get-data-start .result) (s .pre .0) (s .pre .1) (omega arith)
+    (c .before .get-data-start .ensures .0)
 
 pub make-room-spec : {M : Type 1} → statement M
 make-room-spec =

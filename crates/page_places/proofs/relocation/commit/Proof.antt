@@ -1,11 +1,7 @@
--- `page_places::relocation::commit` meets its contract. Assumes nothing.
+-- `page_places::relocation::commit` meets its contract.
 use borrow.Author.Needs.{needs}
 use Rattle.page_places.proofs.relocation.commit.Statement.{statement}
 use Rattle.page_places.proofs.relocation.commit.Tie as tie
-use Rattle.page_places.proofs.relocation.commit.Reads as reads
-use Rattle.page_places.proofs.relocation.commit.Lts as lts
-use Rattle.layout.proofs.header.set_header.Reads as set-header-reads
-use Rattle.layout.proofs.slots.write_slot.Reads as write-slot-reads
 
 set-header-requires : tie.Need-set-header-requires
 set-header-requires c κs = search needs

@@ -1,13 +1,9 @@
--- `page_places::relocation::home_slot` meets its contract. Assumes nothing.
+-- `page_places::relocation::home_slot` meets its contract.
 use Rattle.store.specs.Page.{view}
 use Rattle.page_places.proofs.RelocationLaws.{home-none, home-done}
 use borrow.Author.Needs.{needs}
 use Rattle.page_places.proofs.relocation.home_slot.Statement.{statement}
 use Rattle.page_places.proofs.relocation.home_slot.Tie as tie
-use Rattle.page_places.proofs.relocation.home_slot.Reads as reads
-use Rattle.page_places.proofs.relocation.home_slot.Lts as lts
-use Rattle.layout.proofs.header.get_free_space.Reads as get-free-space-reads
-use Rattle.page_places.proofs.relocation.put_under.Reads as put-under-reads
 
 get-free-space-requires : tie.Need-get-free-space-requires
 get-free-space-requires c κs = search needs

@@ -1,17 +1,10 @@
--- `page_places::relocation::move_slot` meets its contract. Assumes nothing.
+-- `page_places::relocation::move_slot` meets its contract.
 use Rattle.store.specs.Page.{view}
 use Rattle.page_places.proofs.RelocationLaws.{is-free-slot, is-record-slot, is-redirect-slot}
 use mathlib.Core.Path.{refl, sym, _∙_}
 use borrow.Author.Needs.{needs}
 use Rattle.page_places.proofs.relocation.move_slot.Statement.{statement}
 use Rattle.page_places.proofs.relocation.move_slot.Tie as tie
-use Rattle.page_places.proofs.relocation.move_slot.Reads as reads
-use Rattle.page_places.proofs.relocation.move_slot.Lts as lts
-use Rattle.layout.proofs.slots.get_slot.Reads as get-slot-reads
-use Rattle.layout.proofs.slots.is_free.Reads as is-free-reads
-use Rattle.page_places.proofs.relocation.home_slot.Reads as home-slot-reads
-use Rattle.layout.proofs.slots.is_record.Reads as is-record-reads
-use Rattle.page_places.proofs.relocation.resize_slot.Reads as resize-slot-reads
 
 get-slot-requires : tie.Need-get-slot-requires
 get-slot-requires c κs = search needs
@@ -27,7 +20,8 @@ returns c =
     let f = c .before in
     let g = f .before in
     let a = g .before .before .before .args in
-    rw (is-free-slot (view (a .page .now)) (a .k) (a .size) (g .get-slot .result) (g .get-slot .ensures .0) (sym (c .if1 .taken) ∙ f .is-free .ensures)) (refl, refl, tt)
+    rw (is-free-slot (view (a .page .now)) (a .k) (a .size) (g .get-slot .result) (g .get-slot .ensures .0)
+    (sym (c .if1 .taken) ∙ f .is-free .ensures)) (refl, refl, tt)
 
 is-record-requires : tie.Need-is-record-requires
 is-record-requires c κs = search needs
@@ -45,7 +39,8 @@ returns-2 c =
     let r = h .before in
     let g = r .before .before .before in
     let a = g .before .before .before .args in
-    rw (is-record-slot (view (a .page .now)) (a .k) (a .size) (g .get-slot .result) (g .get-slot .ensures .0) (sym (h .if2 .taken) ∙ r .is-record .ensures)) (z .resize-slot .ensures)
+    rw (is-record-slot (view (a .page .now)) (a .k) (a .size) (g .get-slot .result) (g .get-slot .ensures .0)
+    (sym (h .if2 .taken) ∙ r .is-record .ensures)) (z .resize-slot .ensures)
 
 home-slot-requires : tie.Need-home-slot-requires
 home-slot-requires c κs = search needs
@@ -62,7 +57,8 @@ returns-3 c =
     let f = e .before in
     let g = f .before in
     let a = g .before .before .before .args in
-    rw (is-redirect-slot (view (a .page .now)) (a .k) (a .size) (g .get-slot .result) (g .get-slot .ensures .0) (sym (e .if1 .left) ∙ f .is-free .ensures) (sym (h .if2 .left) ∙ r .is-record .ensures)) (z .home-slot .ensures)
+    rw (is-redirect-slot (view (a .page .now)) (a .k) (a .size) (g .get-slot .result) (g .get-slot .ensures .0)
+    (sym (e .if1 .left) ∙ f .is-free .ensures) (sym (h .if2 .left) ∙ r .is-record .ensures)) (z .home-slot .ensures)
 
 pub move-slot-spec : {M : Type 1} → statement M
 move-slot-spec =

@@ -1,14 +1,7 @@
--- `page_places::relocation::park` meets its contract. Assumes nothing.
+-- `page_places::relocation::park` meets its contract.
 use borrow.Author.Needs.{needs}
 use Rattle.page_places.proofs.relocation.park.Statement.{statement}
 use Rattle.page_places.proofs.relocation.park.Tie as tie
-use Rattle.page_places.proofs.relocation.park.Reads as reads
-use Rattle.page_places.proofs.relocation.park.Lts as lts
-use Rattle.layout.proofs.header.get_slot_count.Reads as get-slot-count-reads
-use Rattle.layout.proofs.header.get_first_free_slot.Reads as get-first-free-slot-reads
-use Rattle.layout.proofs.header.get_free_space.Reads as get-free-space-reads
-use Rattle.layout.proofs.header.get_data_start.Reads as get-data-start-reads
-use Rattle.page_places.proofs.relocation.commit.Reads as commit-reads
 
 get-slot-count-requires : tie.Need-get-slot-count-requires
 get-slot-count-requires c κs = search needs
@@ -34,7 +27,13 @@ same-length c = search needs
 returns : tie.Need-returns
 returns c =
     let z = c .before .before in
-    rw (z .commit .ensures, z .before .before .get-free-space .ensures .0, z .before .before .before .before .get-data-start .ensures .0, z .before .before .before .before .before .before .get-first-free-slot .ensures .0, z .before .before .before .before .before .before .before .before .get-slot-count .ensures .0)
+    rw (
+      z .commit .ensures,
+      z .before .before .get-free-space .ensures .0,
+      z .before .before .before .before .get-data-start .ensures .0,
+      z .before .before .before .before .before .before .get-first-free-slot .ensures .0,
+      z .before .before .before .before .before .before .before .before .get-slot-count .ensures .0,
+    )
 
 pub park-spec : {M : Type 1} → statement M
 park-spec =

@@ -1,10 +1,8 @@
--- `page_places::relocation::placed_slot` meets its contract. Assumes nothing.
+-- `page_places::relocation::placed_slot` meets its contract.
 use native.Mathlib.Omega.{arith}
 use borrow.Author.Needs.{needs}
 use Rattle.page_places.proofs.relocation.placed_slot.Statement.{statement}
 use Rattle.page_places.proofs.relocation.placed_slot.Tie as tie
-use Rattle.page_places.proofs.relocation.placed_slot.Reads as reads
-use Rattle.page_places.proofs.relocation.placed_slot.Lts as lts
 
 enum-told : tie.Need-enum-told
 enum-told c = search needs

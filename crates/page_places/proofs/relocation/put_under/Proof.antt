@@ -1,4 +1,4 @@
--- `page_places::relocation::put_under` meets its contract. Assumes nothing.
+-- `page_places::relocation::put_under` meets its contract.
 use mathlib.Core.Path.{ap}
 use Prim.Native.Nat.{ℕ, _-_}
 use native.Mathlib.Omega.{arith}
@@ -6,14 +6,6 @@ use Rattle.page_places.proofs.RelocationLaws.{under-made}
 use borrow.Author.Needs.{needs}
 use Rattle.page_places.proofs.relocation.put_under.Statement.{statement}
 use Rattle.page_places.proofs.relocation.put_under.Tie as tie
-use Rattle.page_places.proofs.relocation.put_under.Reads as reads
-use Rattle.page_places.proofs.relocation.put_under.Lts as lts
-use Rattle.page_compactify.proofs.room.make_room.Reads as make-room-reads
-use Rattle.layout.proofs.header.get_slot_count.Reads as get-slot-count-reads
-use Rattle.layout.proofs.header.get_first_free_slot.Reads as get-first-free-slot-reads
-use Rattle.layout.proofs.header.get_free_space.Reads as get-free-space-reads
-use Rattle.page_places.proofs.relocation.commit.Reads as commit-reads
-use Rattle.page_places.proofs.relocation.placed_slot.Reads as placed-slot-reads
 
 get-slot-count-requires : tie.Need-get-slot-count-requires
 get-slot-count-requires c κs = search needs
@@ -52,9 +44,11 @@ returns c =
     let n = f .before .before in
     let b = n .before .before .before in
     let a = b .args in (
-      under-made (a .page .now) (a .k) (a .size) (n .get-slot-count .result) (f .get-first-free-slot .result) (m .get-free-space .result) (r .make-room .result) (a .s) (t .placed-slot .result)
+      under-made (a .page .now) (a .k) (a .size) (n .get-slot-count .result) (f .get-first-free-slot .result) (m .get-free-space .result)
+          (r .make-room .result) (a .s) (t .placed-slot .result)
           (r .make-room .last .0) (z .commit .last .0) (b .pre .1)
-          (n .get-slot-count .ensures .0) (f .get-first-free-slot .ensures .0) (m .get-free-space .ensures .0) (r .make-room .ensures) (t .placed-slot .ensures .0) (z .commit .ensures),
+          (n .get-slot-count .ensures .0) (f .get-first-free-slot .ensures .0) (m .get-free-space .ensures .0) (r .make-room .ensures)
+          (t .placed-slot .ensures .0) (z .commit .ensures),
       ap (λ (x : ℕ). x - a .size) (r .make-room .ensures .begins),
       omega (arith, r .make-room .ensures),
     )

@@ -1,4 +1,4 @@
--- `page_places::relocation::resize_slot` meets its contract. Assumes nothing.
+-- `page_places::relocation::resize_slot` meets its contract.
 use mathlib.Core.Path.{sym, ap, _∙_}
 use native.Mathlib.Omega.{arith}
 use Rattle.store.specs.Slots.{len, off, isRecord}
@@ -7,14 +7,6 @@ use Rattle.page_places.proofs.RelocationLaws.{resize-same, resize-less,
 use borrow.Author.Needs.{needs}
 use Rattle.page_places.proofs.relocation.resize_slot.Statement.{statement}
 use Rattle.page_places.proofs.relocation.resize_slot.Tie as tie
-use Rattle.page_places.proofs.relocation.resize_slot.Reads as reads
-use Rattle.page_places.proofs.relocation.resize_slot.Lts as lts
-use Rattle.layout.proofs.header.get_free_space.Reads as get-free-space-reads
-use Rattle.layout.proofs.slots.len_of.Reads as len-of-reads
-use Rattle.layout.proofs.slots.off_of.Reads as off-of-reads
-use Rattle.page_places.proofs.relocation.park.Reads as park-reads
-use Rattle.page_places.proofs.relocation.put_under.Reads as put-under-reads
-use Rattle.page_places.proofs.relocation.shrink.Reads as shrink-reads
 
 len-of-requires : tie.Need-len-of-requires
 len-of-requires c κs = search needs
@@ -28,7 +20,8 @@ returns c =
     let l = o .before in
     let b = l .before .before in
     let a = b .args in
-    let y = resize-same (view (a .page .now)) (a .k) (a .size) (l .len-of .result) (o .off-of .result) (a .page .now) (a .page .now) (l .len-of .ensures ∙ ap len (b .pre .3)) (o .off-of .ensures ∙ ap off (b .pre .3))
+    let y = resize-same (view (a .page .now)) (a .k) (a .size) (l .len-of .result) (o .off-of .result) (a .page .now) (a .page .now)
+    (l .len-of .ensures ∙ ap len (b .pre .3)) (o .off-of .ensures ∙ ap off (b .pre .3))
     (ap isRecord (sym (b .pre .3)) ∙ b .pre .4) (c .if1 .taken) in
     (y .0, y .1, omega (arith, b .pre .1 .high (a .k), ap len (b .pre .3), ap off (b .pre .3), l .len-of .ensures, o .off-of .ensures))
 
@@ -46,7 +39,8 @@ returns-2 c =
     let l = o .before in
     let b = l .before .before in
     let a = b .args in
-    let y = resize-less (view (a .page .now)) (a .k) (a .size) (l .len-of .result) (o .off-of .result) (a .page .now) (z .shrink .last .0) (l .len-of .ensures ∙ ap len (b .pre .3)) (o .off-of .ensures ∙ ap off (b .pre .3))
+    let y = resize-less (view (a .page .now)) (a .k) (a .size) (l .len-of .result) (o .off-of .result) (a .page .now) (z .shrink .last .0)
+    (l .len-of .ensures ∙ ap len (b .pre .3)) (o .off-of .ensures ∙ ap off (b .pre .3))
     (ap isRecord (sym (b .pre .3)) ∙ b .pre .4) (e .if2 .taken) (z .shrink .ensures) in
     (y .0, y .1, omega (arith, b .pre .1 .high (a .k), ap len (b .pre .3), ap off (b .pre .3), l .len-of .ensures, o .off-of .ensures))
 
@@ -64,7 +58,8 @@ returns-3 c =
     let l = o .before in
     let b = l .before .before in
     let a = b .args in
-    let y = resize-none (view (a .page .now)) (a .k) (a .size) (l .len-of .result) (o .off-of .result) (a .page .now) (a .page .now) (l .len-of .ensures ∙ ap len (b .pre .3)) (o .off-of .ensures ∙ ap off (b .pre .3))
+    let y = resize-none (view (a .page .now)) (a .k) (a .size) (l .len-of .result) (o .off-of .result) (a .page .now) (a .page .now)
+    (l .len-of .ensures ∙ ap len (b .pre .3)) (o .off-of .ensures ∙ ap off (b .pre .3))
     (ap isRecord (sym (b .pre .3)) ∙ b .pre .4) (r .get-free-space .result) (r .get-free-space .ensures .0) (omega arith) (c .if3 .taken) in
     (y .0, y .1, tt)
 
@@ -80,7 +75,8 @@ put-under-requires c κs =
     let l = c .before .before .before .before .before .before .before .before .before .before .before in
     let b = l .before .before in
     let a = b .args in
-    let x = parked-by (a .page .now) (a .k) (l .len-of .result) (a .s) (k .park .last .0) (b .pre .0) (b .pre .1) (b .pre .2) (b .pre .3) (b .pre .4) (l .len-of .ensures) (k .park .ensures) in
+    let x = parked-by (a .page .now) (a .k) (l .len-of .result) (a .s) (k .park .last .0) (b .pre .0) (b .pre .1) (b .pre .2) (b .pre .3) (b .pre .4)
+    (l .len-of .ensures) (k .park .ensures) in
     (x .whole, rw (x .seen) (x .sound), rw (x .seen) (b .pre .2), rw (x .seen) (omega (arith, ap len (b .pre .3), l .len-of .ensures)))
 
 same-length-3 : tie.Need-same-length-3
@@ -95,11 +91,15 @@ returns-4 c =
     let l = o .before in
     let b = l .before .before in
     let a = b .args in
-    let x = parked-by (a .page .now) (a .k) (l .len-of .result) (a .s) (k .park .last .0) (b .pre .0) (b .pre .1) (b .pre .2) (b .pre .3) (b .pre .4) (l .len-of .ensures) (k .park .ensures) in
-    let g = grow-done (a .page .now) (a .k) (l .len-of .result) (a .s) (k .park .last .0) (b .pre .0) (b .pre .1) (b .pre .2) (b .pre .3) (b .pre .4) (l .len-of .ensures)
+    let x = parked-by (a .page .now) (a .k) (l .len-of .result) (a .s) (k .park .last .0) (b .pre .0) (b .pre .1) (b .pre .2) (b .pre .3) (b .pre .4)
+    (l .len-of .ensures) (k .park .ensures) in
+    let g = grow-done (a .page .now) (a .k) (l .len-of .result) (a .s) (k .park .last .0) (b .pre .0) (b .pre .1) (b .pre .2) (b .pre .3) (b .pre .4)
+    (l .len-of .ensures)
     (a .size) (u .put-under .last .0) (k .park .ensures) (u .put-under .ensures .0) in
-    let y = resize-more (view (a .page .now)) (a .k) (a .size) (l .len-of .result) (o .off-of .result) (a .page .now) (u .put-under .last .0) (l .len-of .ensures ∙ ap len (b .pre .3)) (o .off-of .ensures ∙ ap off (b .pre .3))
-    (ap isRecord (sym (b .pre .3)) ∙ b .pre .4) (r .get-free-space .result) (u .put-under .result) (r .get-free-space .ensures .0) (omega arith) (omega arith) g (rw (x .seen) at (u .put-under .ensures .1)) in
+    let y = resize-more (view (a .page .now)) (a .k) (a .size) (l .len-of .result) (o .off-of .result) (a .page .now) (u .put-under .last .0)
+    (l .len-of .ensures ∙ ap len (b .pre .3)) (o .off-of .ensures ∙ ap off (b .pre .3))
+    (ap isRecord (sym (b .pre .3)) ∙ b .pre .4) (r .get-free-space .result) (u .put-under .result) (r .get-free-space .ensures .0) (omega arith)
+    (omega arith) g (rw (x .seen) at (u .put-under .ensures .1)) in
     (y .0, y .1, u .put-under .ensures .2)
 
 pub resize-slot-spec : {M : Type 1} → statement M

@@ -1,4 +1,4 @@
--- `page_places::relocation::shrink` meets its contract. Assumes nothing.
+-- `page_places::relocation::shrink` meets its contract.
 use mathlib.Core.Path.{ap}
 use native.Mathlib.Omega.{arith}
 use Rattle.store.specs.Slots.{len, off}
@@ -7,16 +7,6 @@ use Rattle.store.specs.Page.{view}
 use borrow.Author.Needs.{needs}
 use Rattle.page_places.proofs.relocation.shrink.Statement.{statement}
 use Rattle.page_places.proofs.relocation.shrink.Tie as tie
-use Rattle.page_places.proofs.relocation.shrink.Reads as reads
-use Rattle.page_places.proofs.relocation.shrink.Lts as lts
-use Rattle.layout.proofs.header.get_slot_count.Reads as get-slot-count-reads
-use Rattle.layout.proofs.header.get_first_free_slot.Reads as get-first-free-slot-reads
-use Rattle.layout.proofs.header.get_free_space.Reads as get-free-space-reads
-use Rattle.layout.proofs.header.get_data_start.Reads as get-data-start-reads
-use Rattle.page_places.proofs.relocation.commit.Reads as commit-reads
-use Rattle.page_places.proofs.relocation.placed_slot.Reads as placed-slot-reads
-use Rattle.layout.proofs.slots.len_of.Reads as len-of-reads
-use Rattle.layout.proofs.slots.off_of.Reads as off-of-reads
 
 get-slot-count-requires : tie.Need-get-slot-count-requires
 get-slot-count-requires c κs = search needs
@@ -67,9 +57,11 @@ returns c =
     let n = f .before .before in
     let b = n .before .before .before in
     let a = b .args in
-    shrink-done (view (a .page .now)) (a .k) (a .size) (n .get-slot-count .result) (f .get-first-free-slot .result) (d .get-data-start .result) (m .get-free-space .result) (l .len-of .result) (o .off-of .result)
+    shrink-done (view (a .page .now)) (a .k) (a .size) (n .get-slot-count .result) (f .get-first-free-slot .result) (d .get-data-start .result)
+    (m .get-free-space .result) (l .len-of .result) (o .off-of .result)
     (a .s) (t .placed-slot .result) (a .page .now) (z .commit .last .0)
-    (b .pre .3) (n .get-slot-count .ensures .0) (f .get-first-free-slot .ensures .0) (d .get-data-start .ensures .0) (m .get-free-space .ensures .0) (l .len-of .ensures) (o .off-of .ensures) (t .placed-slot .ensures .0) (z .commit .ensures)
+    (b .pre .3) (n .get-slot-count .ensures .0) (f .get-first-free-slot .ensures .0) (d .get-data-start .ensures .0) (m .get-free-space .ensures .0)
+    (l .len-of .ensures) (o .off-of .ensures) (t .placed-slot .ensures .0) (z .commit .ensures)
 
 pub shrink-spec : {M : Type 1} → statement M
 shrink-spec =

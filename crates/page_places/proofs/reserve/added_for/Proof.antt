@@ -1,10 +1,8 @@
--- `page_places::reserve::added_for` meets its contract. Assumes nothing.
+-- `page_places::reserve::added_for` meets its contract.
 use native.Mathlib.Omega.{arith}
 use borrow.Author.Tests.{eq-eqb, ne-eqb}
 use Rattle.page_places.proofs.reserve.added_for.Statement.{statement}
 use Rattle.page_places.proofs.reserve.added_for.Tie as tie
-use Rattle.page_places.proofs.reserve.added_for.Reads as reads
-use Rattle.page_places.proofs.reserve.added_for.Lts as lts
 
 returns : tie.Need-returns
 returns c = (simp (eq-eqb _ _ (c .if1 .taken)), omega arith, omega arith)

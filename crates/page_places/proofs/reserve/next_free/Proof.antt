@@ -1,4 +1,4 @@
--- `page_places::reserve::next_free` meets its contract. Assumes nothing.
+-- `page_places::reserve::next_free` meets its contract.
 use mathlib.Core.Path.{_≡_, refl, sym, ap, _∙_}
 use Prim.Native.Nat.{_+_, _≤_, _-_}
 use native.Mathlib.Omega.{arith}
@@ -8,10 +8,6 @@ use Rattle.store.specs.PageSteps.{nextFree}
 use Rattle.page_places.proofs.ReserveLaws.{next-here, next-past, next-end}
 use Rattle.page_places.proofs.reserve.next_free.Statement.{statement}
 use Rattle.page_places.proofs.reserve.next_free.Tie as tie
-use Rattle.page_places.proofs.reserve.next_free.Reads as reads
-use Rattle.page_places.proofs.reserve.next_free.Lts as lts
-use Rattle.layout.proofs.slots.get_slot.Reads as get-slot-reads
-use Rattle.layout.proofs.slots.is_free.Reads as is-free-reads
 
 abbrev Inv-loop : tie.InvT-loop
 Inv-loop page k c i₀ i = (i ≤ c + 1) × (nextFree (c - i) (view page .at) i ≡ nextFree (c - k) (view page .at) k)

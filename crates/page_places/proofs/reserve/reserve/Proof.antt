@@ -1,20 +1,10 @@
--- `page_places::reserve::reserve` meets its contract. Assumes nothing.
+-- `page_places::reserve::reserve` meets its contract.
 use native.Mathlib.Omega.{arith}
 use Rattle.store.specs.Page.{view}
 use Rattle.page_places.proofs.ReserveLaws.{reserve-none, reserve-done}
 use borrow.Author.Needs.{needs}
 use Rattle.page_places.proofs.reserve.reserve.Statement.{statement}
 use Rattle.page_places.proofs.reserve.reserve.Tie as tie
-use Rattle.page_places.proofs.reserve.reserve.Reads as reads
-use Rattle.page_places.proofs.reserve.reserve.Lts as lts
-use Rattle.page_compactify.proofs.room.make_room.Reads as make-room-reads
-use Rattle.layout.proofs.header.get_first_free_slot.Reads as get-first-free-slot-reads
-use Rattle.layout.proofs.header.get_free_space.Reads as get-free-space-reads
-use Rattle.layout.proofs.header.get_slot_count.Reads as get-slot-count-reads
-use Rattle.layout.proofs.header.set_header.Reads as set-header-reads
-use Rattle.layout.proofs.slots.write_slot.Reads as write-slot-reads
-use Rattle.page_places.proofs.reserve.added_for.Reads as added-for-reads
-use Rattle.page_places.proofs.reserve.next_free.Reads as next-free-reads
 
 get-slot-count-requires : tie.Need-get-slot-count-requires
 get-slot-count-requires c κs = search needs
@@ -41,8 +31,10 @@ returns c =
     let f = g .before .before in
     let n = f .before .before in
     let s = n .before .before .before .args in
-    let y = reserve-none (view (s .page .now)) (s .size) (n .get-slot-count .result) (f .get-first-free-slot .result) (g .get-free-space .result) (a .added-for .result)
-    (n .get-slot-count .ensures .0) (f .get-first-free-slot .ensures .0) (g .get-free-space .ensures .0) (a .added-for .ensures .0) (s .page .now) (c .if1 .taken) in
+    let y = reserve-none (view (s .page .now)) (s .size) (n .get-slot-count .result) (f .get-first-free-slot .result) (g .get-free-space .result)
+    (a .added-for .result)
+    (n .get-slot-count .ensures .0) (f .get-first-free-slot .ensures .0) (g .get-free-space .ensures .0) (a .added-for .ensures .0) (s .page .now)
+    (c .if1 .taken) in
     (y .0, y .1, tt, tt)
 
 add-next-free : tie.Need-add-next-free
@@ -91,7 +83,8 @@ returns-2 c =
     let n = f .before .before in
     let b = n .before .before .before in
     let s = b .args in
-    let y = reserve-done (view (s .page .now)) (s .size) (n .get-slot-count .result) (f .get-first-free-slot .result) (g .get-free-space .result) (a .added-for .result)
+    let y = reserve-done (view (s .page .now)) (s .size) (n .get-slot-count .result) (f .get-first-free-slot .result) (g .get-free-space .result)
+    (a .added-for .result)
     (n .get-slot-count .ensures .0) (f .get-first-free-slot .ensures .0) (g .get-free-space .ensures .0) (a .added-for .ensures .0) (b .pre .1)
     (r .make-room .result) (x .next-free .result) (s .page .now) (r .make-room .last .0) (h .set-header .last .0) (w .write-slot .last .0)
     (e .if1 .left) (x .next-free .ensures) (r .make-room .ensures .is) (r .make-room .ensures .begins) (h .set-header .ensures) (w .write-slot .ensures) in

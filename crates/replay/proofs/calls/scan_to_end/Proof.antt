@@ -1,4 +1,4 @@
--- `replay::calls::scan_to_end` is safe and ends: the number of turns falls. Assumes nothing.
+-- `replay::calls::scan_to_end` is safe and ends: the number of turns falls.
 use borrow.Author.Needs.{needs}
 use Rattle.replay.proofs.calls.scan_to_end.Statement.{statement}
 use Rattle.replay.proofs.calls.scan_to_end.Tie as tie

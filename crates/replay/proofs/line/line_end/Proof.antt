@@ -1,4 +1,4 @@
--- `replay::line::line_end` meets its contract: the place stays between the start and the length. Assumes nothing.
+-- `replay::line::line_end` meets its contract: the place stays between the start and the length.
 use Prim.Native.Nat.{_-_, _≤_}
 use borrow.Author.Needs.{needs}
 use lib.ListN.{length}

@@ -1,4 +1,4 @@
--- `replay::line::parse` is safe and ends. Assumes nothing.
+-- `replay::line::parse` is safe and ends.
 use Prim.Native.Nat.{_-_, _≤_}
 use borrow.Author.Needs.{needs}
 use lib.ListN.{length}

@@ -1,4 +1,4 @@
--- `replay::line::whole_lines` meets its contract: the place is at most the length. Assumes nothing.
+-- `replay::line::whole_lines` meets its contract: the place is at most the length.
 use Prim.Native.Nat.{_≤_}
 use borrow.Author.Needs.{needs}
 use lib.ListN.{length}

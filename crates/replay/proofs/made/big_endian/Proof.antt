@@ -1,4 +1,4 @@
--- `replay::made::big_endian` is safe and ends: stores keep the length. Assumes nothing.
+-- `replay::made::big_endian` is safe and ends: stores keep the length.
 use mathlib.Core.Path.{_≡_}
 use Prim.Native.Nat.{_≤_}
 use borrow.Author.Needs.{needs}

@@ -1,4 +1,4 @@
--- `replay::made::digest` is safe and ends: the digest stays below its modulus. Assumes nothing.
+-- `replay::made::digest` is safe and ends: the digest stays below its modulus.
 use Prim.Native.Nat.{_-_, _≤_, _<_}
 use borrow.Author.Needs.{needs}
 use lib.ListN.{length}

@@ -1,9 +1,7 @@
--- `segment_scan::held::page_after` meets its contract. Assumes nothing.
+-- `segment_scan::held::page_after` meets its contract.
 use borrow.Author.Needs.{needs}
 use Rattle.segment_scan.proofs.held.page_after.Statement.{statement}
 use Rattle.segment_scan.proofs.held.page_after.Tie as tie
-use Rattle.segment_scan.proofs.held.page_after.Reads as reads
-use Rattle.segment_scan.proofs.held.page_after.Lts as lts
 
 enum-known-step : tie.Need-enum-known-step
 enum-known-step c = search needs

@@ -1,9 +1,7 @@
--- `segment_scan::held::slot_after` meets its contract. Assumes nothing.
+-- `segment_scan::held::slot_after` meets its contract.
 use borrow.Author.Needs.{needs}
 use Rattle.segment_scan.proofs.held.slot_after.Statement.{statement}
 use Rattle.segment_scan.proofs.held.slot_after.Tie as tie
-use Rattle.segment_scan.proofs.held.slot_after.Reads as reads
-use Rattle.segment_scan.proofs.held.slot_after.Lts as lts
 
 enum-known-step : tie.Need-enum-known-step
 enum-known-step c = search needs

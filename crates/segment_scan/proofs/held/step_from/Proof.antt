@@ -1,4 +1,4 @@
--- `segment_scan::held::step_from` meets its contract. Assumes nothing.
+-- `segment_scan::held::step_from` meets its contract.
 use mathlib.Core.Path.{ap, _∙_}
 use denote.Ref.{now}
 use Rattle.store.specs.Scan.{Scanned}
@@ -6,11 +6,6 @@ use Rattle.segment_scan.proofs.Positions.{page-of, slot-of}
 use borrow.Author.Needs.{needs}
 use Rattle.segment_scan.proofs.held.step_from.Statement.{statement}
 use Rattle.segment_scan.proofs.held.step_from.Tie as tie
-use Rattle.segment_scan.proofs.held.step_from.Reads as reads
-use Rattle.segment_scan.proofs.held.step_from.Lts as lts
-use Rattle.segment_scan.proofs.held.page_after.Reads as page-after-reads
-use Rattle.segment_scan.proofs.held.slot_after.Reads as slot-after-reads
-use Rattle.segment_scan.proofs.scan_step.Reads as scan-step-reads
 
 scan-step-requires : tie.Need-scan-step-requires
 scan-step-requires c κs = search needs

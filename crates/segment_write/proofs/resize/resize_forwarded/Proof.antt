@@ -1,4 +1,4 @@
--- `segment_write::resize::resize_forwarded` meets its contract. Assumes nothing.
+-- `segment_write::resize::resize_forwarded` meets its contract.
 use denote.Ref.{now}
 use mathlib.Core.Path.{_≡_, sym, ap, _∙_}
 use mathlib.Core.Bool.{true, false}
@@ -14,13 +14,6 @@ use Rattle.segment_write.proofs.Stored.{target-cut, by-damaged}
 use borrow.Author.Needs.{needs}
 use Rattle.segment_write.proofs.resize.resize_forwarded.Statement.{statement}
 use Rattle.segment_write.proofs.resize.resize_forwarded.Tie as tie
-use Rattle.segment_write.proofs.resize.resize_forwarded.Reads as reads
-use Rattle.segment_write.proofs.resize.resize_forwarded.Lts as lts
-use Rattle.layout.proofs.slots.len_of.Reads as len-of-reads
-use Rattle.layout.proofs.slots.off_of.Reads as off-of-reads
-use Rattle.segment_pages.proofs.points_back.Reads as points-back-reads
-use Rattle.segment_pages.proofs.slot_on.Reads as slot-on-reads
-use Rattle.segment_write.proofs.resize.resize_target.Reads as resize-target-reads
 
 -- what the test of the target told, and where its bytes lie
 back : (c : tie.Else1) → let a = c .before .before .before .before .before .args in pointsBack (segView (now (a .segment))) (a .id) (a .t) ≡ true
@@ -29,14 +22,16 @@ back c = let e : c .before .points-back .result ≡ true = not-false _ (c .if1 .
 target : (c : tie.Else1) → let a = c .before .before .before .before .before .args in Back (now (a .segment)) (a .id) (a .t)
 target c = let a = c .before .before .before .before .before .args in back-ok (now (a .segment)) (a .id) (a .t) (back c)
 
-long : (c : tie.After-len-of) → let a = c .before .before .before .before .before .before .before .before .args in let x = segView (now (a .segment)) .page (pageNo (a .t)) .at (slotNo (a .t)) in
+long : (c : tie.After-len-of) → let a = c .before .before .before .before .before .before .before .before .args in
+    let x = segView (now (a .segment)) .page (pageNo (a .t)) .at (slotNo (a .t)) in
     (c .len-of .result ≡ len x) × (8 ≤ len x) × (off x + len x ≤ 16384) × (pageNo (a .t) * 16384 + 16384 ≤ length (now (a .segment)))
 long c =
     let a = c .before .before .before .before .before .before .before .before .args in
     let b = target (c .before .before .before) in
     (c .len-of .ensures ∙ ap len (c .before .slot-on .ensures .0), b .0 .sound .targets (slotNo (a .t)) (b .1), b .0 .sound .high (slotNo (a .t)), b .0 .fits)
 
-placed-at : (c : tie.After-off-of) → let a = c .before .before .before .before .before .before .before .before .before .args in c .off-of .result ≡ off (segView (now (a .segment)) .page (pageNo (a .t)) .at (slotNo (a .t)))
+placed-at : (c : tie.After-off-of) → let a = c .before .before .before .before .before .before .before .before .before .args in
+    c .off-of .result ≡ off (segView (now (a .segment)) .page (pageNo (a .t)) .at (slotNo (a .t)))
 placed-at c = c .off-of .ensures ∙ ap off (c .before .before .slot-on .ensures .0)
 
 points-back-requires : tie.Need-points-back-requires
@@ -83,8 +78,19 @@ resize-target-requires c κs =
     let n : ℕ = c .before .before .before .len-of .result - 8 in
     let e = ap (λ (o : ℕ). cut s (p * 16384 + o + 8) n) f
     ∙ ap (λ (m : ℕ). cut s (p * 16384 + off (segView s .page p .at (slotNo (a .t))) + 8) (m - 8)) (l .0)
-    ∙ target-cut s p (slotNo (a .t)) (target (c .before .before .before .before .before .before) .0) in
-    (z .pre .0, (z .pre .1 .0, z .pre .1 .1, z .pre .1 .2, back (c .before .before .before .before .before .before), z .pre .1 .3, omega (arith, f, l .0, l .1, l .2, l .3), omega (arith, l .0, l .2), e))
+    ∙ target-cut s p (slotNo (a .t)) (target (c .before .before .before .before .before .before) .0) in (
+      z .pre .0,
+      (
+        z .pre .1 .0,
+        z .pre .1 .1,
+        z .pre .1 .2,
+        back (c .before .before .before .before .before .before),
+        z .pre .1 .3,
+        omega (arith, f, l .0, l .1, l .2, l .3),
+        omega (arith, l .0, l .2),
+        e,
+      ),
+    )
 
 same-length-2 : tie.Need-same-length-2
 same-length-2 c = search needs

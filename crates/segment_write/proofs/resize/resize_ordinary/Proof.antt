@@ -1,4 +1,4 @@
--- `segment_write::resize::resize_ordinary` meets its contract. Assumes nothing.
+-- `segment_write::resize::resize_ordinary` meets its contract.
 use denote.Ref.{now}
 use mathlib.Core.Path.{_≡_, refl, sym, ap, subst, _∙_}
 use mathlib.Core.Bool.{false}
@@ -20,25 +20,23 @@ use Rattle.segment_write.proofs.Stored.{Moves, moves, unmoved, told-ask
 use borrow.Author.Needs.{needs}
 use Rattle.segment_write.proofs.resize.resize_ordinary.Statement.{statement}
 use Rattle.segment_write.proofs.resize.resize_ordinary.Tie as tie
-use Rattle.segment_write.proofs.resize.resize_ordinary.Reads as reads
-use Rattle.segment_write.proofs.resize.resize_ordinary.Lts as lts
-use Rattle.segment_steps.proofs.update_on.Reads as update-on-reads
-use Rattle.layout.proofs.save.Reads as save-reads
-use Rattle.segment_forward.proofs.forward.Reads as forward-reads
-use Rattle.segment_steps.proofs.resize_on.Reads as resize-on-reads
 
 -- the root's page, and what the page step left: the record there, or every byte
 root-ok : (z : tie.Start) → PageOk (now (z .args .segment)) (pageNo (z .args .id)) (slotNo (z .args .id))
 root-ok z = page-ok (now (z .args .segment)) (pageNo (z .args .id)) (slotNo (z .args .id)) (z .pre .1 .0) (z .pre .1 .1) (ap isFree (z .pre .1 .2))
 
-in-page : (z : tie.Start) → (z .args .offset + z .args .n ≤ 16384) × (pageNo (z .args .id) * 16384 + z .args .offset + z .args .n ≤ length (now (z .args .segment)))
+in-page : (z : tie.Start) → (z .args .offset + z .args .n ≤ 16384)
+    × (pageNo (z .args .id) * 16384 + z .args .offset + z .args .n ≤ length (now (z .args .segment)))
 in-page z =
     let o = root-ok z in
-    let k = slotNo (z .args .id) in
-    (omega (arith, o .sound .high k, ap off (z .pre .1 .2), ap len (z .pre .1 .2)), omega (arith, z .pre .1 .0, o .sound .high k, ap off (z .pre .1 .2), ap len (z .pre .1 .2)))
+    let k = slotNo (z .args .id) in (
+      omega (arith, o .sound .high k, ap off (z .pre .1 .2), ap len (z .pre .1 .2)),
+      omega (arith, z .pre .1 .0, o .sound .high k, ap off (z .pre .1 .2), ap len (z .pre .1 .2)),
+    )
 
 moved-here : (c : tie.Then1) → let a = c .before .before .before .before .before .before .before .args in
-    Moves (now (a .segment)) (pageNo (a .id)) (slotNo (a .id)) (a .size) (fit (a .size) (segView (now (a .segment)) .page (pageNo (a .id)) .bytes (slotNo (a .id)))) (c .before .before .before .resize-on .last .0)
+    Moves (now (a .segment)) (pageNo (a .id)) (slotNo (a .id)) (a .size)
+    (fit (a .size) (segView (now (a .segment)) .page (pageNo (a .id)) .bytes (slotNo (a .id)))) (c .before .before .before .resize-on .last .0)
 moved-here c =
     let z = c .before .before .before .before .before .before .before in
     let s = now (z .args .segment) in
@@ -49,7 +47,8 @@ moved-here c =
     moves s p k (z .pre .1 .0) (z .pre .1 .1) (ap isFree (z .pre .1 .2)) n (fit n (segView s .page p .bytes k)) (x .last .0) (x .ensures .0)
     (no-target (segView s .page p .at k) n (ap isTarget (z .pre .1 .2))) (length-fit n (segView s .page p .bytes k)) (sym (x .ensures .1) ∙ c .if1 .taken)
 
-refused-here : (c : tie.Else1) → let a = c .before .before .before .before .before .before .before .args in wasMoved (relocate (segView (now (a .segment)) .page (pageNo (a .id))) (slotNo (a .id)) (a .size)) ≡ false
+refused-here : (c : tie.Else1) → let a = c .before .before .before .before .before .before .before .args in
+    wasMoved (relocate (segView (now (a .segment)) .page (pageNo (a .id))) (slotNo (a .id)) (a .size)) ≡ false
 refused-here c = sym (c .before .before .before .resize-on .ensures .1) ∙ c .if1 .left
 
 same-here : (c : tie.Else1) → c .before .before .before .resize-on .last .0 ≡ now (c .before .before .before .before .before .before .before .args .segment)
@@ -59,7 +58,8 @@ same-here c =
     let p = pageNo (z .args .id) in
     let k = slotNo (z .args .id) in
     let x = c .before .before .before .resize-on in
-    unmoved s p k (z .pre .1 .0) (z .pre .1 .1) (ap isFree (z .pre .1 .2)) (z .args .size) (fit (z .args .size) (segView s .page p .bytes k)) (x .last .0) (x .ensures .0) (refused-here c)
+    unmoved s p k (z .pre .1 .0) (z .pre .1 .1) (ap isFree (z .pre .1 .2)) (z .args .size) (fit (z .args .size) (segView s .page p .bytes k))
+    (x .last .0) (x .ensures .0) (refused-here c)
 
 resize-on-requires : tie.Need-resize-on-requires
 resize-on-requires c κs = let z = c .before .before .before in (z .pre .1 .0, z .pre .1 .1, ap isFree (z .pre .1 .2))
@@ -70,7 +70,8 @@ update-on-requires c κs =
     let s = now (z .args .segment) in
     let m = moved-here (c .before .before) in
     told-asks s (now (z .args .inventory)) (c .before .before .before .before .before .resize-on .last .0) (now (z .args .inventory))
-    (on (pageNo (z .args .id)) (filled (m .plan) (slotNo (z .args .id)) (fit (z .args .size) (segView s .page (pageNo (z .args .id)) .bytes (slotNo (z .args .id)))))) (m .took) (z .pre .0) refl
+    (on (pageNo (z .args .id)) (filled (m .plan) (slotNo (z .args .id))
+    (fit (z .args .size) (segView s .page (pageNo (z .args .id)) .bytes (slotNo (z .args .id)))))) (m .took) (z .pre .0) refl
 
 same-length : tie.Need-same-length
 same-length c = search needs
@@ -81,7 +82,9 @@ same-length-2 c = search needs
 returns : tie.Need-returns
 returns c =
     let a = c .before .before .before .before .before .before .before .before .before .before .before .before .args in
-    by-root (now (a .segment)) (now (a .inventory)) (a .id) (a .size) (fit (a .size)) (a .offset) (a .n) (c .before .before .before .before .before .before .before .before .resize-on .last .0) _ (moved-here (c .before .before .before .before .before)) (c .before .before .update-on .ensures)
+    by-root (now (a .segment)) (now (a .inventory)) (a .id) (a .size) (fit (a .size)) (a .offset) (a .n)
+    (c .before .before .before .before .before .before .before .before .resize-on .last .0) _
+    (moved-here (c .before .before .before .before .before)) (c .before .before .update-on .ensures)
 
 mul-save : tie.Need-mul-save
 mul-save c = omega (arith, in-page (c .before .before .before .before .before .before .before .before) .1)
@@ -110,7 +113,8 @@ slice-aggregate-forward c =
 forward-requires : tie.Need-forward-requires
 forward-requires c κs =
     let z = c .before .before .before .before .before .before .before .before .before .before .before .before .before .before in
-    subst (λ (l : List ℕ). ForwardAsks l (now (z .args .inventory)) (z .args .id) (z .args .size)) (sym (same-here (c .before .before .before .before .before .before .before)))
+    subst (λ (l : List ℕ). ForwardAsks l (now (z .args .inventory)) (z .args .id) (z .args .size))
+    (sym (same-here (c .before .before .before .before .before .before .before)))
     (z .pre .0, (z .pre .1 .0, z .pre .1 .1, ap isFree (z .pre .1 .2), z .pre .1 .3))
 
 same-length-3 : tie.Need-same-length-3
@@ -130,8 +134,11 @@ returns-2 c =
     let l : take (a .n) (x .last .1 .1 .1 .0) ≡ segView s .page (pageNo (a .id)) .bytes (slotNo (a .id)) =
     saved (c .before .before .before .before .before .before .before .before .before .before .before .before .before .before .before .resize-on .last .0) (replicate 16384 0) at (a .n) (omega (arith, in-page z .1, ap length e)) (rw length-replicate (omega (arith, in-page z .0))) (x .last .1 .1 .1 .0) (x .ensures)
     ∙ ap (λ (t : List ℕ). cut t at (a .n)) e
-    ∙ subst (λ (y : Slot). cut s (pageNo (a .id) * 16384 + off y) (len y) ≡ segView s .page (pageNo (a .id)) .bytes (slotNo (a .id))) (z .pre .1 .2) (slot-cut s (pageNo (a .id)) (slotNo (a .id)) (root-ok z)) in
-    by-forward s (now (a .inventory)) (a .id) (a .size) (fit (a .size)) (a .offset) (a .n) (refused-here (c .before .before .before .before .before .before .before .before .before .before .before .before)) (fit (a .size) (take (a .n) (x .last .1 .1 .1 .0))) (ap (fit (a .size)) l)
+    ∙ subst (λ (y : Slot). cut s (pageNo (a .id) * 16384 + off y) (len y) ≡ segView s .page (pageNo (a .id)) .bytes (slotNo (a .id))) (z .pre .1 .2)
+    (slot-cut s (pageNo (a .id)) (slotNo (a .id)) (root-ok z)) in
+    by-forward s (now (a .inventory)) (a .id) (a .size) (fit (a .size)) (a .offset) (a .n)
+    (refused-here (c .before .before .before .before .before .before .before .before .before .before .before .before))
+    (fit (a .size) (take (a .n) (x .last .1 .1 .1 .0))) (ap (fit (a .size)) l)
     (c .before .before .before .before .before .before .before .before .before .before .before .before .before .before .before .resize-on .last .0) e _ (c .before .before .before .before .forward .ensures)
 
 pub resize-ordinary-spec : {M : Type 1} → statement M

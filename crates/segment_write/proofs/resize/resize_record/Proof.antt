@@ -1,4 +1,4 @@
--- `segment_write::resize::resize_record` meets its contract. Assumes nothing.
+-- `segment_write::resize::resize_record` meets its contract.
 use denote.Ref.{now}
 use mathlib.Core.Path.{_≡_, sym, _∙_}
 use mathlib.Core.Bool.{true, false, _&&_}
@@ -14,29 +14,29 @@ use Rattle.segment_write.proofs.Stored.{step-size, step-long, step-past
 use borrow.Author.Needs.{needs}
 use Rattle.segment_write.proofs.resize.resize_record.Statement.{statement}
 use Rattle.segment_write.proofs.resize.resize_record.Tie as tie
-use Rattle.segment_write.proofs.resize.resize_record.Reads as reads
-use Rattle.segment_write.proofs.resize.resize_record.Lts as lts
-use Rattle.segment_pages.proofs.page_sound.Reads as page-sound-reads
-use Rattle.segment_pages.proofs.sizes_ok.Reads as sizes-ok-reads
-use Rattle.segment_pages.proofs.slot_on.Reads as slot-on-reads
-use Rattle.segment_write.proofs.resize.resize_forwarded.Reads as resize-forwarded-reads
-use Rattle.segment_write.proofs.resize.resize_ordinary.Reads as resize-ordinary-reads
 
 -- what the tests told, and the answer by the slot
-sizes-here : (c : tie.Else1) → let a = c .before .before .before .before .before .before .args in (sizeOk (now (a .segment)) && invOk (now (a .inventory))) ≡ true
+sizes-here : (c : tie.Else1) → let a = c .before .before .before .before .before .before .args in
+    (sizeOk (now (a .segment)) && invOk (now (a .inventory))) ≡ true
 sizes-here c = let e : c .before .sizes-ok .result ≡ true = not-false _ (c .if1 .left) in sym (c .before .sizes-ok .ensures) ∙ e
 
 short : (c : tie.Else2) → let a = c .before .before .before .before .before .before .before .args in a .size ≤ 16364
 short c = omega (arith, c .if2 .left)
 
-sound-here : (c : tie.Else4) → let a = c .before .before .before .before .before .before .before .before .before .before .before .args in sound (segView (now (a .segment)) .page (pageNo (a .id))) ≡ true
+sound-here : (c : tie.Else4) → let a = c .before .before .before .before .before .before .before .before .before .before .before .args in
+    sound (segView (now (a .segment)) .page (pageNo (a .id))) ≡ true
 sound-here c = let e : c .before .page-sound .result ≡ true = not-false _ (c .if4 .left) in sym (c .before .page-sound .ensures .0) ∙ e
 
 by-slot : (c : tie.After-slot-on) (x : Slot) → c .slot-on .result ≡ x
-    → let a = c .before .before .before .before .before .before .before .before .before .before .before .before .before .args in result (now (a .segment)) (storeBy (segView (now (a .segment))) (now (a .inventory)) (a .id) (a .size) (fit (a .size)) x) ≡ resizeStep (now (a .segment)) (now (a .inventory)) (a .id) (a .size)
+    → let a = c .before .before .before .before .before .before .before .before .before .before .before .before .before .args in
+    result (now (a .segment)) (storeBy (segView (now (a .segment))) (now (a .inventory)) (a .id) (a .size) (fit (a .size)) x)
+    ≡ resizeStep (now (a .segment)) (now (a .inventory)) (a .id) (a .size)
 by-slot c x e =
     let a = c .before .before .before .before .before .before .before .before .before .before .before .before .before .args in
-    step-by (now (a .segment)) (now (a .inventory)) (a .id) (a .size) (fit (a .size)) (sizes-here (c .before .before .before .before .before .before .before)) (short (c .before .before .before .before .before .before)) (c .before .before .before .before .before .if3 .left) (sound-here (c .before .before)) x (sym (c .slot-on .ensures .0) ∙ e) ∙ resize-is (now (a .segment)) (now (a .inventory)) (a .id) (a .size)
+    step-by (now (a .segment)) (now (a .inventory)) (a .id) (a .size) (fit (a .size))
+    (sizes-here (c .before .before .before .before .before .before .before)) (short (c .before .before .before .before .before .before))
+    (c .before .before .before .before .before .if3 .left) (sound-here (c .before .before)) x (sym (c .slot-on .ensures .0) ∙ e)
+    ∙ resize-is (now (a .segment)) (now (a .inventory)) (a .id) (a .size)
 
 sizes-ok-requires : tie.Need-sizes-ok-requires
 sizes-ok-requires c κs = search needs
@@ -51,7 +51,8 @@ returns : tie.Need-returns
 returns c =
     let a = c .before .before .before .before .before .before .args in
     let e : c .before .sizes-ok .result ≡ false = not-true _ (c .if1 .taken) in
-    step-size (now (a .segment)) (now (a .inventory)) (a .id) (a .size) (fit (a .size)) (sym (c .before .sizes-ok .ensures) ∙ e) ∙ resize-is (now (a .segment)) (now (a .inventory)) (a .id) (a .size)
+    step-size (now (a .segment)) (now (a .inventory)) (a .id) (a .size) (fit (a .size)) (sym (c .before .sizes-ok .ensures) ∙ e)
+    ∙ resize-is (now (a .segment)) (now (a .inventory)) (a .id) (a .size)
 
 same-length-3 : tie.Need-same-length-3
 same-length-3 c = search needs
@@ -62,7 +63,8 @@ same-length-4 c = search needs
 returns-2 : tie.Need-returns-2
 returns-2 c =
     let a = c .before .before .before .before .before .before .before .args in
-    step-long (now (a .segment)) (now (a .inventory)) (a .id) (a .size) (fit (a .size)) (sizes-here (c .before)) (omega (arith, c .if2 .taken)) ∙ resize-is (now (a .segment)) (now (a .inventory)) (a .id) (a .size)
+    step-long (now (a .segment)) (now (a .inventory)) (a .id) (a .size) (fit (a .size)) (sizes-here (c .before)) (omega (arith, c .if2 .taken))
+    ∙ resize-is (now (a .segment)) (now (a .inventory)) (a .id) (a .size)
 
 same-length-5 : tie.Need-same-length-5
 same-length-5 c = search needs
@@ -73,7 +75,8 @@ same-length-6 c = search needs
 returns-3 : tie.Need-returns-3
 returns-3 c =
     let a = c .before .before .before .before .before .before .before .before .args in
-    step-past (now (a .segment)) (now (a .inventory)) (a .id) (a .size) (fit (a .size)) (sizes-here (c .before .before)) (short (c .before)) (c .if3 .taken) ∙ resize-is (now (a .segment)) (now (a .inventory)) (a .id) (a .size)
+    step-past (now (a .segment)) (now (a .inventory)) (a .id) (a .size) (fit (a .size)) (sizes-here (c .before .before)) (short (c .before))
+    (c .if3 .taken) ∙ resize-is (now (a .segment)) (now (a .inventory)) (a .id) (a .size)
 
 page-sound-requires : tie.Need-page-sound-requires
 page-sound-requires c κs = search needs
@@ -88,7 +91,9 @@ returns-4 : tie.Need-returns-4
 returns-4 c =
     let a = c .before .before .before .before .before .before .before .before .before .before .before .args in
     let e : c .before .page-sound .result ≡ false = not-true _ (c .if4 .taken) in
-    step-damaged (now (a .segment)) (now (a .inventory)) (a .id) (a .size) (fit (a .size)) (sizes-here (c .before .before .before .before .before)) (short (c .before .before .before .before)) (c .before .before .before .if3 .left) (sym (c .before .page-sound .ensures .0) ∙ e) ∙ resize-is (now (a .segment)) (now (a .inventory)) (a .id) (a .size)
+    step-damaged (now (a .segment)) (now (a .inventory)) (a .id) (a .size) (fit (a .size)) (sizes-here (c .before .before .before .before .before))
+    (short (c .before .before .before .before)) (c .before .before .before .if3 .left) (sym (c .before .page-sound .ensures .0) ∙ e)
+    ∙ resize-is (now (a .segment)) (now (a .inventory)) (a .id) (a .size)
 
 slot-on-requires : tie.Need-slot-on-requires
 slot-on-requires c κs = search needs
@@ -99,8 +104,16 @@ enum-known-s c = search needs
 resize-ordinary-requires : tie.Need-resize-ordinary-requires
 resize-ordinary-requires c κs =
     let a = c .before .before .before .before .before .before .before .before .before .before .before .before .before .before .before .before .before .before .args in
-    let e = sym (c .before .before .before .before .before .slot-on .ensures .0) ∙ c .before .before .before .s .given .1 in
-    (sizes (now (a .segment)) (now (a .inventory)) (sizes-here (c .before .before .before .before .before .before .before .before .before .before .before .before)), (omega (arith, c .before .before .before .before .before .before .before .before .before .before .if3 .left), sound-here (c .before .before .before .before .before .before .before), e, short (c .before .before .before .before .before .before .before .before .before .before .before)))
+    let e = sym (c .before .before .before .before .before .slot-on .ensures .0) ∙ c .before .before .before .s .given .1 in (
+      sizes (now (a .segment)) (now (a .inventory))
+          (sizes-here (c .before .before .before .before .before .before .before .before .before .before .before .before)),
+      (
+        omega (arith, c .before .before .before .before .before .before .before .before .before .before .if3 .left),
+        sound-here (c .before .before .before .before .before .before .before),
+        e,
+        short (c .before .before .before .before .before .before .before .before .before .before .before),
+      ),
+    )
 
 enum-told : tie.Need-enum-told
 enum-told c = search needs
@@ -111,8 +124,16 @@ enum-known-s-2 c = search needs
 resize-forwarded-requires : tie.Need-resize-forwarded-requires
 resize-forwarded-requires c κs =
     let a = c .before .before .before .before .before .before .before .before .before .before .before .before .before .before .before .before .before .before .args in
-    let e = sym (c .before .before .before .before .before .slot-on .ensures .0) ∙ c .before .before .before .s2 .given .1 in
-    (sizes (now (a .segment)) (now (a .inventory)) (sizes-here (c .before .before .before .before .before .before .before .before .before .before .before .before)), (omega (arith, c .before .before .before .before .before .before .before .before .before .before .if3 .left), sound-here (c .before .before .before .before .before .before .before), e, short (c .before .before .before .before .before .before .before .before .before .before .before)))
+    let e = sym (c .before .before .before .before .before .slot-on .ensures .0) ∙ c .before .before .before .s2 .given .1 in (
+      sizes (now (a .segment)) (now (a .inventory))
+          (sizes-here (c .before .before .before .before .before .before .before .before .before .before .before .before)),
+      (
+        omega (arith, c .before .before .before .before .before .before .before .before .before .before .if3 .left),
+        sound-here (c .before .before .before .before .before .before .before),
+        e,
+        short (c .before .before .before .before .before .before .before .before .before .before .before),
+      ),
+    )
 
 enum-told-2 : tie.Need-enum-told-2
 enum-told-2 c = search needs
@@ -124,7 +145,9 @@ same-length-10 : tie.Need-same-length-10
 same-length-10 c = search needs
 
 returns-5 : tie.Need-returns-5
-returns-5 c = c .before .before .before .before .resize-ordinary .ensures ∙ by-slot (c .before .before .before .before .before .before .before .before .before .before) _ (c .before .before .before .before .before .before .before .before .s .given .1)
+returns-5 c = c .before .before .before .before .resize-ordinary .ensures
+    ∙ by-slot (c .before .before .before .before .before .before .before .before .before .before) _
+    (c .before .before .before .before .before .before .before .before .s .given .1)
 
 same-length-11 : tie.Need-same-length-11
 same-length-11 c = search needs
@@ -144,7 +167,9 @@ same-length-14 : tie.Need-same-length-14
 same-length-14 c = search needs
 
 returns-7 : tie.Need-returns-7
-returns-7 c = c .before .before .before .before .resize-forwarded .ensures ∙ by-slot (c .before .before .before .before .before .before .before .before .before .before) _ (c .before .before .before .before .before .before .before .before .s2 .given .1)
+returns-7 c = c .before .before .before .before .resize-forwarded .ensures
+    ∙ by-slot (c .before .before .before .before .before .before .before .before .before .before) _
+    (c .before .before .before .before .before .before .before .before .s2 .given .1)
 
 same-length-15 : tie.Need-same-length-15
 same-length-15 c = search needs

@@ -1,4 +1,4 @@
--- `segment_write::resize::resize_target` meets its contract. Assumes nothing.
+-- `segment_write::resize::resize_target` meets its contract.
 use mathlib.Core.Path.{_∙_}
 use native.Mathlib.Omega.{arith}
 use lib.ListN.{replicate, length-take, length-replicate}
@@ -7,10 +7,6 @@ use Rattle.segment_write.proofs.Stored.{saved}
 use borrow.Author.Needs.{needs}
 use Rattle.segment_write.proofs.resize.resize_target.Statement.{statement}
 use Rattle.segment_write.proofs.resize.resize_target.Tie as tie
-use Rattle.segment_write.proofs.resize.resize_target.Reads as reads
-use Rattle.segment_write.proofs.resize.resize_target.Lts as lts
-use Rattle.segment_write.proofs.resize.resize_saved.Reads as resize-saved-reads
-use Rattle.layout.proofs.save.Reads as save-reads
 
 slice-aggregate-save : tie.Need-slice-aggregate-save
 slice-aggregate-save c = search needs
@@ -23,7 +19,12 @@ array-share-prefix-old c = search needs
 
 slice-aggregate-resize-saved : tie.Need-slice-aggregate-resize-saved
 slice-aggregate-resize-saved c =
-    rw (length-take, c .before .before .before .before .save .ensures, length-put, length-replicate) (omega (arith, c .before .before .before .before .before .before .before .before .before .pre .1 .6))
+    rw (
+      length-take,
+      c .before .before .before .before .save .ensures,
+      length-put,
+      length-replicate,
+    ) (omega (arith, c .before .before .before .before .before .before .before .before .before .pre .1 .6))
 
 resize-saved-requires : tie.Need-resize-saved-requires
 resize-saved-requires c κs =

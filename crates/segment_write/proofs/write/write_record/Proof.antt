@@ -1,4 +1,4 @@
--- `segment_write::write::write_record` meets its contract. Assumes nothing.
+-- `segment_write::write::write_record` meets its contract.
 use denote.Ref.{now}
 use mathlib.Core.Path.{_≡_, sym, ap, _∙_}
 use mathlib.Core.Bool.{true, false, _&&_}
@@ -16,29 +16,29 @@ use Rattle.segment_write.proofs.Stored.{step-size, step-long, step-past
 use borrow.Author.Needs.{needs}
 use Rattle.segment_write.proofs.write.write_record.Statement.{statement}
 use Rattle.segment_write.proofs.write.write_record.Tie as tie
-use Rattle.segment_write.proofs.write.write_record.Reads as reads
-use Rattle.segment_write.proofs.write.write_record.Lts as lts
-use Rattle.segment_pages.proofs.page_sound.Reads as page-sound-reads
-use Rattle.segment_pages.proofs.sizes_ok.Reads as sizes-ok-reads
-use Rattle.segment_pages.proofs.slot_on.Reads as slot-on-reads
-use Rattle.segment_write.proofs.write.write_forwarded.Reads as write-forwarded-reads
-use Rattle.segment_write.proofs.write.write_ordinary.Reads as write-ordinary-reads
 
 -- what the tests told, and the answer by the slot
-sizes-here : (c : tie.Else1) → let a = c .before .before .before .before .before .before .before .args in (sizeOk (now (a .segment)) && invOk (now (a .inventory))) ≡ true
+sizes-here : (c : tie.Else1) → let a = c .before .before .before .before .before .before .before .args in
+    (sizeOk (now (a .segment)) && invOk (now (a .inventory))) ≡ true
 sizes-here c = let e : c .before .sizes-ok .result ≡ true = not-false _ (c .if1 .left) in sym (c .before .sizes-ok .ensures) ∙ e
 
 short : (c : tie.Else2) → let a = c .before .before .before .before .before .before .before .before .args in length (now (a .bytes)) ≤ 16364
 short c = omega (arith, c .if2 .left)
 
-sound-here : (c : tie.Else4) → let a = c .before .before .before .before .before .before .before .before .before .before .before .before .args in sound (segView (now (a .segment)) .page (pageNo (a .id))) ≡ true
+sound-here : (c : tie.Else4) → let a = c .before .before .before .before .before .before .before .before .before .before .before .before .args in
+    sound (segView (now (a .segment)) .page (pageNo (a .id))) ≡ true
 sound-here c = let e : c .before .page-sound .result ≡ true = not-false _ (c .if4 .left) in sym (c .before .page-sound .ensures .0) ∙ e
 
 by-slot : (c : tie.After-slot-on) (x : Slot) → c .slot-on .result ≡ x
-    → let a = c .before .before .before .before .before .before .before .before .before .before .before .before .before .before .args in result (now (a .segment)) (storeBy (segView (now (a .segment))) (now (a .inventory)) (a .id) (length (now (a .bytes))) (λ old. now (a .bytes)) x) ≡ writeStep (now (a .segment)) (now (a .inventory)) (a .id) (now (a .bytes))
+    → let a = c .before .before .before .before .before .before .before .before .before .before .before .before .before .before .args in
+    result (now (a .segment)) (storeBy (segView (now (a .segment))) (now (a .inventory)) (a .id) (length (now (a .bytes)))
+    (λ old. now (a .bytes)) x) ≡ writeStep (now (a .segment)) (now (a .inventory)) (a .id) (now (a .bytes))
 by-slot c x e =
     let a = c .before .before .before .before .before .before .before .before .before .before .before .before .before .before .args in
-    step-by (now (a .segment)) (now (a .inventory)) (a .id) (length (now (a .bytes))) (λ old. now (a .bytes)) (sizes-here (c .before .before .before .before .before .before .before)) (short (c .before .before .before .before .before .before)) (c .before .before .before .before .before .if3 .left) (sound-here (c .before .before)) x (sym (c .slot-on .ensures .0) ∙ e) ∙ write-is (now (a .segment)) (now (a .inventory)) (a .id) (now (a .bytes))
+    step-by (now (a .segment)) (now (a .inventory)) (a .id) (length (now (a .bytes))) (λ old. now (a .bytes))
+    (sizes-here (c .before .before .before .before .before .before .before)) (short (c .before .before .before .before .before .before))
+    (c .before .before .before .before .before .if3 .left) (sound-here (c .before .before)) x (sym (c .slot-on .ensures .0) ∙ e)
+    ∙ write-is (now (a .segment)) (now (a .inventory)) (a .id) (now (a .bytes))
 
 sizes-ok-requires : tie.Need-sizes-ok-requires
 sizes-ok-requires c κs = search needs
@@ -53,7 +53,8 @@ returns : tie.Need-returns
 returns c =
     let a = c .before .before .before .before .before .before .before .args in
     let e : c .before .sizes-ok .result ≡ false = not-true _ (c .if1 .taken) in
-    step-size (now (a .segment)) (now (a .inventory)) (a .id) (length (now (a .bytes))) (λ old. now (a .bytes)) (sym (c .before .sizes-ok .ensures) ∙ e) ∙ write-is (now (a .segment)) (now (a .inventory)) (a .id) (now (a .bytes))
+    step-size (now (a .segment)) (now (a .inventory)) (a .id) (length (now (a .bytes))) (λ old. now (a .bytes))
+    (sym (c .before .sizes-ok .ensures) ∙ e) ∙ write-is (now (a .segment)) (now (a .inventory)) (a .id) (now (a .bytes))
 
 same-length-3 : tie.Need-same-length-3
 same-length-3 c = search needs
@@ -64,7 +65,8 @@ same-length-4 c = search needs
 returns-2 : tie.Need-returns-2
 returns-2 c =
     let a = c .before .before .before .before .before .before .before .before .args in
-    step-long (now (a .segment)) (now (a .inventory)) (a .id) (length (now (a .bytes))) (λ old. now (a .bytes)) (sizes-here (c .before)) (omega (arith, c .if2 .taken)) ∙ write-is (now (a .segment)) (now (a .inventory)) (a .id) (now (a .bytes))
+    step-long (now (a .segment)) (now (a .inventory)) (a .id) (length (now (a .bytes))) (λ old. now (a .bytes)) (sizes-here (c .before))
+    (omega (arith, c .if2 .taken)) ∙ write-is (now (a .segment)) (now (a .inventory)) (a .id) (now (a .bytes))
 
 same-length-5 : tie.Need-same-length-5
 same-length-5 c = search needs
@@ -75,7 +77,8 @@ same-length-6 c = search needs
 returns-3 : tie.Need-returns-3
 returns-3 c =
     let a = c .before .before .before .before .before .before .before .before .before .args in
-    step-past (now (a .segment)) (now (a .inventory)) (a .id) (length (now (a .bytes))) (λ old. now (a .bytes)) (sizes-here (c .before .before)) (short (c .before)) (c .if3 .taken) ∙ write-is (now (a .segment)) (now (a .inventory)) (a .id) (now (a .bytes))
+    step-past (now (a .segment)) (now (a .inventory)) (a .id) (length (now (a .bytes))) (λ old. now (a .bytes)) (sizes-here (c .before .before))
+    (short (c .before)) (c .if3 .taken) ∙ write-is (now (a .segment)) (now (a .inventory)) (a .id) (now (a .bytes))
 
 page-sound-requires : tie.Need-page-sound-requires
 page-sound-requires c κs = search needs
@@ -90,7 +93,9 @@ returns-4 : tie.Need-returns-4
 returns-4 c =
     let a = c .before .before .before .before .before .before .before .before .before .before .before .before .args in
     let e : c .before .page-sound .result ≡ false = not-true _ (c .if4 .taken) in
-    step-damaged (now (a .segment)) (now (a .inventory)) (a .id) (length (now (a .bytes))) (λ old. now (a .bytes)) (sizes-here (c .before .before .before .before .before)) (short (c .before .before .before .before)) (c .before .before .before .if3 .left) (sym (c .before .page-sound .ensures .0) ∙ e) ∙ write-is (now (a .segment)) (now (a .inventory)) (a .id) (now (a .bytes))
+    step-damaged (now (a .segment)) (now (a .inventory)) (a .id) (length (now (a .bytes))) (λ old. now (a .bytes))
+    (sizes-here (c .before .before .before .before .before)) (short (c .before .before .before .before)) (c .before .before .before .if3 .left)
+    (sym (c .before .page-sound .ensures .0) ∙ e) ∙ write-is (now (a .segment)) (now (a .inventory)) (a .id) (now (a .bytes))
 
 slot-on-requires : tie.Need-slot-on-requires
 slot-on-requires c κs = search needs
@@ -101,8 +106,17 @@ enum-told c = search needs
 write-ordinary-requires : tie.Need-write-ordinary-requires
 write-ordinary-requires c κs =
     let a = c .before .before .before .before .before .before .before .before .before .before .before .before .before .before .before .before .before .before .args in
-    let e = sym (c .before .before .before .before .slot-on .ensures .0) ∙ c .before .before .enum-told .given .1 in
-    (sizes (now (a .segment)) (now (a .inventory)) (sizes-here (c .before .before .before .before .before .before .before .before .before .before .before)), (omega (arith, c .before .before .before .before .before .before .before .before .before .if3 .left), sound-here (c .before .before .before .before .before .before), ap isFree e, ap isTarget e, short (c .before .before .before .before .before .before .before .before .before .before)))
+    let e = sym (c .before .before .before .before .slot-on .ensures .0) ∙ c .before .before .enum-told .given .1 in (
+      sizes (now (a .segment)) (now (a .inventory))
+          (sizes-here (c .before .before .before .before .before .before .before .before .before .before .before)),
+      (
+        omega (arith, c .before .before .before .before .before .before .before .before .before .if3 .left),
+        sound-here (c .before .before .before .before .before .before),
+        ap isFree e,
+        ap isTarget e,
+        short (c .before .before .before .before .before .before .before .before .before .before),
+      ),
+    )
 
 enum-told-2 : tie.Need-enum-told-2
 enum-told-2 c = search needs
@@ -113,8 +127,16 @@ enum-known-s c = search needs
 write-forwarded-requires : tie.Need-write-forwarded-requires
 write-forwarded-requires c κs =
     let a = c .before .before .before .before .before .before .before .before .before .before .before .before .before .before .before .before .before .before .before .args in
-    let e = sym (c .before .before .before .before .before .slot-on .ensures .0) ∙ c .before .before .before .s .given .1 in
-    (sizes (now (a .segment)) (now (a .inventory)) (sizes-here (c .before .before .before .before .before .before .before .before .before .before .before .before)), (omega (arith, c .before .before .before .before .before .before .before .before .before .before .if3 .left), sound-here (c .before .before .before .before .before .before .before), e, short (c .before .before .before .before .before .before .before .before .before .before .before)))
+    let e = sym (c .before .before .before .before .before .slot-on .ensures .0) ∙ c .before .before .before .s .given .1 in (
+      sizes (now (a .segment)) (now (a .inventory))
+          (sizes-here (c .before .before .before .before .before .before .before .before .before .before .before .before)),
+      (
+        omega (arith, c .before .before .before .before .before .before .before .before .before .before .if3 .left),
+        sound-here (c .before .before .before .before .before .before .before),
+        e,
+        short (c .before .before .before .before .before .before .before .before .before .before .before),
+      ),
+    )
 
 enum-told-3 : tie.Need-enum-told-3
 enum-told-3 c = search needs
@@ -126,7 +148,9 @@ same-length-10 : tie.Need-same-length-10
 same-length-10 c = search needs
 
 returns-5 : tie.Need-returns-5
-returns-5 c = c .before .before .before .before .write-ordinary .ensures ∙ by-slot (c .before .before .before .before .before .before .before .before .before) _ (c .before .before .before .before .before .before .before .enum-told .given .1)
+returns-5 c = c .before .before .before .before .write-ordinary .ensures
+    ∙ by-slot (c .before .before .before .before .before .before .before .before .before) _
+    (c .before .before .before .before .before .before .before .enum-told .given .1)
 
 same-length-11 : tie.Need-same-length-11
 same-length-11 c = search needs
@@ -137,7 +161,8 @@ same-length-12 c = search needs
 returns-6 : tie.Need-returns-6
 returns-6 c =
     let a = c .before .before .before .before .before .before .before .before .before .before .before .before .before .before .before .before .args in
-    by-free (now (a .segment)) (now (a .inventory)) (a .id) (length (now (a .bytes))) (λ old. now (a .bytes)) ∙ by-slot (c .before .before) _ (c .enum-told2 .given .1)
+    by-free (now (a .segment)) (now (a .inventory)) (a .id) (length (now (a .bytes))) (λ old. now (a .bytes))
+    ∙ by-slot (c .before .before) _ (c .enum-told2 .given .1)
 
 same-length-13 : tie.Need-same-length-13
 same-length-13 c = search needs
@@ -146,7 +171,9 @@ same-length-14 : tie.Need-same-length-14
 same-length-14 c = search needs
 
 returns-7 : tie.Need-returns-7
-returns-7 c = c .before .before .before .before .write-forwarded .ensures ∙ by-slot (c .before .before .before .before .before .before .before .before .before .before) _ (c .before .before .before .before .before .before .before .before .s .given .1)
+returns-7 c = c .before .before .before .before .write-forwarded .ensures
+    ∙ by-slot (c .before .before .before .before .before .before .before .before .before .before) _
+    (c .before .before .before .before .before .before .before .before .s .given .1)
 
 same-length-15 : tie.Need-same-length-15
 same-length-15 c = search needs
@@ -157,7 +184,8 @@ same-length-16 c = search needs
 returns-8 : tie.Need-returns-8
 returns-8 c =
     let a = c .before .before .before .before .before .before .before .before .before .before .before .before .before .before .before .before .args in
-    by-target (now (a .segment)) (now (a .inventory)) (a .id) (length (now (a .bytes))) (λ old. now (a .bytes)) 0 0 ∙ by-slot (c .before .before) _ (c .enum-told3 .given .1)
+    by-target (now (a .segment)) (now (a .inventory)) (a .id) (length (now (a .bytes))) (λ old. now (a .bytes)) 0 0
+    ∙ by-slot (c .before .before) _ (c .enum-told3 .given .1)
 
 pub write-record-spec : {M : Type 1} → statement M
 write-record-spec =

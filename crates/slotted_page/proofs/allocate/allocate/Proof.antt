@@ -1,14 +1,9 @@
--- `slotted_page::allocate::allocate` meets its contract. Assumes nothing.
+-- `slotted_page::allocate::allocate` meets its contract.
 use native.Mathlib.Omega.{arith}
 use Rattle.slotted_page.proofs.OpenLaws.{init-sound, fresh-done, used-sound, used-done}
 use borrow.Author.Needs.{needs}
 use Rattle.slotted_page.proofs.allocate.allocate.Statement.{statement}
 use Rattle.slotted_page.proofs.allocate.allocate.Tie as tie
-use Rattle.slotted_page.proofs.allocate.allocate.Reads as reads
-use Rattle.slotted_page.proofs.allocate.allocate.Lts as lts
-use Rattle.layout.proofs.header.get_slot_count.Reads as get-slot-count-reads
-use Rattle.page_places.proofs.reserve.reserve.Reads as reserve-reads
-use Rattle.slotted_page.proofs.allocate.initialize.Reads as initialize-reads
 
 get-slot-count-requires : tie.Need-get-slot-count-requires
 get-slot-count-requires c κs = search needs
@@ -34,7 +29,8 @@ returns c =
     let n = e .before in
     let b = n .before .before .before in
     let a = b .args in
-    let y = fresh-done (a .page .now) (a .size) (n .get-slot-count .result) (n .get-slot-count .ensures .0) (i .initialize .last .0) (z .reserve .last .0) (z .reserve .result) (b .pre .0) (b .pre .2) (e .if1 .taken)
+    let y = fresh-done (a .page .now) (a .size) (n .get-slot-count .result) (n .get-slot-count .ensures .0) (i .initialize .last .0)
+    (z .reserve .last .0) (z .reserve .result) (b .pre .0) (b .pre .2) (e .if1 .taken)
     (i .initialize .ensures) (z .reserve .ensures .0, z .reserve .ensures .1) in
     (y .0, y .1, z .reserve .ensures .2, z .reserve .ensures .3)
 
@@ -42,8 +38,12 @@ reserve-requires-2 : tie.Need-reserve-requires-2
 reserve-requires-2 c κs =
     let n = c .before .before in
     let b = n .before .before .before in
-    let a = b .args in
-    (b .pre .0, used-sound (a .page .now) (a .size) (n .get-slot-count .result) (n .get-slot-count .ensures .0) (b .pre .0) (b .pre .1) (c .before .if1 .left), omega arith)
+    let a = b .args in (
+      b .pre .0,
+      used-sound (a .page .now) (a .size) (n .get-slot-count .result) (n .get-slot-count .ensures .0) (b .pre .0) (b .pre .1)
+          (c .before .if1 .left),
+      omega arith,
+    )
 
 same-length-2 : tie.Need-same-length-2
 same-length-2 c = search needs
@@ -55,7 +55,8 @@ returns-2 c =
     let n = e .before in
     let b = n .before .before .before in
     let a = b .args in
-    let y = used-done (a .page .now) (a .size) (n .get-slot-count .result) (n .get-slot-count .ensures .0) (z .reserve2 .last .0) (z .reserve2 .result) (e .if1 .left) (z .reserve2 .ensures .0, z .reserve2 .ensures .1) in
+    let y = used-done (a .page .now) (a .size) (n .get-slot-count .result) (n .get-slot-count .ensures .0) (z .reserve2 .last .0)
+    (z .reserve2 .result) (e .if1 .left) (z .reserve2 .ensures .0, z .reserve2 .ensures .1) in
     (y .0, y .1, z .reserve2 .ensures .2, z .reserve2 .ensures .3)
 
 pub allocate-spec : {M : Type 1} → statement M

@@ -1,12 +1,9 @@
--- `slotted_page::allocate::initialize` meets its contract. Assumes nothing.
+-- `slotted_page::allocate::initialize` meets its contract.
 use mathlib.Core.Path.{_∙_}
 use Rattle.slotted_page.proofs.OpenLaws.{head-init}
 use borrow.Author.Needs.{needs}
 use Rattle.slotted_page.proofs.allocate.initialize.Statement.{statement}
 use Rattle.slotted_page.proofs.allocate.initialize.Tie as tie
-use Rattle.slotted_page.proofs.allocate.initialize.Reads as reads
-use Rattle.slotted_page.proofs.allocate.initialize.Lts as lts
-use Rattle.layout.proofs.header.set_header.Reads as set-header-reads
 
 set-header-requires : tie.Need-set-header-requires
 set-header-requires c κs = search needs

@@ -1,4 +1,4 @@
--- `slotted_page::erase::free_below` meets its contract. Assumes nothing.
+-- `slotted_page::erase::free_below` meets its contract.
 use mathlib.Core.Path.{_≡_, sym, ap, _∙_}
 use Prim.Native.Nat.{_+_, _≤_, _-_}
 use native.Mathlib.Omega.{arith}
@@ -8,10 +8,6 @@ use Rattle.store.specs.PageSteps.{freeBelow}
 use Rattle.slotted_page.proofs.EraseLaws.{below-more, below-ends}
 use Rattle.slotted_page.proofs.erase.free_below.Statement.{statement}
 use Rattle.slotted_page.proofs.erase.free_below.Tie as tie
-use Rattle.slotted_page.proofs.erase.free_below.Reads as reads
-use Rattle.slotted_page.proofs.erase.free_below.Lts as lts
-use Rattle.layout.proofs.slots.get_slot.Reads as get-slot-reads
-use Rattle.layout.proofs.slots.is_free.Reads as is-free-reads
 
 abbrev Inv-loop : tie.InvT-loop
 Inv-loop page k j₀ j = (j ≤ k) × (k - j + freeBelow (view page .at) j ≡ freeBelow (view page .at) k)

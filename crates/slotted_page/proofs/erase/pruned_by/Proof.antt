@@ -1,12 +1,9 @@
--- `slotted_page::erase::pruned_by` meets its contract. Assumes nothing.
+-- `slotted_page::erase::pruned_by` meets its contract.
 use native.Mathlib.Omega.{arith}
 use borrow.Author.Tests.{eq-eqb, ne-eqb}
 use borrow.Author.Needs.{needs}
 use Rattle.slotted_page.proofs.erase.pruned_by.Statement.{statement}
 use Rattle.slotted_page.proofs.erase.pruned_by.Tie as tie
-use Rattle.slotted_page.proofs.erase.pruned_by.Reads as reads
-use Rattle.slotted_page.proofs.erase.pruned_by.Lts as lts
-use Rattle.slotted_page.proofs.erase.free_below.Reads as free-below-reads
 
 add-if1 : tie.Need-add-if1
 add-if1 c = search needs

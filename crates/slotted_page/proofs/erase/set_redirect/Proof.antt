@@ -1,4 +1,4 @@
--- `slotted_page::erase::set_redirect` meets its contract. Assumes nothing.
+-- `slotted_page::erase::set_redirect` meets its contract.
 use mathlib.Core.Path.{sym, _∙_}
 use mathlib.Core.List.{[]}
 use Rattle.store.specs.Page.{view}
@@ -8,9 +8,6 @@ use Rattle.slotted_page.proofs.FillLaws.{move-writes}
 use borrow.Author.Needs.{needs}
 use Rattle.slotted_page.proofs.erase.set_redirect.Statement.{statement}
 use Rattle.slotted_page.proofs.erase.set_redirect.Tie as tie
-use Rattle.slotted_page.proofs.erase.set_redirect.Reads as reads
-use Rattle.slotted_page.proofs.erase.set_redirect.Lts as lts
-use Rattle.layout.proofs.slots.write_slot.Reads as write-slot-reads
 
 write-slot-requires : tie.Need-write-slot-requires
 write-slot-requires c κs = search needs

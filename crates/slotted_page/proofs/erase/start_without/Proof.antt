@@ -1,10 +1,8 @@
--- `slotted_page::erase::start_without` meets its contract. Assumes nothing.
+-- `slotted_page::erase::start_without` meets its contract.
 use borrow.Author.Tests.{eq-eqb, ne-eqb}
 use borrow.Author.Needs.{needs}
 use Rattle.slotted_page.proofs.erase.start_without.Statement.{statement}
 use Rattle.slotted_page.proofs.erase.start_without.Tie as tie
-use Rattle.slotted_page.proofs.erase.start_without.Reads as reads
-use Rattle.slotted_page.proofs.erase.start_without.Lts as lts
 
 add-result : tie.Need-add-result
 add-result c = search needs

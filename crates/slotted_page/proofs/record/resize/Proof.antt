@@ -1,12 +1,9 @@
--- `slotted_page::record::resize` meets its contract. Assumes nothing.
+-- `slotted_page::record::resize` meets its contract.
 use mathlib.Core.Path.{_∙_}
 use Rattle.slotted_page.proofs.RecordLaws.{again-done}
 use borrow.Author.Needs.{needs}
 use Rattle.slotted_page.proofs.record.resize.Statement.{statement}
 use Rattle.slotted_page.proofs.record.resize.Tie as tie
-use Rattle.slotted_page.proofs.record.resize.Reads as reads
-use Rattle.slotted_page.proofs.record.resize.Lts as lts
-use Rattle.slotted_page.proofs.relocate.relocate.Reads as relocate-reads
 
 relocate-requires : tie.Need-relocate-requires
 relocate-requires c κs = search needs

@@ -1,4 +1,4 @@
--- `slotted_page::record::resize_target` meets its contract. Assumes nothing.
+-- `slotted_page::record::resize_target` meets its contract.
 use mathlib.Core.Path.{refl, sym, ap, _∙_}
 use mathlib.Core.List.{_++_}
 use Prim.Native.Nat.{_+_}
@@ -13,12 +13,6 @@ use Rattle.slotted_page.proofs.FillLaws.{unmoved-done}
 use borrow.Author.Needs.{needs}
 use Rattle.slotted_page.proofs.record.resize_target.Statement.{statement}
 use Rattle.slotted_page.proofs.record.resize_target.Tie as tie
-use Rattle.slotted_page.proofs.record.resize_target.Reads as reads
-use Rattle.slotted_page.proofs.record.resize_target.Lts as lts
-use Rattle.layout.proofs.put_u64.Reads as put-u64-reads
-use Rattle.layout.proofs.slots.get_slot.Reads as get-slot-reads
-use Rattle.layout.proofs.slots.off_of.Reads as off-of-reads
-use Rattle.slotted_page.proofs.relocate.relocate.Reads as relocate-reads
 
 add-relocate : tie.Need-add-relocate
 add-relocate c = search needs
@@ -32,7 +26,8 @@ get-slot-requires c κs =
     let u = c .before .before .before .before in
     let b = u .before .before .before in
     let a = b .args in
-    let x = target-kept (a .page .now) (a .k) (a .size) (u .relocate .last .0) (b .pre .0) (b .pre .1) (b .pre .2) (u .relocate .ensures .0) (sym (e .if1 .taken) ∙ u .relocate .ensures .1) in
+    let x = target-kept (a .page .now) (a .k) (a .size) (u .relocate .last .0) (b .pre .0) (b .pre .1) (b .pre .2) (u .relocate .ensures .0)
+    (sym (e .if1 .taken) ∙ u .relocate .ensures .1) in
     (x .whole, x .counted .0, x .counted .1)
 
 off-of-requires : tie.Need-off-of-requires
@@ -45,7 +40,8 @@ put-u64-requires c κs =
     let u = c .before .before .before .before .before .before .before in
     let b = u .before .before .before in
     let a = b .args in
-    let x = target-kept (a .page .now) (a .k) (a .size) (u .relocate .last .0) (b .pre .0) (b .pre .1) (b .pre .2) (u .relocate .ensures .0) (sym (e .if1 .taken) ∙ u .relocate .ensures .1) in
+    let x = target-kept (a .page .now) (a .k) (a .size) (u .relocate .last .0) (b .pre .0) (b .pre .1) (b .pre .2) (u .relocate .ensures .0)
+    (sym (e .if1 .taken) ∙ u .relocate .ensures .1) in
     omega (arith, x .whole, x .high, c .off-of .ensures, ap off (g .get-slot .ensures .0))
 
 same-length : tie.Need-same-length
@@ -60,7 +56,8 @@ returns c =
     let u = c .before .before .before .before .before .before .before .before .before .before in
     let b = u .before .before .before in
     let a = b .args in
-    let x = target-kept (a .page .now) (a .k) (a .size) (u .relocate .last .0) (b .pre .0) (b .pre .1) (b .pre .2) (u .relocate .ensures .0) (sym (e .if1 .taken) ∙ u .relocate .ensures .1) in
+    let x = target-kept (a .page .now) (a .k) (a .size) (u .relocate .last .0) (b .pre .0) (b .pre .1) (b .pre .2) (u .relocate .ensures .0)
+    (sym (e .if1 .taken) ∙ u .relocate .ensures .1) in
     let f = o .off-of .ensures ∙ ap off (g .get-slot .ensures .0) in
     (x .done (toBE 8 (a .id)) (z .put-u64 .last .0) refl (z .put-u64 .ensures ∙ rw f), sym (e .if1 .taken) ∙ u .relocate .ensures .1)
 
@@ -71,8 +68,11 @@ returns-2 : tie.Need-returns-2
 returns-2 c =
     let u = c .before .before .before in
     let a = u .before .before .before .args in
-    let e = sym (c .if1 .left) ∙ u .relocate .ensures .1 in
-    (unmoved-done (a .page .now) (u .relocate .last .0) (a .k) (relocate (view (a .page .now)) (a .k) (a .size + 8)) (toBE 8 (a .id) ++ fit (a .size) (drop 8 (view (a .page .now) .bytes (a .k)))) e (u .relocate .ensures .0), e)
+    let e = sym (c .if1 .left) ∙ u .relocate .ensures .1 in (
+      unmoved-done (a .page .now) (u .relocate .last .0) (a .k) (relocate (view (a .page .now)) (a .k) (a .size + 8))
+          (toBE 8 (a .id) ++ fit (a .size) (drop 8 (view (a .page .now) .bytes (a .k)))) e (u .relocate .ensures .0),
+      e,
+    )
 
 pub resize-target-spec : {M : Type 1} → statement M
 resize-target-spec =

@@ -1,4 +1,4 @@
--- `slotted_page::record::rewrite` meets its contract. Assumes nothing.
+-- `slotted_page::record::rewrite` meets its contract.
 use mathlib.Core.Path.{sym, subst, _∙_}
 use native.Mathlib.Omega.{arith}
 use Rattle.store.specs.Numbers.{fit}
@@ -12,10 +12,6 @@ use Rattle.slotted_page.proofs.FillLaws.{refused-done}
 use borrow.Author.Needs.{needs}
 use Rattle.slotted_page.proofs.record.rewrite.Statement.{statement}
 use Rattle.slotted_page.proofs.record.rewrite.Tie as tie
-use Rattle.slotted_page.proofs.record.rewrite.Reads as reads
-use Rattle.slotted_page.proofs.record.rewrite.Lts as lts
-use Rattle.layout.proofs.fit_in.Reads as fit-in-reads
-use Rattle.page_places.proofs.relocation.move_slot.Reads as move-slot-reads
 
 move-slot-requires : tie.Need-move-slot-requires
 move-slot-requires c κs = search needs
@@ -43,8 +39,10 @@ returns c =
     let u = c .before .before .before .before .before .before .before .before .before in
     let b = u .before .before .before .before in
     let a = b .args in
-    bytes-done (a .page .now) (a .k) (a .size) (b .pre .0) (b .pre .1) (b .pre .2) (g .place .given .0 .0) (g .place .given .0 .1 .0) (u .move-slot .last .0) (z .fit-in .last .0)
-    (sym (g .place .given .1) ∙ u .move-slot .ensures .1) (u .move-slot .ensures .0) (fit (a .size) (a .bytes .now)) (length-fit (a .size) (a .bytes .now)) (z .fit-in .ensures)
+    bytes-done (a .page .now) (a .k) (a .size) (b .pre .0) (b .pre .1) (b .pre .2) (g .place .given .0 .0) (g .place .given .0 .1 .0)
+    (u .move-slot .last .0) (z .fit-in .last .0)
+    (sym (g .place .given .1) ∙ u .move-slot .ensures .1) (u .move-slot .ensures .0) (fit (a .size) (a .bytes .now))
+    (length-fit (a .size) (a .bytes .now)) (z .fit-in .ensures)
 
 same-length-2 : tie.Need-same-length-2
 same-length-2 c = search needs
@@ -53,7 +51,8 @@ returns-2 : tie.Need-returns-2
 returns-2 c =
     let u = c .before .before .before .before in
     let a = u .before .before .before .before .args in
-    let y = refused-done (a .page .now) (u .move-slot .last .0) (a .k) (relocate (view (a .page .now)) (a .k) (a .size)) (sym (c .enum-told .given .1) ∙ u .move-slot .ensures .1) (u .move-slot .ensures .0) in
+    let y = refused-done (a .page .now) (u .move-slot .last .0) (a .k) (relocate (view (a .page .now)) (a .k) (a .size))
+    (sym (c .enum-told .given .1) ∙ u .move-slot .ensures .1) (u .move-slot .ensures .0) in
     (y .2 (fit (a .size) (a .bytes .now)), y .1)
 
 pub rewrite-spec : {M : Type 1} → statement M

@@ -1,4 +1,4 @@
--- `slotted_page::record::rewrite_target` meets its contract. Assumes nothing.
+-- `slotted_page::record::rewrite_target` meets its contract.
 use mathlib.Core.Path.{sym, subst, _∙_}
 use mathlib.Core.List.{_++_}
 use Prim.Native.Nat.{_+_}
@@ -15,11 +15,6 @@ use Rattle.slotted_page.proofs.FillLaws.{refused-done}
 use borrow.Author.Needs.{needs}
 use Rattle.slotted_page.proofs.record.rewrite_target.Statement.{statement}
 use Rattle.slotted_page.proofs.record.rewrite_target.Tie as tie
-use Rattle.slotted_page.proofs.record.rewrite_target.Reads as reads
-use Rattle.slotted_page.proofs.record.rewrite_target.Lts as lts
-use Rattle.layout.proofs.copy_in.Reads as copy-in-reads
-use Rattle.layout.proofs.put_u64.Reads as put-u64-reads
-use Rattle.page_places.proofs.relocation.move_slot.Reads as move-slot-reads
 
 add-move-slot : tie.Need-add-move-slot
 add-move-slot c = search needs
@@ -67,7 +62,8 @@ returns c =
     let a = b .args in
     let o = g .place .given .0 .1 .0 in
     let i = toBE 8 (a .id) in
-    bytes-done (a .page .now) (a .k) (length (a .bytes .now) + 8) (b .pre .0) (b .pre .1) (b .pre .2) (g .place .given .0 .0) o (u .move-slot .last .0) (z .copy-in .last .0)
+    bytes-done (a .page .now) (a .k) (length (a .bytes .now) + 8) (b .pre .0) (b .pre .1) (b .pre .2) (g .place .given .0 .0) o
+    (u .move-slot .last .0) (z .copy-in .last .0)
     (sym (g .place .given .1) ∙ u .move-slot .ensures .1) (u .move-slot .ensures .0) (i ++ a .bytes .now) (omega arith)
     (z .copy-in .ensures ∙ rw (w .put-u64 .ensures) (sym (write-append o i (a .bytes .now) (u .move-slot .last .0))))
 
@@ -78,7 +74,8 @@ returns-2 : tie.Need-returns-2
 returns-2 c =
     let u = c .before .before .before .before in
     let a = u .before .before .before .before .args in
-    let y = refused-done (a .page .now) (u .move-slot .last .0) (a .k) (relocate (view (a .page .now)) (a .k) (length (a .bytes .now) + 8)) (sym (c .enum-told .given .1) ∙ u .move-slot .ensures .1) (u .move-slot .ensures .0) in
+    let y = refused-done (a .page .now) (u .move-slot .last .0) (a .k) (relocate (view (a .page .now)) (a .k) (length (a .bytes .now) + 8))
+    (sym (c .enum-told .given .1) ∙ u .move-slot .ensures .1) (u .move-slot .ensures .0) in
     (y .2 (toBE 8 (a .id) ++ a .bytes .now), y .1)
 
 pub rewrite-target-spec : {M : Type 1} → statement M

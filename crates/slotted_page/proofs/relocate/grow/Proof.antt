@@ -1,4 +1,4 @@
--- `slotted_page::relocate::grow` meets its contract. Assumes nothing.
+-- `slotted_page::relocate::grow` meets its contract.
 use mathlib.Core.Path.{sym, ap, subst, _∙_}
 use native.Mathlib.Omega.{arith}
 use Rattle.store.specs.Slots.{len, off}
@@ -11,13 +11,6 @@ use Rattle.slotted_page.proofs.FillLaws.{refused-done}
 use borrow.Author.Needs.{needs}
 use Rattle.slotted_page.proofs.relocate.grow.Statement.{statement}
 use Rattle.slotted_page.proofs.relocate.grow.Tie as tie
-use Rattle.slotted_page.proofs.relocate.grow.Reads as reads
-use Rattle.slotted_page.proofs.relocate.grow.Lts as lts
-use Rattle.layout.proofs.move_within.Reads as move-within-reads
-use Rattle.layout.proofs.slots.len_of.Reads as len-of-reads
-use Rattle.layout.proofs.slots.off_of.Reads as off-of-reads
-use Rattle.layout.proofs.zero_fill.Reads as zero-fill-reads
-use Rattle.page_places.proofs.relocation.move_slot.Reads as move-slot-reads
 
 len-of-requires : tie.Need-len-of-requires
 len-of-requires c κs = search needs
@@ -80,10 +73,13 @@ returns c =
     let e = sym (g .place .given .1) ∙ u .move-slot .ensures .1 in
     let j = g .place .given .0 .0 in
     let d = g .place .given .0 .1 .0 in
-    let x = grow-done (a .page .now) (a .k) (a .size) (b .pre .0) (b .pre .1) (b .pre .2) j d (u .move-slot .last .0) (m .move-within .last .0) e (u .move-slot .ensures .0)
-    (f .off-of .result) (l .len-of .result) (z .zero-fill .last .0) (f .off-of .ensures ∙ ap off (b .pre .3)) (l .len-of .ensures ∙ ap len (b .pre .3)) (omega (arith, l .len-of .ensures, b .pre .4)) (b .pre .5)
+    let x = grow-done (a .page .now) (a .k) (a .size) (b .pre .0) (b .pre .1) (b .pre .2) j d (u .move-slot .last .0) (m .move-within .last .0) e
+    (u .move-slot .ensures .0)
+    (f .off-of .result) (l .len-of .result) (z .zero-fill .last .0) (f .off-of .ensures ∙ ap off (b .pre .3))
+    (l .len-of .ensures ∙ ap len (b .pre .3)) (omega (arith, l .len-of .ensures, b .pre .4)) (b .pre .5)
     (m .move-within .ensures) (z .zero-fill .ensures) in
-    old-done (a .page .now) (a .k) (a .size) (b .pre .0) (b .pre .1) (b .pre .2) j d (u .move-slot .last .0) (z .zero-fill .last .0) e (u .move-slot .ensures .0) x
+    old-done (a .page .now) (a .k) (a .size) (b .pre .0) (b .pre .1) (b .pre .2) j d (u .move-slot .last .0) (z .zero-fill .last .0) e
+    (u .move-slot .ensures .0) x
 
 same-length-2 : tie.Need-same-length-2
 same-length-2 c = search needs
@@ -92,7 +88,8 @@ returns-2 : tie.Need-returns-2
 returns-2 c =
     let u = c .before .before .before .before in
     let a = u .before .before .before .before .args in
-    let y = refused-done (a .page .now) (u .move-slot .last .0) (a .k) (relocate (view (a .page .now)) (a .k) (a .size)) (sym (c .enum-told .given .1) ∙ u .move-slot .ensures .1) (u .move-slot .ensures .0) in
+    let y = refused-done (a .page .now) (u .move-slot .last .0) (a .k) (relocate (view (a .page .now)) (a .k) (a .size))
+    (sym (c .enum-told .given .1) ∙ u .move-slot .ensures .1) (u .move-slot .ensures .0) in
     (y .0, y .1)
 
 pub grow-spec : {M : Type 1} → statement M

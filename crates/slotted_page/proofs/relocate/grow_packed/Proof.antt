@@ -1,4 +1,4 @@
--- `slotted_page::relocate::grow_packed` meets its contract. Assumes nothing.
+-- `slotted_page::relocate::grow_packed` meets its contract.
 use mathlib.Core.Path.{sym, ap, subst, _∙_}
 use native.Mathlib.Omega.{arith}
 use lib.ListN.{length-take, length-replicate, replicate}
@@ -13,13 +13,6 @@ use Rattle.store.specs.Laws.Numbers.{length-put}
 use borrow.Author.Needs.{needs}
 use Rattle.slotted_page.proofs.relocate.grow_packed.Statement.{statement}
 use Rattle.slotted_page.proofs.relocate.grow_packed.Tie as tie
-use Rattle.slotted_page.proofs.relocate.grow_packed.Reads as reads
-use Rattle.slotted_page.proofs.relocate.grow_packed.Lts as lts
-use Rattle.layout.proofs.fit_in.Reads as fit-in-reads
-use Rattle.layout.proofs.slots.len_of.Reads as len-of-reads
-use Rattle.layout.proofs.slots.off_of.Reads as off-of-reads
-use Rattle.page_places.proofs.relocation.move_slot.Reads as move-slot-reads
-use Rattle.layout.proofs.save.Reads as save-reads
 
 len-of-requires : tie.Need-len-of-requires
 len-of-requires c κs = search needs
@@ -79,9 +72,12 @@ returns c =
     let l = c .before .before .before .before .before .before .before .before .before .before .before .before .before .before .before .before .before in
     let b = l .before .before in
     let a = b .args in
-    let x = saved-old (a .page .now) (a .k) (a .size) (b .pre .0) (b .pre .1) (b .pre .2) (f .off-of .result) (l .len-of .result) (replicate 16384 0) (w .save .last .1 .1 .1 .0)
-    (f .off-of .ensures ∙ ap off (b .pre .3)) (l .len-of .ensures ∙ ap len (b .pre .3)) (rw length-replicate (omega (arith, b .pre .1 .high (a .k), ap len (b .pre .3), l .len-of .ensures))) (w .save .ensures) in
-    old-done (a .page .now) (a .k) (a .size) (b .pre .0) (b .pre .1) (b .pre .2) (g .place .given .0 .0) (g .place .given .0 .1 .0) (u .move-slot .last .0) (z .fit-in .last .0)
+    let x = saved-old (a .page .now) (a .k) (a .size) (b .pre .0) (b .pre .1) (b .pre .2) (f .off-of .result) (l .len-of .result) (replicate 16384 0)
+    (w .save .last .1 .1 .1 .0)
+    (f .off-of .ensures ∙ ap off (b .pre .3)) (l .len-of .ensures ∙ ap len (b .pre .3))
+    (rw length-replicate (omega (arith, b .pre .1 .high (a .k), ap len (b .pre .3), l .len-of .ensures))) (w .save .ensures) in
+    old-done (a .page .now) (a .k) (a .size) (b .pre .0) (b .pre .1) (b .pre .2) (g .place .given .0 .0) (g .place .given .0 .1 .0)
+    (u .move-slot .last .0) (z .fit-in .last .0)
     (sym (g .place .given .1) ∙ u .move-slot .ensures .1) (u .move-slot .ensures .0) (z .fit-in .ensures ∙ rw x)
 
 same-length-2 : tie.Need-same-length-2
@@ -91,7 +87,8 @@ returns-2 : tie.Need-returns-2
 returns-2 c =
     let u = c .before .before .before .before in
     let a = u .before .before .before .before .before .before .before .before .before .args in
-    let y = refused-done (a .page .now) (u .move-slot .last .0) (a .k) (relocate (view (a .page .now)) (a .k) (a .size)) (sym (c .enum-told .given .1) ∙ u .move-slot .ensures .1) (u .move-slot .ensures .0) in
+    let y = refused-done (a .page .now) (u .move-slot .last .0) (a .k) (relocate (view (a .page .now)) (a .k) (a .size))
+    (sym (c .enum-told .given .1) ∙ u .move-slot .ensures .1) (u .move-slot .ensures .0) in
     (y .0, y .1)
 
 pub grow-packed-spec : {M : Type 1} → statement M

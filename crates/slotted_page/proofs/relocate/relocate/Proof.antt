@@ -1,4 +1,4 @@
--- `slotted_page::relocate::relocate` meets its contract. Assumes nothing.
+-- `slotted_page::relocate::relocate` meets its contract.
 use mathlib.Core.Path.{_≡_, refl, ap, _∙_}
 use native.Mathlib.Omega.{arith}
 use Rattle.store.specs.Slots.{len}
@@ -7,16 +7,6 @@ use Rattle.slotted_page.proofs.RecordLaws.{relocate-refused}
 use borrow.Author.Needs.{needs}
 use Rattle.slotted_page.proofs.relocate.relocate.Statement.{statement}
 use Rattle.slotted_page.proofs.relocate.relocate.Tie as tie
-use Rattle.slotted_page.proofs.relocate.relocate.Reads as reads
-use Rattle.slotted_page.proofs.relocate.relocate.Lts as lts
-use Rattle.layout.proofs.header.get_data_start.Reads as get-data-start-reads
-use Rattle.layout.proofs.header.get_free_space.Reads as get-free-space-reads
-use Rattle.layout.proofs.header.get_slot_count.Reads as get-slot-count-reads
-use Rattle.layout.proofs.slots.get_slot.Reads as get-slot-reads
-use Rattle.layout.proofs.slots.len_of.Reads as len-of-reads
-use Rattle.slotted_page.proofs.relocate.grow.Reads as grow-reads
-use Rattle.slotted_page.proofs.relocate.grow_packed.Reads as grow-packed-reads
-use Rattle.slotted_page.proofs.relocate.settle.Reads as settle-reads
 
 get-slot-requires : tie.Need-get-slot-requires
 get-slot-requires c κs = search needs

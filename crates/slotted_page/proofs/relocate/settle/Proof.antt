@@ -1,4 +1,4 @@
--- `slotted_page::relocate::settle` meets its contract. Assumes nothing.
+-- `slotted_page::relocate::settle` meets its contract.
 use mathlib.Core.Path.{sym, _∙_}
 use Rattle.store.specs.PageSteps.{relocate}
 use Rattle.store.specs.Page.{view}
@@ -7,9 +7,6 @@ use Rattle.slotted_page.proofs.FillLaws.{refused-done}
 use borrow.Author.Needs.{needs}
 use Rattle.slotted_page.proofs.relocate.settle.Statement.{statement}
 use Rattle.slotted_page.proofs.relocate.settle.Tie as tie
-use Rattle.slotted_page.proofs.relocate.settle.Reads as reads
-use Rattle.slotted_page.proofs.relocate.settle.Lts as lts
-use Rattle.page_places.proofs.relocation.move_slot.Reads as move-slot-reads
 
 move-slot-requires : tie.Need-move-slot-requires
 move-slot-requires c κs = search needs
@@ -28,7 +25,8 @@ returns c =
     let u = c .before .before .before .before in
     let b = u .before .before .before in
     let a = b .args in
-    settle-done (a .page .now) (a .k) (a .size) (b .pre .0) (b .pre .1) (b .pre .2) (c .enum-told .given .0 .0) (c .enum-told .given .0 .1 .0) (u .move-slot .last .0) (u .move-slot .last .0)
+    settle-done (a .page .now) (a .k) (a .size) (b .pre .0) (b .pre .1) (b .pre .2) (c .enum-told .given .0 .0) (c .enum-told .given .0 .1 .0)
+    (u .move-slot .last .0) (u .move-slot .last .0)
     (sym (c .enum-told .given .1) ∙ u .move-slot .ensures .1) (u .move-slot .ensures .0) (b .pre .3)
 
 same-length-2 : tie.Need-same-length-2
@@ -38,7 +36,8 @@ returns-2 : tie.Need-returns-2
 returns-2 c =
     let u = c .before .before .before .before in
     let a = u .before .before .before .args in
-    let y = refused-done (a .page .now) (u .move-slot .last .0) (a .k) (relocate (view (a .page .now)) (a .k) (a .size)) (sym (c .enum-told2 .given .1) ∙ u .move-slot .ensures .1) (u .move-slot .ensures .0) in
+    let y = refused-done (a .page .now) (u .move-slot .last .0) (a .k) (relocate (view (a .page .now)) (a .k) (a .size))
+    (sym (c .enum-told2 .given .1) ∙ u .move-slot .ensures .1) (u .move-slot .ensures .0) in
     (y .0, y .1)
 
 pub settle-spec : {M : Type 1} → statement M

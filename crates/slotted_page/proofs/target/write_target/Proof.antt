@@ -1,4 +1,4 @@
--- `slotted_page::target::write_target` meets its contract. Assumes nothing.
+-- `slotted_page::target::write_target` meets its contract.
 use mathlib.Core.Path.{sym, ap, _∙_}
 use mathlib.Core.List.{List, _++_}
 use Prim.Native.Nat.{ℕ}
@@ -7,11 +7,6 @@ use Rattle.layout.proofs.Writes.{write-append}
 use borrow.Author.Needs.{needs}
 use Rattle.slotted_page.proofs.target.write_target.Statement.{statement}
 use Rattle.slotted_page.proofs.target.write_target.Tie as tie
-use Rattle.slotted_page.proofs.target.write_target.Reads as reads
-use Rattle.slotted_page.proofs.target.write_target.Lts as lts
-use Rattle.layout.proofs.fit_in.Reads as fit-in-reads
-use Rattle.layout.proofs.put_u64.Reads as put-u64-reads
-use Rattle.layout.proofs.slots.write_slot.Reads as write-slot-reads
 
 add-fit-in : tie.Need-add-fit-in
 add-fit-in c = search needs
