@@ -9,6 +9,7 @@ use Rattle.store.specs.Slots.{isFree, isTarget}
 use Rattle.store.specs.Page.{view, sound}
 use Rattle.store.specs.PageSteps.{erase, filled, Relocated, moved, relocate}
 use Rattle.store.specs.Inventory.{update}
+use Rattle.store.specs.Inventory.{foundIn}
 use Rattle.store.specs.Segment.{segView, pageOf, OnPage, on, carriedOn, carried, result, pointsBack, atHome}
 use Rattle.store.specs.Answers.{outcome}
 use Rattle.store.specs.declared.Slot.the-variants.{Redirect}
@@ -56,12 +57,12 @@ module _ (s : List ℕ) (i n : ℕ) (bs : List ℕ) (j : ℕ) (fits : pageNo i *
 
       pub home-done : (v w y : List ℕ) → w ≡ update v (length r / 16384) (pageNo i) (view (pageOf r (pageNo i)) .freeSpace)
           → y ≡ update w (length r / 16384) (pageNo j) (view (pageOf r (pageNo j)) .freeSpace)
-          → outcome (answer.Done i) r y ≡ result s (atHome (segView s) v i n (λ b. bs) j [] (relocate (segView s .page (pageNo i)) (slotNo i) n))
+          → outcome (answer.Done i) r y ≡ result s (atHome foundIn (segView s) v i n (λ b. bs) j [] (relocate (segView s .page (pageNo i)) (slotNo i) n))
       unfolding result
       home-done v w y ew ey =
           let h : r ≡ carried (homeStep ∷ oldStep s i j back ∷ []) s = left-behind .is ∙ ap (carriedOn (oldStep s i j back)) (home-took .is) in
           let g = told-both s v r home-length (pageNo i) (homeStep .plan .after) home-left (pageNo j)
           (oldStep s i j back .plan .after) home-old-left w y ew ey in
-          let d : outcome (answer.Done i) r y ≡ result s (atHome (segView s) v i n (λ b. bs) j [] (moved (home .to))) =
+          let d : outcome (answer.Done i) r y ≡ result s (atHome foundIn (segView s) v i n (λ b. bs) j [] (moved (home .to))) =
           λ z. record { answer = 0; id = i; seg = h z; inv = g z } in
-          d ∙ ap (λ (x : Relocated). result s (atHome (segView s) v i n (λ b. bs) j [] x)) (sym (home .is))
+          d ∙ ap (λ (x : Relocated). result s (atHome foundIn (segView s) v i n (λ b. bs) j [] x)) (sym (home .is))

@@ -99,7 +99,7 @@ module _ (s v : List ℕ) (i size : ℕ) (new : List ℕ → List ℕ) where
   -- ---- 1, 3, 2, 4 (root), then by the slot
 
   abbrev pub stored : Result
-  stored = step s v (storePlan (segView s) v i size new)
+  stored = step s v (storePlan foundIn (segView s) v i size new)
 
   pub step-size : (sizeOk s && invOk v) ≡ false → outcome answer.Size s v ≡ stored
   unfolding result
@@ -121,17 +121,17 @@ module _ (s v : List ℕ) (i size : ℕ) (new : List ℕ → List ℕ) where
         step-damaged e = rw (ok, le-ltb 16364 size short, seen-pages s, lt-leb (length s / 16384) (pageNo i) inside, e)
 
         pub step-by : sound (segView s .page (pageNo i)) ≡ true → (x : Slot) → segView s .page (pageNo i) .at (slotNo i) ≡ x
-            → result s (storeBy (segView s) v i size new x) ≡ stored
+            → result s (storeBy foundIn (segView s) v i size new x) ≡ stored
         unfolding storePlan
         step-by e x g = sym (rw (ok, le-ltb 16364 size short, seen-pages s, lt-leb (length s / 16384) (pageNo i) inside, e, g))
 
   -- ---- 5 and 6
 
-  pub by-free : outcome answer.NoRecord s v ≡ result s (storeBy (segView s) v i size new Free)
+  pub by-free : outcome answer.NoRecord s v ≡ result s (storeBy foundIn (segView s) v i size new Free)
   unfolding result
   by-free = refl
 
-  pub by-target : (o l : ℕ) → outcome answer.Forwarded s v ≡ result s (storeBy (segView s) v i size new (Target o l))
+  pub by-target : (o l : ℕ) → outcome answer.Forwarded s v ≡ result s (storeBy foundIn (segView s) v i size new (Target o l))
   unfolding result
   by-target o l = refl
 
@@ -140,7 +140,7 @@ module _ (s v : List ℕ) (i size : ℕ) (new : List ℕ → List ℕ) where
   module _ (o l : ℕ) where
     pub by-root : (t w : List ℕ) → Moves s (pageNo i) (slotNo i) size (new (segView s .page (pageNo i) .bytes (slotNo i))) t
         → w ≡ update v (length t / 16384) (pageNo i) (view (pageOf t (pageNo i)) .freeSpace)
-        → outcome (answer.Done i) t w ≡ result s (storeBy (segView s) v i size new (Ordinary o l))
+        → outcome (answer.Done i) t w ≡ result s (storeBy foundIn (segView s) v i size new (Ordinary o l))
     unfolding result
     by-root t w m ew =
         let e : OnPage = on (pageNo i) (filled (m .plan) (slotNo i) (new (segView s .page (pageNo i) .bytes (slotNo i)))) in
@@ -152,7 +152,7 @@ module _ (s v : List ℕ) (i size : ℕ) (new : List ℕ → List ℕ) where
         → b ≡ new (segView s .page (pageNo i) .bytes (slotNo i))
         → (t : List ℕ) → t ≡ s → (x : Result)
         → x ≡ result t (forwarded (segView t) v i size (λ o. b) [] (find foundIn (segView t) v (size + 8) (λ p. eqb p (pageNo i))))
-        → x ≡ result s (storeBy (segView s) v i size new (Ordinary o l))
+        → x ≡ result s (storeBy foundIn (segView s) v i size new (Ordinary o l))
     by-forward f b eb t et x ex =
         ex ∙ ap (λ (m : List ℕ). result m (forwarded (segView m) v i size (λ o. b) [] (find foundIn (segView m) v (size + 8) (λ p. eqb p (pageNo i))))) et
         ∙ ap (result s) (same (find foundIn (segView s) v (size + 8) (λ p. eqb p (pageNo i)))
@@ -168,7 +168,7 @@ module _ (s v : List ℕ) (i size : ℕ) (new : List ℕ → List ℕ) where
   -- ---- a redirect: 4 (target), then home, at the target, else forwarded again
 
   module _ (j : ℕ) where
-    pub by-damaged : pointsBack (segView s) i j ≡ false → outcome answer.Damaged s v ≡ result s (storeBy (segView s) v i size new (Redirect j))
+    pub by-damaged : pointsBack (segView s) i j ≡ false → outcome answer.Damaged s v ≡ result s (storeBy foundIn (segView s) v i size new (Redirect j))
     unfolding result
     by-damaged e = rw e
 
@@ -177,36 +177,36 @@ module _ (s v : List ℕ) (i size : ℕ) (new : List ℕ → List ℕ) where
       oldBytes = drop 8 (segView s .page (pageNo j) .bytes (slotNo j))
 
       pub by-home : wasMoved (relocate (segView s .page (pageNo i)) (slotNo i) size) ≡ true → (b : List ℕ) → b ≡ new oldBytes → (x : Result)
-          → x ≡ result s (atHome (segView s) v i size (λ o. b) j [] (relocate (segView s .page (pageNo i)) (slotNo i) size))
-          → x ≡ result s (storeBy (segView s) v i size new (Redirect j))
+          → x ≡ result s (atHome foundIn (segView s) v i size (λ o. b) j [] (relocate (segView s .page (pageNo i)) (slotNo i) size))
+          → x ≡ result s (storeBy foundIn (segView s) v i size new (Redirect j))
       by-home f b eb x ex =
           let m = moved-to (relocate (segView s .page (pageNo i)) (slotNo i) size) f in
-          ex ∙ ap (λ (r : Relocated). result s (atHome (segView s) v i size (λ o. b) j [] r)) (m .is)
-          ∙ ap (λ (c : List ℕ). result s (atHome (segView s) v i size (λ o. c) j [] (moved (m .to)))) eb
-          ∙ ap (λ (r : Relocated). result s (atHome (segView s) v i size new j oldBytes r)) (sym (m .is))
+          ex ∙ ap (λ (r : Relocated). result s (atHome foundIn (segView s) v i size (λ o. b) j [] r)) (m .is)
+          ∙ ap (λ (c : List ℕ). result s (atHome foundIn (segView s) v i size (λ o. c) j [] (moved (m .to)))) eb
+          ∙ ap (λ (r : Relocated). result s (atHome foundIn (segView s) v i size new j oldBytes r)) (sym (m .is))
           ∙ rw back refl
 
       module _ (away : wasMoved (relocate (segView s .page (pageNo i)) (slotNo i) size) ≡ false) where
-        not-home : atTarget (segView s) v i size new j oldBytes (relocate (segView s .page (pageNo j)) (slotNo j) (size + 8))
-            ≡ storeBy (segView s) v i size new (Redirect j)
+        not-home : atTarget foundIn (segView s) v i size new j oldBytes (relocate (segView s .page (pageNo j)) (slotNo j) (size + 8))
+            ≡ storeBy foundIn (segView s) v i size new (Redirect j)
         not-home = rw (back, not-moved (relocate (segView s .page (pageNo i)) (slotNo i) size) away)
 
         pub by-stay : (t w : List ℕ) → Moves s (pageNo j) (slotNo j) (size + 8) (toBE 8 i ++ new oldBytes) t
             → w ≡ update v (length t / 16384) (pageNo j) (view (pageOf t (pageNo j)) .freeSpace)
-            → outcome (answer.Done i) t w ≡ result s (storeBy (segView s) v i size new (Redirect j))
+            → outcome (answer.Done i) t w ≡ result s (storeBy foundIn (segView s) v i size new (Redirect j))
         unfolding result
         by-stay t w m ew =
             let e : OnPage = on (pageNo j) (filled (m .plan) (slotNo j) (toBE 8 i ++ new oldBytes)) in
             let h = left-update s t (pageNo j) (e .plan .after) (left-own s e t (m .took)) (took-length s e t (m .took)) v w ew in
             (λ z. record { answer = 0; id = i; seg = m .took .is z; inv = h z })
-            ∙ ap (λ (r : Relocated). result s (atTarget (segView s) v i size new j oldBytes r)) (sym (m .by))
+            ∙ ap (λ (r : Relocated). result s (atTarget foundIn (segView s) v i size new j oldBytes r)) (sym (m .by))
             ∙ ap (result s) not-home
 
         pub by-again : wasMoved (relocate (segView s .page (pageNo j)) (slotNo j) (size + 8)) ≡ false → (b : List ℕ) → b ≡ new oldBytes
             → (t w : List ℕ) → t ≡ s → w ≡ v → (x : Result)
             → x ≡ result t (forwardedAgain (segView t) w i size (λ o. b) j []
             (find foundIn (segView t) w (size + 8) (λ p. eqb p (pageNo i) || eqb p (pageNo j))))
-            → x ≡ result s (storeBy (segView s) v i size new (Redirect j))
+            → x ≡ result s (storeBy foundIn (segView s) v i size new (Redirect j))
         by-again f b eb t w et ew x ex =
             ex ∙ ap (λ (m : List ℕ). result m
             (forwardedAgain (segView m) w i size (λ o. b) j []
@@ -215,7 +215,7 @@ module _ (s v : List ℕ) (i size : ℕ) (new : List ℕ → List ℕ) where
             (find foundIn (segView s) m (size + 8) (λ p. eqb p (pageNo i) || eqb p (pageNo j))))) ew
             ∙ ap (result s)
             (same (find foundIn (segView s) v (size + 8) (λ p. eqb p (pageNo i) || eqb p (pageNo j)))
-            ∙ ap (atTarget (segView s) v i size new j oldBytes) (sym (not-moved (relocate (segView s .page (pageNo j)) (slotNo j) (size + 8)) f))
+            ∙ ap (atTarget foundIn (segView s) v i size new j oldBytes) (sym (not-moved (relocate (segView s .page (pageNo j)) (slotNo j) (size + 8)) f))
             ∙ not-home)
           where
             same : (m : Found) → forwardedAgain (segView s) v i size (λ o. b) j [] m ≡ forwardedAgain (segView s) v i size new j oldBytes m

@@ -7,6 +7,7 @@ ghost use Prim.Native.Nat.{_+_, _*_, _≤_};
 ghost use lib.ListN.{length, drop};
 ghost use Rattle.store.specs.Numbers.{cut, fit, pageNo, slotNo};
 ghost use Rattle.store.specs.Page.{sound};
+ghost use Rattle.store.specs.Inventory.{foundIn};
 ghost use Rattle.store.specs.Segment.{segView, result, pointsBack, storeBy, resizeStep};
 ghost use Rattle.store.specs.Answers.{outcome};
 ghost use Rattle.segment_steps.specs.After.{Sizes};
@@ -25,7 +26,7 @@ fn resize_ordinary(
     requires { ⌜ (pageNo id * 16384 + 16384 ≤ length (now segment)) × (sound (seen (now segment) (pageNo id)) ≡ true)
         × (seen (now segment) (pageNo id) .at (slotNo id) ≡ Slot.Ordinary offset n) × (size ≤ 16364) ⌝ }
     ensures { λ r. ⌜ outcome r (now (segment .exit)) (now (inventory .exit))
-        ≡ result (now (segment .entry)) (storeBy (segView (now (segment .entry))) (now (inventory .entry)) id size (fit size) (Slot.Ordinary offset n)) ⌝ }
+        ≡ result (now (segment .entry)) (storeBy foundIn (segView (now (segment .entry))) (now (inventory .entry)) id size (fit size) (Slot.Ordinary offset n)) ⌝ }
 {
     if segment_steps::resize_on(segment, id / 65536, id % 65536, size) {
         segment_steps::update_on(segment, inventory, id / 65536);
@@ -50,7 +51,7 @@ fn resize_saved(
         × (seen (now segment) (pageNo id) .at (slotNo id) ≡ Slot.Redirect t)
         × (pointsBack (segView (now segment)) id t ≡ true) × (size ≤ 16364) × (now old ≡ drop 8 (seen (now segment) (pageNo t) .bytes (slotNo t))) ⌝ }
     ensures { λ r. ⌜ outcome r (now (segment .exit)) (now (inventory .exit))
-        ≡ result (now (segment .entry)) (storeBy (segView (now (segment .entry))) (now (inventory .entry)) id size (fit size) (Slot.Redirect t)) ⌝ }
+        ≡ result (now (segment .entry)) (storeBy foundIn (segView (now (segment .entry))) (now (inventory .entry)) id size (fit size) (Slot.Redirect t)) ⌝ }
 {
     if segment_forward::at_home(segment, inventory, id, t, old, size) {
         return Answer::Done { id };
@@ -78,7 +79,7 @@ fn resize_target(
         × (pointsBack (segView (now segment)) id t ≡ true) × (size ≤ 16364) × (at + n ≤ length (now segment)) × (n ≤ 16384)
         × (cut (now segment) at n ≡ drop 8 (seen (now segment) (pageNo t) .bytes (slotNo t))) ⌝ }
     ensures { λ r. ⌜ outcome r (now (segment .exit)) (now (inventory .exit))
-        ≡ result (now (segment .entry)) (storeBy (segView (now (segment .entry))) (now (inventory .entry)) id size (fit size) (Slot.Redirect t)) ⌝ }
+        ≡ result (now (segment .entry)) (storeBy foundIn (segView (now (segment .entry))) (now (inventory .entry)) id size (fit size) (Slot.Redirect t)) ⌝ }
 {
     let mut old = [0u8; 16384];
     layout::save(segment, at, n, &mut old);
@@ -97,7 +98,7 @@ fn resize_forwarded(
     requires { ⌜ (pageNo id * 16384 + 16384 ≤ length (now segment)) × (sound (seen (now segment) (pageNo id)) ≡ true)
         × (seen (now segment) (pageNo id) .at (slotNo id) ≡ Slot.Redirect t) × (size ≤ 16364) ⌝ }
     ensures { λ r. ⌜ outcome r (now (segment .exit)) (now (inventory .exit))
-        ≡ result (now (segment .entry)) (storeBy (segView (now (segment .entry))) (now (inventory .entry)) id size (fit size) (Slot.Redirect t)) ⌝ }
+        ≡ result (now (segment .entry)) (storeBy foundIn (segView (now (segment .entry))) (now (inventory .entry)) id size (fit size) (Slot.Redirect t)) ⌝ }
 {
     if !segment_pages::points_back(segment, id, t) {
         return Answer::Damaged;

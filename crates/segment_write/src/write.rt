@@ -8,6 +8,7 @@ ghost use lib.ListN.{length};
 ghost use Rattle.store.specs.Numbers.{pageNo, slotNo};
 ghost use Rattle.store.specs.Slots.{isFree, isTarget};
 ghost use Rattle.store.specs.Page.{sound};
+ghost use Rattle.store.specs.Inventory.{foundIn};
 ghost use Rattle.store.specs.Segment.{segView, result, storeBy, writeStep};
 ghost use Rattle.store.specs.Answers.{outcome};
 ghost use Rattle.segment_steps.specs.After.{Sizes};
@@ -21,7 +22,7 @@ fn write_ordinary(segment: &mut [u8], inventory: &mut [u8], id: usize, bytes: &[
         × (isTarget (seen (now segment) (pageNo id) .at (slotNo id)) ≡ false) × (length (now bytes) ≤ 16364) ⌝ }
     ensures { λ r. ⌜ outcome r (now (segment .exit)) (now (inventory .exit))
         ≡ result (now (segment .entry))
-        (storeBy (segView (now (segment .entry))) (now (inventory .entry)) id (length (now (bytes .entry))) (λ old. now (bytes .entry))
+        (storeBy foundIn (segView (now (segment .entry))) (now (inventory .entry)) id (length (now (bytes .entry))) (λ old. now (bytes .entry))
         (Slot.Ordinary 0 0)) ⌝ }
 {
     if segment_steps::rewrite_on(segment, id / 65536, id % 65536, bytes, bytes.len()) {
@@ -45,7 +46,7 @@ fn write_forwarded(
         × (length (now bytes) ≤ 16364) ⌝ }
     ensures { λ r. ⌜ outcome r (now (segment .exit)) (now (inventory .exit))
         ≡ result (now (segment .entry))
-        (storeBy (segView (now (segment .entry))) (now (inventory .entry)) id (length (now (bytes .entry))) (λ old. now (bytes .entry))
+        (storeBy foundIn (segView (now (segment .entry))) (now (inventory .entry)) id (length (now (bytes .entry))) (λ old. now (bytes .entry))
         (Slot.Redirect t)) ⌝ }
 {
     if !segment_pages::points_back(segment, id, t) {

@@ -1,18 +1,19 @@
 -- Demand 3: when two segments are alike, and when the same calls have left them so.
 use Prim.Native.Nat.{ℕ, _+_, _*_, _/_, _<_}
 use mathlib.Core.Path.{_≡_}
+use mathlib.Core.Bool.{true, false}
 use mathlib.Core.List.{List, [], _∷_}
 use lib.ListN.{length}
 use Rattle.store.specs.Numbers.{cut}
-use Rattle.store.specs.Page.{count, bytesAt}
+use Rattle.store.specs.Page.{view, fresh, count, bytesAt}
 use Rattle.store.specs.Segment.{segView, pageOf, Result, readStep, locateStep}
 use Rattle.store.specs.Scan.{scanStep}
 
 -- "equal slot entries and equal record bytes, with equal headers on pages in use": headers by their 12 bytes, entries below the count by
 -- their 8; fresh in both or in neither
 pub data AlikePage (p q : List ℕ) : Type 0 where
-  both-fresh : count p ≡ 0 → count q ≡ 0 → AlikePage p q
-  both-used : 0 < count p → 0 < count q → cut p 0 12 ≡ cut q 0 12
+  both-fresh : fresh (view p) ≡ true → fresh (view q) ≡ true → AlikePage p q
+  both-used : fresh (view p) ≡ false → fresh (view q) ≡ false → cut p 0 12 ≡ cut q 0 12
       → ((k : ℕ) → k < count p → cut p (12 + 8 * k) 8 ≡ cut q (12 + 8 * k) 8) → ((k : ℕ) → k < count p → bytesAt p k ≡ bytesAt q k)
       → AlikePage p q
 

@@ -1,12 +1,18 @@
--- Document 01, "Answers by number": each answer that is an enum of the code, with the paper's number and values. The promises use
--- these. What a page and the inventory answer, `Place` and `Named`, gets its number where a call meets it: `Segment.taken` says 8 of no
--- room, `Segment.findOn` 7 of a full inventory.
+-- Document 01, "Answers by number": each answer that is an enum of the code, with the paper's number (Refusals.antt) and values, by case.
+-- The promises use these.
 use Prim.Native.Nat.{ℕ}
 use mathlib.Core.Bool.{true, false}
 use mathlib.Core.List.{List, []}
 use Rattle.store.specs.Numbers.{cut}
 use Rattle.store.specs.Segment.{Result, Part, noPart, Located}
 use Rattle.store.specs.Scan.{Scanned, overPage}
+use Rattle.store.specs.Slots.{off}
+use Rattle.store.specs.PageSteps.{Alloc, noRoom, got}
+use Rattle.store.specs.Refusals.{DONE, SIZE, NOPAGE, LONG, DAMAGED, NONE, FORWARDED, FULL, STALE}
+use Rattle.store.specs.declared.Place.{Place}
+use Rattle.store.specs.declared.Place.the-variants as place
+use Rattle.store.specs.declared.Named.{Named}
+use Rattle.store.specs.declared.Named.the-variants as named
 use Rattle.store.specs.declared.Answer.{Answer}
 use Rattle.store.specs.declared.Answer.the-variants.{Done, Size, NoPage, Long, Damaged, NoRecord, Forwarded, Full, Stale}
 use Rattle.store.specs.declared.Reading.{Reading}
@@ -16,26 +22,16 @@ use Rattle.store.specs.declared.Step.the-variants as scan
 
 -- ---- the calls that write
 
--- "Given exactly when":
--- 0 DONE "the call is carried out";
--- 1 SIZE "segment not 0 to 32,527 whole pages, or, where the call is lent one, inventory not 16,384 bytes";
--- 2 NOPAGE "the id's page is n or more";
--- 3 LONG "new size above 16,364";
--- 4 DAMAGED "a page to be touched is not sound, or a redirect to be followed lacks its target on another page pointing back";
--- 5 NONE, here NoRecord, "slot at or past the count, or free";
--- 6 FORWARDED "write, resize or erase by a target's own id";
--- 7 FULL "need above 16,372, or the inventory entry read is n or more";
--- 8 STALE "the page named is the root's or old target's, or allocate finds no room there"
 abbrev pub answerNo : Answer → ℕ
-answerNo (Done i) = 0
-answerNo Size = 1
-answerNo NoPage = 2
-answerNo Long = 3
-answerNo Damaged = 4
-answerNo NoRecord = 5
-answerNo Forwarded = 6
-answerNo Full = 7
-answerNo Stale = 8
+answerNo (Done i) = DONE
+answerNo Size = SIZE
+answerNo NoPage = NOPAGE
+answerNo Long = LONG
+answerNo Damaged = DAMAGED
+answerNo NoRecord = NONE
+answerNo Forwarded = FORWARDED
+answerNo Full = FULL
+answerNo Stale = STALE
 
 abbrev pub answerId : Answer → ℕ
 answerId (Done i) = i
@@ -55,11 +51,11 @@ outcome r s v = record { answer = answerNo r; id = answerId r; seg = s; inv = v 
 -- ---- a read: its number, and the part of the segment that it answers
 
 abbrev pub readingNo : Reading → ℕ
-readingNo (reading.At o l) = 0
-readingNo reading.Size = 1
-readingNo reading.NoPage = 2
-readingNo reading.Damaged = 4
-readingNo reading.NoRecord = 5
+readingNo (reading.At o l) = DONE
+readingNo reading.Size = SIZE
+readingNo reading.NoPage = NOPAGE
+readingNo reading.Damaged = DAMAGED
+readingNo reading.NoRecord = NONE
 
 abbrev pub readingPart : Reading → Part
 readingPart (reading.At o l) = record { offset = o; length = l }
@@ -75,7 +71,32 @@ located r = record { answer = readingNo r; part = readingPart r }
 
 abbrev pub scannedOf : Step → List ℕ → Scanned
 scannedOf (scan.Record i o l p k) s =
-    record { answer = 0; some = true; id = i; bytes = cut s o l; part = record { offset = o; length = l }; page = p; slot = k }
-scannedOf (scan.End p k) s = record { answer = 0; some = false; id = 0; bytes = []; part = noPart; page = p; slot = k }
-scannedOf scan.Size s = record { answer = 1; some = false; id = 0; bytes = []; part = noPart; page = overPage; slot = 0 }
-scannedOf scan.Damaged s = record { answer = 4; some = false; id = 0; bytes = []; part = noPart; page = overPage; slot = 0 }
+    record { answer = DONE; some = true; id = i; bytes = cut s o l; part = record { offset = o; length = l }; page = p; slot = k }
+scannedOf (scan.End p k) s = record { answer = DONE; some = false; id = 0; bytes = []; part = noPart; page = p; slot = k }
+scannedOf scan.Size s = record { answer = SIZE; some = false; id = 0; bytes = []; part = noPart; page = overPage; slot = 0 }
+scannedOf scan.Damaged s = record { answer = DAMAGED; some = false; id = 0; bytes = []; part = noPart; page = overPage; slot = 0 }
+
+-- ---- inside a call: allocate on a page, the inventory (an id's own page: Segment.byRoot)
+
+-- "If the page's answer holds no place": 8, or the slot and where its record lies
+pub record Placed : Type 0 where
+  pub answer : ℕ
+  pub slot : ℕ
+  pub offset : ℕ
+
+abbrev pub placed : Place → Placed
+placed (place.At k o) = record { answer = DONE; slot = k; offset = o }
+placed place.NoRoom = record { answer = STALE; slot = 0; offset = 0 }
+
+abbrev pub allotted : Alloc → Placed
+allotted noRoom = record { answer = STALE; slot = 0; offset = 0 }
+allotted (got k a) = record { answer = DONE; slot = k; offset = off (a .after .at k) }
+
+-- 7, or the page that the inventory names
+pub record NamedPage : Type 0 where
+  pub answer : ℕ
+  pub page : ℕ
+
+abbrev pub namedPage : Named → NamedPage
+namedPage (named.At p) = record { answer = DONE; page = p }
+namedPage named.Full = record { answer = FULL; page = 0 }

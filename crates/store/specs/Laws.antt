@@ -12,6 +12,8 @@ pub mod Compactify
 pub mod Relocate
 pub mod SoundPage
 pub mod Segments
+pub mod Roots
+pub mod Lent
 pub mod Calls
 pub mod Changes
 pub mod Pairs

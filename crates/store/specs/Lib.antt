@@ -3,6 +3,7 @@ pub mod Slots
 pub mod Page
 pub mod PageSteps
 pub mod Inventory
+pub mod Refusals
 pub mod Segment
 pub mod Calls
 pub mod Scan

@@ -239,7 +239,7 @@ parked v k = withSlot (withHead v (v .slotCount) (v .firstFree) (v .dataStart) (
 -- "Equal size: nothing. .. Larger: refused if growth exceeds free space; else moved under data start, the old bytes kept as prefix."
 abbrev pub resized : View → ℕ → ℕ → Relocated
 resized v k n =
-    cond (eqb n (len (v .at k))) (moved (stay (finished v)))
+    cond (eqb n (len (v .at k))) (moved (stay v))
     (cond (ltb n (len (v .at k))) (moved (plan (commit k (shrunk v k n) ∷ []) (shrunk v k n)))
     (cond (ltb (v .freeSpace) (n - len (v .at k))) refused
     (moved (andThen (plan (commit k (parked v k) ∷ []) (parked v k)) (λ w. moveUnder w k (v .at k) n (fit n (v .bytes k)))))))

@@ -6,7 +6,8 @@ use lib.ListN.{take, drop}
 use lib.Dec.{eqb, ltb}
 use Rattle.store.specs.Numbers.{be, idOf}
 use Rattle.store.specs.Slots.{isRecord, isTarget}
-use Rattle.store.specs.Page.{View, sound, liesWell}
+use Rattle.store.specs.Page.{View, sound, countFits, liesWell}
+use Rattle.store.specs.Refusals.{DONE, SIZE, DAMAGED}
 use Rattle.store.specs.Segment.{SegView, segView, sizeOk, Part, noPart, partOn}
 
 -- the answer's number; whether there is a record, its id, its bytes and the part of the segment that they are; and the next position
@@ -26,7 +27,7 @@ without a p k = record { answer = a; some = false; id = 0; bytes = []; part = no
 abbrev pub recordAt : View → ℕ → ℕ → Scanned
 recordAt v p k =
     record {
-      answer = 0;
+      answer = DONE;
       some = true;
       id = cond (isTarget (v .at k)) (be (take 8 (v .bytes k))) (idOf p k);
       bytes = cond (isTarget (v .at k)) (drop 8 (v .bytes k)) (v .bytes k);
@@ -44,16 +45,20 @@ nextRecord (suc m) v k = let r = nextRecord m v (k + 1) in cond (isRecord (v .at
 abbrev pub overPage : ℕ
 overPage = 32528
 
--- "checks each page on reaching it", at slot 0: from slot k of page p on, over at most m pages. A position inside a page that no scan has
--- made may name a record that does not lie as on a sound page, and is answered like damage
+-- "checks each page on reaching it", at slot 0. A position inside a page may be one that no scan has made, or the page may have been damaged
+-- since: there a count that no sound page has is damage, and so is a record that does not lie as on one
+abbrev pub damagedAt : View → ℕ → Bool
+damagedAt v k = cond (eqb k 0) (not (sound v)) (not (countFits v))
+
+-- from slot k of page p on, over at most m pages
 abbrev pub scanFrom : ℕ → SegView → ℕ → ℕ → Scanned
-scanFrom zero s p k = without 0 p k
+scanFrom zero s p k = without DONE p k
 scanFrom (suc m) s p k =
     let v = s .page p in
     let j = nextRecord (v .slotCount - k) v k in
     let r = scanFrom m s (p + 1) 0 in
-    cond (eqb k 0 && not (sound v)) (without 4 overPage 0)
-    (cond (ltb j (v .slotCount)) (cond (liesWell v j) (recordAt v p j) (without 4 overPage 0)) r)
+    cond (damagedAt v k) (without DAMAGED overPage 0)
+    (cond (ltb j (v .slotCount)) (cond (liesWell v j) (recordAt v p j) (without DAMAGED overPage 0)) r)
 
 unfoldable pub scanPlan : SegView → ℕ → ℕ → Scanned
 scanPlan s p k = scanFrom (s .pages - p) s p k
@@ -62,5 +67,5 @@ scanPlan s p k = scanFrom (s .pages - p) s p k
 -- damaged page 4 there; every later step of either answers 0 without a record."
 unfoldable pub scanStep : List ℕ → ℕ → ℕ → Scanned
 scanStep s p k =
-    cond (ltb 32527 p) (without 0 p k)
-    (cond (sizeOk s) (scanPlan (segView s) p k) (without 1 overPage 0))
+    cond (ltb 32527 p) (without DONE p k)
+    (cond (sizeOk s) (scanPlan (segView s) p k) (without SIZE overPage 0))

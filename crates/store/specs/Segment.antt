@@ -10,11 +10,14 @@ use lib.Dec.{eqb, ltb, leb}
 use Rattle.store.specs.Numbers.{cut, put, be, toBE, zeros, fit, idOf, pageNo, slotNo}
 use Rattle.store.specs.Slots.{off, len, isTarget}
 use Rattle.store.specs.Page.{View, view, sound}
+use Rattle.store.specs.Refusals.{DONE, SIZE, NOPAGE, LONG, DAMAGED, NONE, FORWARDED, FULL, STALE}
 use Rattle.store.specs.Inventory.{update, foundIn}
 use Rattle.store.specs.PageSteps.{opened, move, run, Plan, plan, andThen, withSlot, Alloc, noRoom, got, allocate, erase, eraseForRedirect}
 use Rattle.store.specs.PageSteps.{Relocated, refused, moved, relocate, filled}
 use Rattle.store.specs.declared.Named.{Named}
 use Rattle.store.specs.declared.Named.the-variants.{At, Full}
+use Rattle.store.specs.declared.Root.{Root}
+use Rattle.store.specs.declared.Root.the-variants.{Entry, NoPage, Damaged}
 use Rattle.store.specs.declared.Slot.{Slot}
 use Rattle.store.specs.declared.Slot.the-variants.{Ordinary, Free, Redirect, Target}
 
@@ -62,7 +65,7 @@ abbrev pub refuseIf : Bool → List ℕ → ℕ → Out → Out
 refuseIf b v a rest = cond b (refuse v a) rest
 
 abbrev pub done : ℕ → List OnPage → List ℕ → Out
-done i es v = record { answer = 0; id = i; steps = es; inv = v }
+done i es v = record { answer = DONE; id = i; steps = es; inv = v }
 
 -- the page's edits written into the segment
 abbrev pub carriedOn : OnPage → List ℕ → List ℕ
@@ -89,23 +92,26 @@ pub data Found : Type 0 where
   found : ℕ → ℕ → Plan → Found
 
 abbrev pub taken : ℕ → Alloc → Found
-taken p noRoom = nowhere 8
+taken p noRoom = nowhere STALE
 taken p (got k a) = found p k a
 
 -- 7, then 4 (new page), then 8: "the page named is the root's or old target's, or allocate finds no room there"
 abbrev pub findOn : SegView → ℕ → (ℕ → Bool) → Named → Found
-findOn s m excluded Full = nowhere 7
+findOn s m excluded Full = nowhere FULL
 findOn s m excluded (At p) =
-    cond (not (sound (s .page p))) (nowhere 4)
-    (cond (excluded p) (nowhere 8)
+    cond (not (sound (s .page p))) (nowhere DAMAGED)
+    (cond (excluded p) (nowhere STALE)
     (taken p (allocate (s .page p) m)))
 
 -- "A request for m bytes needs m + 8"
 abbrev pub needFor : ℕ → ℕ
 needFor m = m + 8
 
--- `names` says which page the inventory's bytes name, of n pages, for a need
-unfoldable pub find : (List ℕ → ℕ → ℕ → Named) → SegView → List ℕ → ℕ → (ℕ → Bool) → Found
+-- which page the inventory's bytes name, of n pages, for a need
+abbrev pub Naming : Type 0
+Naming = List ℕ → ℕ → ℕ → Named
+
+unfoldable pub find : Naming → SegView → List ℕ → ℕ → (ℕ → Bool) → Found
 find names s v m excluded = findOn s m excluded (names v (s .pages) (needFor m))
 
 -- ---- insert and allocate
@@ -116,16 +122,29 @@ inserted s v bs (nowhere a) = refuse v a
 inserted s v bs (found p k a) = done (idOf p k) (on p (filled a k bs) ∷ []) (update v (s .pages) p (a .after .freeSpace))
 
 -- a record with these bytes; `allocate` is the same with zeros
-unfoldable pub insertPlan : SegView → List ℕ → List ℕ → Out
-insertPlan s v bs = refuseIf (ltb 16364 (length bs)) v 3 (inserted s v bs (find foundIn s v (length bs) (λ p. false)))
+unfoldable pub insertPlan : Naming → SegView → List ℕ → List ℕ → Out
+insertPlan names s v bs = refuseIf (ltb 16364 (length bs)) v LONG (inserted s v bs (find names s v (length bs) (λ p. false)))
 
 -- of any number: 3 comes before a list of so many zeros is thought of
-abbrev pub allocatePlan : SegView → List ℕ → ℕ → Out
-allocatePlan s v n = refuseIf (ltb 16364 n) v 3 (insertPlan s v (zeros n))
+abbrev pub allocatePlan : Naming → SegView → List ℕ → ℕ → Out
+allocatePlan names s v n = refuseIf (ltb 16364 n) v LONG (insertPlan names s v (zeros n))
+
+-- ---- the id's own page: 2, then 4 (root), and then as its slot says
+
+unfoldable pub rootOf : SegView → ℕ → Root
+rootOf s i =
+    cond (leb (s .pages) (pageNo i)) NoPage
+    (cond (not (sound (s .page (pageNo i)))) Damaged
+    (Entry (s .page (pageNo i) .at (slotNo i))))
+
+abbrev pub byRoot : {A : Type 0} → (ℕ → A) → (Slot → A) → Root → A
+byRoot f g (Entry x) = g x
+byRoot f g NoPage = f NOPAGE
+byRoot f g Damaged = f DAMAGED
 
 -- ---- redirects: "A target's record begins with 8 bytes, the big-endian id of its root, and its length counts them."
 
--- 4 unless "a redirect to be followed" has "its target on another page pointing back", and that page is sound
+-- DAMAGED unless "a redirect to be followed" has "its target on another page pointing back", and that page is sound
 abbrev pub pointsBack : SegView → ℕ → ℕ → Bool
 pointsBack s i t =
     ltb (pageNo t) (s .pages) && not (eqb (pageNo t) (pageNo i)) && sound (s .page (pageNo t))
@@ -151,17 +170,11 @@ module _ (s : SegView) (v : List ℕ) (i : ℕ) (size : ℕ) (new : List ℕ →
       done i (on (pageNo i) r ∷ on q t ∷ [])
       (update (update v (s .pages) (pageNo i) (r .after .freeSpace)) (s .pages) q (t .after .freeSpace))
 
-  -- "Write and resize try the root page first. .. Last comes a new target"
-  abbrev pub fromOrdinary : List ℕ → Relocated → Out
-  fromOrdinary old (moved a) =
-      done i (on (pageNo i) (filled a (slotNo i) (new old)) ∷ []) (update v (s .pages) (pageNo i) (a .after .freeSpace))
-  fromOrdinary old refused = forwarded old (find foundIn s v (size + 8) (λ p. eqb p (pageNo i)))
-
+  -- the second forwarding: the root's slot names the new target, and the old one is freed
   module _ (t : ℕ) where
     abbrev pub target : View
     target = s .page (pageNo t)
 
-    -- the second forwarding: the root's slot names the new target, and the old one is freed
     abbrev pub forwardedAgain : List ℕ → Found → Out
     forwardedAgain old (nowhere a) = refuse v a
     forwardedAgain old (found q j a) =
@@ -171,43 +184,48 @@ module _ (s : SegView) (v : List ℕ) (i : ℕ) (size : ℕ) (new : List ℕ →
         done i (on (pageNo i) (plan (move (slotNo i) x ∷ []) x) ∷ on (pageNo t) e ∷ on q w ∷ [])
         (update (update v (s .pages) (pageNo t) (e .after .freeSpace)) (s .pages) q (w .after .freeSpace))
 
+-- where the record goes
+module _ (names : Naming) (s : SegView) (v : List ℕ) (i : ℕ) (size : ℕ) (new : List ℕ → List ℕ) where
+  -- "Write and resize try the root page first. .. Last comes a new target"
+  abbrev pub fromOrdinary : List ℕ → Relocated → Out
+  fromOrdinary old (moved a) =
+      done i (on (pageNo i) (filled a (slotNo i) (new old)) ∷ []) (update v (s .pages) (pageNo i) (a .after .freeSpace))
+  fromOrdinary old refused = forwarded s v i size new old (find names s v (size + 8) (λ p. eqb p (pageNo i)))
+
+  module _ (t : ℕ) where
     -- "For a redirect they then try the target's page with size + 8": where it lies, with the back id kept
     abbrev pub atTarget : List ℕ → Relocated → Out
     atTarget old (moved a) =
         done i (on (pageNo t) (filled a (slotNo t) (toBE 8 i ++ new old)) ∷ []) (update v (s .pages) (pageNo t) (a .after .freeSpace))
-    atTarget old refused = forwardedAgain old (find foundIn s v (size + 8) (λ p. eqb p (pageNo i) || eqb p (pageNo t)))
+    atTarget old refused = forwardedAgain s v i size new t old (find names s v (size + 8) (λ p. eqb p (pageNo i) || eqb p (pageNo t)))
 
     -- "moving home frees the target"
     abbrev pub atHome : List ℕ → Relocated → Out
     atHome old (moved a) =
-        let e = erase target (slotNo t) in
+        let e = erase (s .page (pageNo t)) (slotNo t) in
         done i (on (pageNo i) (filled a (slotNo i) (new old)) ∷ on (pageNo t) e ∷ [])
         (update (update v (s .pages) (pageNo i) (a .after .freeSpace)) (s .pages) (pageNo t) (e .after .freeSpace))
-    atHome old refused = atTarget old (relocate target (slotNo t) (size + 8))
+    atHome old refused = atTarget old (relocate (s .page (pageNo t)) (slotNo t) (size + 8))
 
     abbrev pub fromRedirect : Out
-    fromRedirect = atHome (drop 8 (target .bytes (slotNo t))) (relocate root (slotNo i) size)
+    fromRedirect = atHome (drop 8 (s .page (pageNo t) .bytes (slotNo t))) (relocate (s .page (pageNo i)) (slotNo i) size)
 
   -- 5, 6, 4 (target)
   abbrev pub storeBy : Slot → Out
-  storeBy (Ordinary o l) = fromOrdinary (root .bytes (slotNo i)) (relocate root (slotNo i) size)
-  storeBy Free = refuse v 5
-  storeBy (Redirect t) = refuseIf (not (pointsBack s i t)) v 4 (fromRedirect t)
-  storeBy (Target o l) = refuse v 6
+  storeBy (Ordinary o l) = fromOrdinary (s .page (pageNo i) .bytes (slotNo i)) (relocate (s .page (pageNo i)) (slotNo i) size)
+  storeBy Free = refuse v NONE
+  storeBy (Redirect t) = refuseIf (not (pointsBack s i t)) v DAMAGED (fromRedirect t)
+  storeBy (Target o l) = refuse v FORWARDED
 
   -- 3, 2, 4 (root)
   unfoldable pub storePlan : Out
-  storePlan =
-      refuseIf (ltb 16364 size) v 3
-      (refuseIf (leb (s .pages) (pageNo i)) v 2
-      (refuseIf (not (sound root)) v 4
-      (storeBy (root .at (slotNo i)))))
+  storePlan = refuseIf (ltb 16364 size) v LONG (byRoot (refuse v) storeBy (rootOf s i))
 
-abbrev pub writePlan : SegView → List ℕ → ℕ → List ℕ → Out
-writePlan s v i bs = storePlan s v i (length bs) (λ old. bs)
+abbrev pub writePlan : Naming → SegView → List ℕ → ℕ → List ℕ → Out
+writePlan names s v i bs = storePlan names s v i (length bs) (λ old. bs)
 
-abbrev pub resizePlan : SegView → List ℕ → ℕ → ℕ → Out
-resizePlan s v i n = storePlan s v i n (fit n)
+abbrev pub resizePlan : Naming → SegView → List ℕ → ℕ → ℕ → Out
+resizePlan names s v i n = storePlan names s v i n (fit n)
 
 -- ---- erase
 
@@ -215,38 +233,35 @@ abbrev pub eraseBy : SegView → List ℕ → ℕ → Slot → Out
 eraseBy s v i (Ordinary o l) =
     let e = erase (s .page (pageNo i)) (slotNo i) in
     done i (on (pageNo i) e ∷ []) (update v (s .pages) (pageNo i) (e .after .freeSpace))
-eraseBy s v i Free = refuse v 5
+eraseBy s v i Free = refuse v NONE
 eraseBy s v i (Redirect t) =
     let e = erase (s .page (pageNo i)) (slotNo i) in
     let f = erase (s .page (pageNo t)) (slotNo t) in
-    refuseIf (not (pointsBack s i t)) v 4
+    refuseIf (not (pointsBack s i t)) v DAMAGED
     (done i (on (pageNo i) e ∷ on (pageNo t) f ∷ [])
     (update (update v (s .pages) (pageNo t) (f .after .freeSpace)) (s .pages) (pageNo i) (e .after .freeSpace)))
-eraseBy s v i (Target o l) = refuse v 6
+eraseBy s v i (Target o l) = refuse v FORWARDED
 
 unfoldable pub erasePlan : SegView → List ℕ → ℕ → Out
-erasePlan s v i =
-    refuseIf (leb (s .pages) (pageNo i)) v 2
-    (refuseIf (not (sound (s .page (pageNo i)))) v 4
-    (eraseBy s v i (s .page (pageNo i) .at (slotNo i))))
+erasePlan s v i = byRoot (refuse v) (eraseBy s v i) (rootOf s i)
 
 -- ---- the steps: what each call answers and leaves
 
--- "Order: 1, 3, 2, 4 (root), 5, 6, 4 (target), 7, 4 (new page), 8."
+-- 1 comes first
 abbrev pub step : List ℕ → List ℕ → Out → Result
-step s v o = result s (refuseIf (not (sizeOk s && invOk v)) v 1 o)
+step s v o = result s (refuseIf (not (sizeOk s && invOk v)) v SIZE o)
 
 unfoldable pub insertStep : List ℕ → List ℕ → List ℕ → Result
-insertStep s v bs = step s v (insertPlan (segView s) v bs)
+insertStep s v bs = step s v (insertPlan foundIn (segView s) v bs)
 
 unfoldable pub allocateStep : List ℕ → List ℕ → ℕ → Result
-allocateStep s v n = step s v (allocatePlan (segView s) v n)
+allocateStep s v n = step s v (allocatePlan foundIn (segView s) v n)
 
 unfoldable pub writeStep : List ℕ → List ℕ → ℕ → List ℕ → Result
-writeStep s v i bs = step s v (writePlan (segView s) v i bs)
+writeStep s v i bs = step s v (writePlan foundIn (segView s) v i bs)
 
 unfoldable pub resizeStep : List ℕ → List ℕ → ℕ → ℕ → Result
-resizeStep s v i n = step s v (resizePlan (segView s) v i n)
+resizeStep s v i n = step s v (resizePlan foundIn (segView s) v i n)
 
 unfoldable pub eraseStep : List ℕ → List ℕ → ℕ → Result
 eraseStep s v i = step s v (erasePlan (segView s) v i)
@@ -263,19 +278,16 @@ noRead a = record { answer = a; bytes = [] }
 
 -- "the record, without the 8 bytes. Reading a target's own id gives its data, as the Rust does."
 abbrev pub readBy : SegView → ℕ → Slot → Read
-readBy s i (Ordinary o l) = record { answer = 0; bytes = s .page (pageNo i) .bytes (slotNo i) }
-readBy s i Free = noRead 5
-readBy s i (Redirect t) = cond (pointsBack s i t) (record { answer = 0; bytes = drop 8 (s .page (pageNo t) .bytes (slotNo t)) }) (noRead 4)
-readBy s i (Target o l) = record { answer = 0; bytes = drop 8 (s .page (pageNo i) .bytes (slotNo i)) }
+readBy s i (Ordinary o l) = record { answer = DONE; bytes = s .page (pageNo i) .bytes (slotNo i) }
+readBy s i Free = noRead NONE
+readBy s i (Redirect t) = cond (pointsBack s i t) (record { answer = DONE; bytes = drop 8 (s .page (pageNo t) .bytes (slotNo t)) }) (noRead DAMAGED)
+readBy s i (Target o l) = record { answer = DONE; bytes = drop 8 (s .page (pageNo i) .bytes (slotNo i)) }
 
 unfoldable pub readPlan : SegView → ℕ → Read
-readPlan s i =
-    cond (leb (s .pages) (pageNo i)) (noRead 2)
-    (cond (not (sound (s .page (pageNo i)))) (noRead 4)
-    (readBy s i (s .page (pageNo i) .at (slotNo i))))
+readPlan s i = byRoot noRead (readBy s i) (rootOf s i)
 
 unfoldable pub readStep : List ℕ → ℕ → Read
-readStep s i = cond (sizeOk s) (readPlan (segView s) i) (noRead 1)
+readStep s i = cond (sizeOk s) (readPlan (segView s) i) (noRead SIZE)
 
 -- "A read answers the part of the lent segment that is the record": on page p as the slot says, a target's without its 8 bytes
 pub record Part : Type 0 where
@@ -305,4 +317,4 @@ pub record Located : Type 0 where
 unfoldable pub locateStep : List ℕ → ℕ → Located
 locateStep s i =
     let a = readStep s i .answer in
-    record { answer = a; part = cond (eqb a 0) (partBy (segView s) i (segView s .page (pageNo i) .at (slotNo i))) noPart }
+    record { answer = a; part = cond (eqb a DONE) (partBy (segView s) i (segView s .page (pageNo i) .at (slotNo i))) noPart }

@@ -7,6 +7,13 @@ pub enum Slot {
     Target { offset: usize, length: usize },
 }
 
+// What the own page of an id answers: its slot's entry, or a refusal.
+pub enum Root {
+    Entry { slot: Slot },
+    NoPage,
+    Damaged,
+}
+
 // What allocate on a page finds.
 pub enum Place {
     At { slot: usize, offset: usize },
@@ -41,7 +48,7 @@ pub enum Reading {
     NoRecord,
 }
 
-// What a step of the scan answers: a record and the next place, or none.
+// What a step of the scan answers: a record and the next position, or none.
 pub enum Step {
     Record {
         id: usize,

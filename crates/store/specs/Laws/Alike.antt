@@ -2,14 +2,14 @@
 -- header bytes, entry bytes and record bytes.
 use Prim.Native.Nat.{ℕ, zero, suc, _+_, _*_, _/_, _%_, _≤_, _<_}
 use mathlib.Core.Path.{_≡_, refl, sym, ap, _∙_, subst}
-use mathlib.Core.Bool.{true, cond, _&&_}
+use mathlib.Core.Bool.{true, false, cond, _&&_}
 use mathlib.Core.List.{List, [], _∷_}
 use mathlib.Core.Logic.{inl, inr, ⊎-elim}
 use native.Mathlib.Omega.{arith}
 use native.Mathlib.Decide.{ℕ-discrete, decLt}
 use lib.ListN.{length, getD}
 use lib.Dec.{eqb, ltb, leb}
-use borrow.Author.Tests.{eq-eqb, le-ltb, eqb-true}
+use borrow.Author.Tests.{le-ltb, eqb-true, ne-eqb}
 use Rattle.store.specs.Numbers.{cut, put, be, pageNo, slotNo}
 use Rattle.store.specs.Slots.{off, slotBytes, slotOf}
 use Rattle.store.specs.Page.{View, view, count, slotAt, bytesAt, fresh, sound}
@@ -136,12 +136,20 @@ view-bytes : (p : List ℕ) (v : View) → view p ≡ v → (k : ℕ) → bytesA
 unfolding view
 view-bytes p v e k = ap (λ (w : View). w .bytes k) e
 
+-- a page that shows a slot is not fresh
+in-use : (p : List ℕ) (v : View) → view p ≡ v → 0 < v .slotCount → fresh (view p) ≡ false
+in-use p v e l = ap fresh e ∙ ne-eqb (v .slotCount) 0 (λ z. omega arith)
+
+fresh-count : (p : List ℕ) → fresh (view p) ≡ true → count p ≡ 0
+unfolding view
+fresh-count p e = eqb-true (count p) 0 e
+
 header-like : (p q : List ℕ) → AlikePage p q → 0 < count p → cut p 0 12 ≡ cut q 0 12
-header-like p q (both-fresh a b) l = absurd (omega arith)
+header-like p q (both-fresh a b) l = absurd (omega (arith, fresh-count p a))
 header-like p q (both-used a b c d e) l = c
 
 entry-like : (p q : List ℕ) → AlikePage p q → (k : ℕ) → k < count p → cut p (12 + 8 * k) 8 ≡ cut q (12 + 8 * k) 8
-entry-like p q (both-fresh a b) k l = absurd (omega arith)
+entry-like p q (both-fresh a b) k l = absurd (omega (arith, fresh-count p a))
 entry-like p q (both-used a b c d e) k l = d k l
 
 step-like : (p q : List ℕ) (a : Plan) → length p ≡ 16384 → length q ≡ 16384 → view (run (a .edits) p) ≡ a .after → view (run (a .edits) q) ≡ a .after
@@ -149,8 +157,7 @@ step-like : (p q : List ℕ) (a : Plan) → length p ≡ 16384 → length q ≡ 
     → StepOk (opened (view p)) a → AlikePage p q → AlikePage (run (a .edits) p) (run (a .edits) q)
 step-like p q a lp lq ep eq few ok like =
     let cp = view-count (run (a .edits) p) (a .after) ep in
-    let cq = view-count (run (a .edits) q) (a .after) eq in
-    both-used (omega (arith, ok .used)) (omega (arith, ok .used))
+    both-used (in-use (run (a .edits) p) (a .after) ep (ok .used)) (in-use (run (a .edits) q) (a .after) eq (ok .used))
     (⊎-elim (λ l. run-both 0 12 (a .edits) p q (lp ∙ sym lq) (header-like p q like (omega (arith, opened-count p))))
     (λ w. run-headed (a .edits) p q lp lq w) (ok .header))
     (λ k l.
@@ -207,7 +214,7 @@ slot-like p q n d k = go (decLt k (count p))
 
 page-seen : (p q : List ℕ) → AlikePage p q → opened (view p) ≡ opened (view q)
 unfolding view
-page-seen p q (both-fresh a b) = rw (eq-eqb (count p) 0 a, eq-eqb (count q) 0 b)
+page-seen p q (both-fresh a b) = rw (a, b)
 page-seen p q (both-used a b c d e) =
     let n : count p ≡ count q = ap be (part-like p q 0 2 (omega arith) c) in
     let f : be (cut p 2 2) ≡ be (cut q 2 2) = ap be (part-like p q 2 2 (omega arith) c) in
@@ -231,7 +238,7 @@ page-seen p q (both-used a b c d e) =
     bytes n k (no l) = none p k (omega arith) ∙ sym (none q k (omega arith))
 
 pub alike-seen : (s t : List ℕ) → Sized s → Alike s t → AlikeByKind s t
-unfolding segView
+unfolding segView view
 alike-seen s t z h =
     record { long = h .long; seen = λ i. record { pages = h .long i / 16384; page = λ p. each p (decLt p (length s / 16384)) i } }
   where
@@ -245,7 +252,8 @@ alike-seen s t z h =
     each p (yes l) = page-seen (pageOf s p) (pageOf t p) (h .pages p l)
     each p (no l) =
         page-seen (pageOf s p) (pageOf t p)
-        (both-fresh (ap count (page-past s p (omega arith) (z .whole))) (ap count (page-past t p (omega (arith, past)) whole)))
+        (both-fresh (ap (λ (q : List ℕ). fresh (view q)) (page-past s p (omega arith) (z .whole)))
+        (ap (λ (q : List ℕ). fresh (view q)) (page-past t p (omega (arith, past)) whole)))
 
 -- of two such segments, with one inventory, both are sound
 pub like-sound : (s t v : List ℕ) → SoundSegment s v → Alike s t → SoundSegment t v

@@ -8,6 +8,7 @@ use lib.Dec.{ltb, leb, eqb}
 use borrow.Author.Tests.{leb-true}
 use Rattle.store.specs.Numbers.{fit}
 use Rattle.store.specs.PageSteps.{run}
+use Rattle.store.specs.Inventory.{foundIn}
 use Rattle.store.specs.Segment.{SegView, segView, sizeOk, invOk, pageOf, OnPage, Out, result, carried, carriedOn, step, refuse, insertPlan}
 use Rattle.store.specs.Segment.{allocatePlan, writePlan, resizePlan, erasePlan, insertStep, allocateStep, writeStep, resizeStep, eraseStep}
 use Rattle.store.specs.Segment.{noRead, readPlan, readStep}
@@ -54,10 +55,10 @@ same plan x s t v a =
 -- ---- the five writing calls: each is a plan, and exact everywhere
 
 abbrev pub planOf : Call → List ℕ → SegView → Out
-planOf (insert bs) v z = insertPlan z v bs
-planOf (allocate n) v z = allocatePlan z v n
-planOf (write i bs) v z = writePlan z v i bs
-planOf (resize i n) v z = resizePlan z v i n
+planOf (insert bs) v z = insertPlan foundIn z v bs
+planOf (allocate n) v z = allocatePlan foundIn z v n
+planOf (write i bs) v z = writePlan foundIn z v i bs
+planOf (resize i n) v z = resizePlan foundIn z v i n
 planOf (erase i) v z = erasePlan z v i
 
 pub called-plan : (c : Call) (s v : List ℕ) → called c s v ≡ step s v (planOf c v (segView s))
@@ -71,7 +72,7 @@ called-plan (erase i) s v = refl
 pub call-exacting : (c : Call) (v : List ℕ) → Exacting (planOf c v)
 call-exacting (insert bs) v z l = insert-exact z v bs
 call-exacting (allocate n) v z l =
-    by-test (λ o. AllExact z (o .steps)) (ltb 16364 n) (refuse v 3) (insertPlan (segView z) v _) (λ e. tt) (λ e. insert-exact z v _)
+    by-test (λ o. AllExact z (o .steps)) (ltb 16364 n) (refuse v 3) (insertPlan foundIn (segView z) v _) (λ e. tt) (λ e. insert-exact z v _)
 call-exacting (write i bs) v z l = store-exact z v i (length bs) (λ old. bs) (λ old. refl) l
 call-exacting (resize i n) v z l = store-exact z v i n (fit n) (length-fit n) l
 call-exacting (erase i) v z l = erase-call-exact z v i

@@ -15,9 +15,11 @@ use Rattle.store.specs.Page.{View, view, count, slotAt, fresh, sound}
 use Rattle.store.specs.PageSteps.{initialised, opened, Plan, Alloc, noRoom, got, allocated, roomFor, allocating, cost, gap, filled, move, stay}
 use Rattle.store.specs.PageSteps.{withSlot, eraseForRedirect, relocate, Relocated, refused, moved, plan, allocate, erase}
 use Rattle.store.specs.Inventory.{foundIn, entryFor, entryAt, update}
+use Rattle.store.specs.Refusals.{LONG}
 use Rattle.store.specs.Segment.{segView, pageOf, on, done, refuse, refuseIf, Found, nowhere, found, taken, findOn, needFor, find, inserted}
 use Rattle.store.specs.Segment.{insertPlan, pointsBack, eraseBy, erasePlan, targeted, forwarded, fromOrdinary, forwardedAgain, atTarget, atHome}
 use Rattle.store.specs.Segment.{fromRedirect, storeBy, storePlan}
+use Rattle.store.specs.Laws.Roots.{by-root}
 pub use Rattle.store.specs.Laws.Cases.{by-test}
 use Rattle.store.specs.Laws.Cases.{tests}
 use Rattle.store.specs.Laws.Edits.{Shows, shows-view}
@@ -40,9 +42,9 @@ or-false : (a b : Bool) → (a || b) ≡ false → (a ≡ false) × (b ≡ false
 or-false true b e = let z : _≡_ {A = ℕ} 0 1 = cc in absurd (omega arith)
 or-false false b e = (refl, e)
 
-pub page-fits : (s : List ℕ) (p : ℕ) → leb (segView s .pages) p ≡ false → p * 16384 + 16384 ≤ length s
+pub page-below : (s : List ℕ) (p : ℕ) → p < segView s .pages → p * 16384 + 16384 ≤ length s
 unfolding segView
-page-fits s p e = omega (arith, leb-false (length s / 16384) p e)
+page-below s p e = omega arith
 
 -- ---- what is known of a page that passed the test
 
@@ -126,7 +128,7 @@ find-ok s v n excluded = go (foundIn v (length s / 16384) (needFor n)) (named-ok
 
 -- ---- insert and allocate
 
-pub insert-exact : (s v bs : List ℕ) → AllExact s (insertPlan (segView s) v bs .steps)
+pub insert-exact : (s v bs : List ℕ) → AllExact s (insertPlan foundIn (segView s) v bs .steps)
 unfolding insertPlan
 insert-exact s v bs =
     by-test (λ o. AllExact s (o .steps)) (ltb 16364 (length bs)) (refuse v 3)
@@ -201,16 +203,11 @@ back-ok s i t e =
 pub erase-call-exact : (s v : List ℕ) (i : ℕ) → AllExact s (erasePlan (segView s) v i .steps)
 unfolding erasePlan
 erase-call-exact s v i =
-    by-test (λ o. AllExact s (o .steps)) (leb (segView s .pages) (pageNo i)) (refuse v 2)
-    (refuseIf (not (sound u)) v 4 (eraseBy (segView s) v i (u .at (slotNo i)))) (λ e. tt)
-    (λ e. by-test (λ o. AllExact s (o .steps)) (not (sound u)) (refuse v 4) (eraseBy (segView s) v i (u .at (slotNo i))) (λ f. tt)
-    (λ f. go (fits e) (not-false (sound u) f) (u .at (slotNo i)) refl))
+    by-root (λ o. AllExact s (o .steps)) (segView s) i (refuse v) (eraseBy (segView s) v i) (λ e. tt) (λ e f. tt)
+    (λ e f. go (page-below s (pageNo i) e) f (u .at (slotNo i)) refl)
   where
     u : View
     u = segView s .page (pageNo i)
-
-    fits : leb (segView s .pages) (pageNo i) ≡ false → pageNo i * 16384 + 16384 ≤ length s
-    fits e = page-fits s (pageNo i) e
 
     go : pageNo i * 16384 + 16384 ≤ length s → sound u ≡ true → (x : Slot) → u .at (slotNo i) ≡ x → AllExact s (eraseBy (segView s) v i x .steps)
     go h q (Ordinary o l) e = (erase-on s (pageNo i) (slotNo i) (page-ok s (pageNo i) (slotNo i) h q (ap isFree e)) (ap isFree e), tt)
@@ -272,7 +269,7 @@ module _ (s v : List ℕ) (i size : ℕ) (new : List ℕ → List ℕ) (sized : 
         (targeted-on old (λ p. eqb p (pageNo i)) q j a o) (eqb-false q (pageNo i) (o .5))
 
     ordinary-exact : (old : List ℕ) (r : Relocated) → Answered (pageOf s (pageNo i)) (segView s .page (pageNo i)) (slotNo i) size r
-        → AllExact s (fromOrdinary (segView s) v i size new old r .steps)
+        → AllExact s (fromOrdinary foundIn (segView s) v i size new old r .steps)
     ordinary-exact old (moved a) m = (
       record {
         inside = k .fits;
@@ -312,7 +309,7 @@ module _ (s v : List ℕ) (i size : ℕ) (new : List ℕ → List ℕ) (sized : 
           erased-on (targeted-on old (λ p. eqb p (pageNo i) || eqb p (pageNo t)) q j a o) (b .2) (eqb-false q (pageNo i) (n .0)) (eqb-false q (pageNo t) (n .1))
 
       at-target-exact : (old : List ℕ) (r : Relocated) → Answered (pageOf s (pageNo t)) (segView s .page (pageNo t)) (slotNo t) (size + 8) r
-          → AllExact s (atTarget (segView s) v i size new t old r .steps)
+          → AllExact s (atTarget foundIn (segView s) v i size new t old r .steps)
       at-target-exact old (moved a) m = (
         record {
           inside = b .0 .fits;
@@ -327,7 +324,7 @@ module _ (s v : List ℕ) (i size : ℕ) (new : List ℕ → List ℕ) (sized : 
           (find-ok s v (size + 8) (λ p. eqb p (pageNo i) || eqb p (pageNo t)))
 
       home-exact : (old : List ℕ) (r : Relocated) → Answered (pageOf s (pageNo i)) (segView s .page (pageNo i)) (slotNo i) size r
-          → AllExact s (atHome (segView s) v i size new t old r .steps)
+          → AllExact s (atHome foundIn (segView s) v i size new t old r .steps)
       home-exact old (moved a) m =
           two-exact s (on (pageNo i) (filled a (slotNo i) (new old))) (on (pageNo t) (erase (segView s .page (pageNo t)) (slotNo t)))
           (record {
@@ -342,27 +339,24 @@ module _ (s v : List ℕ) (i size : ℕ) (new : List ℕ → List ℕ) (sized : 
           (relocate-answer (pageOf s (pageNo t)) (segView s .page (pageNo t)) (length-page s (pageNo t) (b .0 .fits)) (b .0 .seen) (b .0 .sound)
           (slotNo t) (b .0 .counted) (size + 8) (λ e. omega arith))
 
-  pub store-exact : AllExact s (storePlan (segView s) v i size new .steps)
+  pub store-exact : AllExact s (storePlan foundIn (segView s) v i size new .steps)
   unfolding storePlan
   store-exact =
-      by-test (λ o. AllExact s (o .steps)) (ltb 16364 size) (refuse v 3)
-      (refuseIf (leb (segView s .pages) (pageNo i)) v 2 (refuseIf (not (sound r)) v 4 (storeBy (segView s) v i size new (r .at (slotNo i))))) (λ e. tt)
-      (λ d. by-test (λ o. AllExact s (o .steps)) (leb (segView s .pages) (pageNo i)) (refuse v 2)
-      (refuseIf (not (sound r)) v 4 (storeBy (segView s) v i size new (r .at (slotNo i)))) (λ e. tt)
-      (λ e. by-test (λ o. AllExact s (o .steps)) (not (sound r)) (refuse v 4) (storeBy (segView s) v i size new (r .at (slotNo i))) (λ f. tt)
-      (λ f. go (page-fits s (pageNo i) e) (not-false (sound r) f) (r .at (slotNo i)) refl)))
+      by-test (λ o. AllExact s (o .steps)) (ltb 16364 size) (refuse v LONG) _ (λ e. tt)
+      (λ d. by-root (λ o. AllExact s (o .steps)) (segView s) i (refuse v) (storeBy foundIn (segView s) v i size new) (λ e. tt) (λ e f. tt)
+      (λ e f. go (page-below s (pageNo i) e) f (r .at (slotNo i)) refl))
     where
       r : View
       r = segView s .page (pageNo i)
 
-      go : pageNo i * 16384 + 16384 ≤ length s → sound r ≡ true → (x : Slot) → r .at (slotNo i) ≡ x → AllExact s (storeBy (segView s) v i size new x .steps)
+      go : pageNo i * 16384 + 16384 ≤ length s → sound r ≡ true → (x : Slot) → r .at (slotNo i) ≡ x → AllExact s (storeBy foundIn (segView s) v i size new x .steps)
       go h q (Ordinary o l) e =
           let k = page-ok s (pageNo i) (slotNo i) h q (ap isFree e) in
           ordinary-exact k (ap isFree e) (r .bytes (slotNo i)) (relocate r (slotNo i) size)
           (root-relocate k (ap isFree e) size (λ t. let u = sym (ap isTarget e) ∙ t in let z : _≡_ {A = ℕ} 0 1 = cc in omega arith))
       go h q Free e = tt
       go h q (Redirect t) e =
-          by-test (λ o. AllExact s (o .steps)) (not (pointsBack (segView s) i t)) (refuse v 4) (fromRedirect (segView s) v i size new t) (λ b. tt)
+          by-test (λ o. AllExact s (o .steps)) (not (pointsBack (segView s) i t)) (refuse v 4) (fromRedirect foundIn (segView s) v i size new t) (λ b. tt)
           (λ b.
           let k = page-ok s (pageNo i) (slotNo i) h q (ap isFree e) in
           home-exact k (ap isFree e) t e (back-ok s i t (not-false (pointsBack (segView s) i t) b))

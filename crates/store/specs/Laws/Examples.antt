@@ -8,7 +8,7 @@ use Rattle.store.specs.Page.{View, sound}
 use Rattle.store.specs.PageSteps.{initialised, compactify, Alloc, noRoom, got, allocate, erase, eraseForRedirect, relocate}
 use Rattle.store.specs.Inventory.{classOf, nibbleAt, setNibble, entryAt, setEntry, firstFrom, nextPage, runEnd, setFrom, pulledBack, movedOn}
 use Rattle.store.specs.Inventory.{updated, update, foundIn}
-use Rattle.store.specs.Segment.{SegView, Out, find, insertPlan, storePlan, writePlan}
+use Rattle.store.specs.Segment.{SegView, Out, find, insertPlan, storePlan, writePlan, rootOf}
 use Rattle.store.specs.Laws.Segments.{settled}
 use Rattle.store.specs.Laws.Marked.{Row}
 
@@ -67,16 +67,16 @@ then s plan = record { seen = settled (did s plan .steps) (s .seen); inv = did s
 
 -- "n = 3: insert 16,000 at (0,0), 100 at (1,0), 12,000 at (1,1)."
 three : State
-three = then (then (then (start 3) (λ u v. insertPlan u v (zeros 16000))) (λ u v. insertPlan u v (zeros 100))) (λ u v. insertPlan u v (zeros 12000))
+three = then (then (then (start 3) (λ u v. insertPlan foundIn u v (zeros 16000))) (λ u v. insertPlan foundIn u v (zeros 100))) (λ u v. insertPlan foundIn u v (zeros 12000))
 
 -- "Write 5,000 to (1,0)"
 forwarded : State
-forwarded = then three (λ u v. writePlan u v (idOf 1 0) (zeros 5000))
+forwarded = then three (λ u v. writePlan foundIn u v (idOf 1 0) (zeros 5000))
 
 -- "16,365: 3."
 abbrev long : Row
 long = record {
-  got = did (start 1) (λ u v. insertPlan u v (zeros 16365)) .answer ∷ did (start 1) (λ u v. insertPlan u v (zeros 16364)) .answer ∷ [];
+  got = did (start 1) (λ u v. insertPlan foundIn u v (zeros 16365)) .answer ∷ did (start 1) (λ u v. insertPlan foundIn u v (zeros 16364)) .answer ∷ [];
   want = 3 ∷ 0 ∷ [];
 }
 
@@ -91,14 +91,14 @@ moved = record {
 -- "Then write 16,356: stays, page 2 free 0."
 abbrev fills : Row
 fills = record {
-  got = did forwarded (λ u v. writePlan u v (idOf 1 0) (zeros 16356)) .answer ∷ then forwarded
-      (λ u v. writePlan u v (idOf 1 0) (zeros 16356)) .seen .page 2 .freeSpace ∷ [];
+  got = did forwarded (λ u v. writePlan foundIn u v (idOf 1 0) (zeros 16356)) .answer ∷ then forwarded
+      (λ u v. writePlan foundIn u v (idOf 1 0) (zeros 16356)) .seen .page 2 .freeSpace ∷ [];
   want = 0 ∷ 0 ∷ [];
 }
 
 -- "16,357 instead: 7."
 abbrev over : Row
-over = record { got = did forwarded (λ u v. writePlan u v (idOf 1 0) (zeros 16357)) .answer ∷ []; want = 7 ∷ [] }
+over = record { got = did forwarded (λ u v. writePlan foundIn u v (idOf 1 0) (zeros 16357)) .answer ∷ []; want = 7 ∷ [] }
 
 full-is : full .got ≡ full .want
 unfolding into header compactify allocate
@@ -117,19 +117,23 @@ unfolding into without compactify allocate erase
 unpacked-is = refl
 
 long-is : long .got ≡ long .want
-unfolding start did sound compactify allocate classOf nibbleAt setNibble entryAt setEntry firstFrom nextPage runEnd setFrom pulledBack movedOn updated update foundIn find insertPlan
+unfolding start did sound compactify allocate classOf nibbleAt setNibble entryAt setEntry firstFrom nextPage runEnd setFrom pulledBack
+    movedOn updated update foundIn find insertPlan
 long-is = refl
 
 moved-is : moved .got ≡ moved .want
-unfolding start did then three forwarded sound compactify allocate eraseForRedirect relocate classOf nibbleAt setNibble entryAt setEntry firstFrom nextPage runEnd setFrom pulledBack movedOn updated update foundIn find insertPlan storePlan
+unfolding start did then three forwarded sound compactify allocate eraseForRedirect relocate classOf nibbleAt setNibble entryAt setEntry
+    firstFrom nextPage runEnd setFrom pulledBack movedOn updated update foundIn find insertPlan storePlan rootOf
 moved-is = refl
 
 fills-is : fills .got ≡ fills .want
-unfolding start did then three forwarded sound compactify allocate eraseForRedirect relocate classOf nibbleAt setNibble entryAt setEntry firstFrom nextPage runEnd setFrom pulledBack movedOn updated update foundIn find insertPlan storePlan
+unfolding start did then three forwarded sound compactify allocate eraseForRedirect relocate classOf nibbleAt setNibble entryAt setEntry
+    firstFrom nextPage runEnd setFrom pulledBack movedOn updated update foundIn find insertPlan storePlan rootOf
 fills-is = refl
 
 over-is : over .got ≡ over .want
-unfolding start did then three forwarded sound compactify allocate eraseForRedirect relocate classOf nibbleAt setNibble entryAt setEntry firstFrom nextPage runEnd setFrom pulledBack movedOn updated update foundIn find insertPlan storePlan
+unfolding start did then three forwarded sound compactify allocate eraseForRedirect relocate classOf nibbleAt setNibble entryAt setEntry
+    firstFrom nextPage runEnd setFrom pulledBack movedOn updated update foundIn find insertPlan storePlan rootOf
 over-is = refl
 
 rows : List Row

@@ -9,7 +9,7 @@ use Rattle.store.specs.Page.{view, sound}
 use Rattle.store.specs.PageSteps.{initialised, headBytes, apply, compactify, allocate, relocate}
 use Rattle.store.specs.Inventory.{classOf, nibbleAt, nibble, setNibble, entryAt, setEntry, firstFrom, nextPage, runEnd, setFrom, pulledBack}
 use Rattle.store.specs.Inventory.{movedOn, updated, update, foundIn}
-use Rattle.store.specs.Segment.{Result, segView, result, find, insertPlan, storePlan, insertStep, resizeStep}
+use Rattle.store.specs.Segment.{Result, segView, result, find, insertPlan, storePlan, insertStep, resizeStep, rootOf}
 use Rattle.store.specs.declared.Slot.the-variants.{Redirect, Target}
 
 pub record Row : Type 0 where
@@ -95,7 +95,8 @@ p1-is : p1 .got ≡ p1 .want
 p1-is = refl
 
 p2-is : p2 .got ≡ p2 .want
-unfolding blank three view sound apply compactify allocate classOf nibbleAt setNibble entryAt setEntry firstFrom nextPage runEnd setFrom pulledBack movedOn updated update foundIn segView result find insertPlan insertStep header
+unfolding blank three view sound apply compactify allocate classOf nibbleAt setNibble entryAt setEntry firstFrom nextPage runEnd setFrom
+    pulledBack movedOn updated update foundIn segView result find insertPlan insertStep header
 p2-is = refl
 
 p3-is : p3 .got ≡ p3 .want
@@ -121,19 +122,24 @@ unfolding classOf
 p8-is = refl
 
 p9-is : p9 .got ≡ p9 .want
-unfolding blank three view sound apply compactify allocate classOf nibbleAt setNibble entryAt setEntry firstFrom nextPage runEnd setFrom pulledBack movedOn updated update foundIn segView result find insertPlan insertStep cached
+unfolding blank three view sound apply compactify allocate classOf nibbleAt setNibble entryAt setEntry firstFrom nextPage runEnd setFrom
+    pulledBack movedOn updated update foundIn segView result find insertPlan insertStep cached
 p9-is = refl
 
 p10-is : p10 .got ≡ p10 .want
-unfolding blank three view sound apply compactify allocate classOf nibbleAt setNibble entryAt setEntry firstFrom nextPage runEnd setFrom pulledBack movedOn updated update foundIn segView result find insertPlan insertStep then
+unfolding blank three view sound apply compactify allocate classOf nibbleAt setNibble entryAt setEntry firstFrom nextPage runEnd setFrom
+    pulledBack movedOn updated update foundIn segView result find insertPlan insertStep then
 p10-is = refl
 
 p11-is : p11 .got ≡ p11 .want
-unfolding blank three view sound apply compactify allocate classOf nibbleAt setNibble entryAt setEntry firstFrom nextPage runEnd setFrom pulledBack movedOn updated update foundIn segView result find insertPlan insertStep then
+unfolding blank three view sound apply compactify allocate classOf nibbleAt setNibble entryAt setEntry firstFrom nextPage runEnd setFrom
+    pulledBack movedOn updated update foundIn segView result find insertPlan insertStep then
 p11-is = refl
 
 p12-is : p12 .got ≡ p12 .want
-unfolding blank three view sound apply compactify allocate classOf nibbleAt setNibble entryAt setEntry firstFrom nextPage runEnd setFrom pulledBack movedOn updated update foundIn segView result find insertPlan insertStep hundred grown header storePlan relocate resizeStep
+unfolding blank three view sound apply compactify allocate classOf nibbleAt setNibble entryAt setEntry firstFrom nextPage runEnd setFrom
+    pulledBack movedOn updated update foundIn segView result find insertPlan insertStep hundred grown header storePlan rootOf relocate
+    resizeStep
 p12-is = refl
 
 rows : List Row

@@ -1,5 +1,5 @@
 -- The part of the lent segment that a read or a scan's step answers has the record's bytes.
-use Prim.Native.Nat.{ℕ, zero, suc, _+_, _-_, _*_, _≤_}
+use Prim.Native.Nat.{ℕ, zero, suc, _+_, _-_, _*_, _≤_, _<_}
 use mathlib.Core.Path.{_≡_, refl, sym, ap, subst, _∙_}
 use mathlib.Core.Bool.{true, false, cond, not, _&&_}
 use mathlib.Core.List.{List}
@@ -11,11 +11,12 @@ use Rattle.store.specs.Slots.{off, len, isTarget}
 use Rattle.store.specs.Page.{View, view, fresh, liesWell, sound}
 use Rattle.store.specs.PageSteps.{initialised}
 use Rattle.store.specs.Segment.{segView, pageOf, sizeOk, pointsBack, Read, noRead, readBy, readPlan, readStep, Part, noPart, partOn, partBy, locateStep}
-use Rattle.store.specs.Scan.{Scanned, without, overPage, recordAt, nextRecord, scanFrom, scanPlan, scanStep}
+use Rattle.store.specs.Scan.{Scanned, without, overPage, recordAt, nextRecord, damagedAt, scanFrom, scanPlan, scanStep}
+use Rattle.store.specs.Laws.Roots.{by-root}
 use Rattle.store.specs.Laws.Numbers.{cut-cut, cut-drop}
 use Rattle.store.specs.Laws.SoundPage.{in-page}
 use Rattle.store.specs.Laws.Segments.{length-page}
-use Rattle.store.specs.Laws.Calls.{by-test, not-false, page-fits, sound-seen, back-ok}
+use Rattle.store.specs.Laws.Calls.{by-test, not-false, page-below, sound-seen, back-ok}
 use Rattle.store.specs.declared.Slot.{Slot}
 use Rattle.store.specs.declared.Slot.the-variants.{Ordinary, Free, Redirect, Target}
 
@@ -51,19 +52,16 @@ module _ (s : List ℕ) (i : ℕ) where
   abbrev Holds : Read → Type 0
   Holds r = held s (cond (eqb (r .answer) 0) (partBy (segView s) i (segView s .page (pageNo i) .at (slotNo i))) noPart) ≡ r .bytes
 
-  high : (p k : ℕ) → leb (segView s .pages) p ≡ false → sound (segView s .page p) ≡ true → off (segView s .page p .at k) + len (segView s .page p .at k) ≤ 16384
+  high : (p k : ℕ) → p < segView s .pages → sound (segView s .page p) ≡ true → off (segView s .page p .at k) + len (segView s .page p .at k) ≤ 16384
   unfolding segView
-  high p k l e = sound-seen (pageOf s p) (length-page s p (page-fits s p l)) e .high k
+  high p k l e = sound-seen (pageOf s p) (length-page s p (page-below s p l)) e .high k
 
   pub part-read : held s (locateStep s i .part) ≡ readStep s i .bytes
   unfolding locateStep readStep readPlan
   part-read =
       by-test Holds (sizeOk s) (readPlan (segView s) i) (noRead 1)
-      (λ z. by-test Holds (leb (segView s .pages) (pageNo i)) (noRead 2)
-      (cond (not (sound (segView s .page (pageNo i)))) (noRead 4) (readBy (segView s) i (segView s .page (pageNo i) .at (slotNo i))))
-      (λ l. refl)
-      (λ l. by-test Holds (not (sound (segView s .page (pageNo i)))) (noRead 4) (readBy (segView s) i (segView s .page (pageNo i) .at (slotNo i))) (λ u. refl)
-      (λ u. go (segView s .page (pageNo i) .at (slotNo i)) refl (high (pageNo i) (slotNo i) l (not-false (sound (segView s .page (pageNo i))) u)))))
+      (λ z. by-root Holds (segView s) i noRead (readBy (segView s) i) (λ l. refl) (λ l u. refl)
+      (λ l u. go (segView s .page (pageNo i) .at (slotNo i)) refl (high (pageNo i) (slotNo i) l u)))
       (λ z. refl)
     where
       target : (t : ℕ) → pointsBack (segView s) i t ≡ true → (x : Slot) → segView s .page (pageNo t) .at (slotNo t) ≡ x → isTarget x ≡ true
@@ -118,10 +116,10 @@ module _ (s : List ℕ) where
       j = nextRecord (v .slotCount - k) v k
 
       go : Shown (scanFrom m (segView s) (p + 1) 0)
-          → Shown (cond (eqb k 0 && not (sound v)) (without 4 overPage 0)
+          → Shown (cond (damagedAt v k) (without 4 overPage 0)
           (cond (ltb j (v .slotCount)) (cond (liesWell v j) (recordAt v p j) (without 4 overPage 0)) (scanFrom m (segView s) (p + 1) 0)))
       go ih =
-          by-test Shown (eqb k 0 && not (sound v)) (without 4 overPage 0)
+          by-test Shown (damagedAt v k) (without 4 overPage 0)
           (cond (ltb j (v .slotCount)) (cond (liesWell v j) (recordAt v p j) (without 4 overPage 0))
           (scanFrom m (segView s) (p + 1) 0)) (λ a. refl)
           (λ a. by-test Shown (ltb j (v .slotCount)) (cond (liesWell v j) (recordAt v p j) (without 4 overPage 0)) (scanFrom m (segView s) (p + 1) 0)

@@ -9,6 +9,7 @@ use lib.Dec.{leb}
 use borrow.Author.Tests.{lt-leb}
 use Rattle.store.specs.PageSteps.{plan}
 use Rattle.store.specs.Numbers.{fit, pageNo}
+use Rattle.store.specs.Laws.Roots.{root-entry}
 use Rattle.store.specs.Laws.Numbers.{fit-kept, fit-added}
 use Rattle.store.specs.Laws.Relocate.{length-fit}
 use Rattle.store.specs.Laws.Slots.{tag}
@@ -33,9 +34,7 @@ module _ (s v : List ℕ) (h : SoundSegment s v) where
   read-look i l =
       let e = seen-sound s v h in
       let m : pageNo i < segView s .pages = subst (λ (n : ℕ). pageNo i < n) (sym (seen-pages s)) l in
-      let a : leb (segView s .pages) (pageNo i) ≡ false = lt-leb (segView s .pages) (pageNo i) m in
-      let b : not (sound (segView s .page (pageNo i))) ≡ false = ap not (sound-test (segView s .page (pageNo i)) (e .sounds (pageNo i))) in
-      rw (h .whole, a, b) (go e m (slotOn (segView s) i) refl)
+      rw (h .whole, root-entry (segView s) i m (sound-test (segView s .page (pageNo i)) (e .sounds (pageNo i)))) (go e m (slotOn (segView s) i) refl)
     where
       go : Seen s v → pageNo i < segView s .pages → (x : Slot) → slotOn (segView s) i ≡ x → readBy (segView s) i x ≡ look (bytesOn (segView s)) i (tag x)
       go e m (Ordinary o k) q = refl

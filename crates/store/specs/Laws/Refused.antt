@@ -12,10 +12,12 @@ use Rattle.store.specs.Numbers.{pageNo, slotNo}
 use Rattle.store.specs.Page.{sound}
 use Rattle.store.specs.PageSteps.{Alloc, noRoom, got, allocate, Relocated, refused, moved, relocate}
 use Rattle.store.specs.Inventory.{foundIn}
+use Rattle.store.specs.Refusals.{NOPAGE, LONG, DAMAGED}
 use Rattle.store.specs.Segment.{SegView, segView, sizeOk, invOk, OnPage, Out, done, refuse, refuseIf, Result, result, carried, Found, nowhere}
 use Rattle.store.specs.Segment.{found, taken, findOn, find, inserted, insertPlan, pointsBack, forwarded, fromOrdinary, forwardedAgain, atTarget}
 use Rattle.store.specs.Segment.{atHome, storeBy, storePlan, eraseBy, erasePlan}
 use Rattle.store.specs.Calls.{Call, insert, allocate as allocateCall, write, resize, erase, called}
+use Rattle.store.specs.Laws.Roots.{by-root}
 use Rattle.store.specs.Laws.Calls.{by-test}
 use Rattle.store.specs.Laws.Segments.{planned}
 use Rattle.store.specs.Laws.AlikeByKind.{planOf, called-plan}
@@ -67,7 +69,7 @@ module _ (u : SegView) (v : List ℕ) where
   inserted-keeps bs (nowhere a) h = refusal v a h
   inserted-keeps bs (found p k a) h = is-done v _ _ _
 
-  insert-plan : (bs : List ℕ) → RefusedOrDone v (insertPlan u v bs)
+  insert-plan : (bs : List ℕ) → RefusedOrDone v (insertPlan foundIn u v bs)
   unfolding insertPlan
   insert-plan bs = refuse-if (ltb 16364 (length bs)) v 3 _ (omega arith)
       (inserted-keeps bs (find foundIn u v (length bs) (λ p. false)) (find-most u v (length bs) (λ p. false)))
@@ -77,7 +79,7 @@ module _ (u : SegView) (v : List ℕ) where
     forwarded-keeps old (nowhere a) h = refusal v a h
     forwarded-keeps old (found q j a) h = is-done v _ _ _
 
-    ordinary-keeps : (old : List ℕ) (r : Relocated) → RefusedOrDone v (fromOrdinary u v i size new old r)
+    ordinary-keeps : (old : List ℕ) (r : Relocated) → RefusedOrDone v (fromOrdinary foundIn u v i size new old r)
     ordinary-keeps old (moved a) = is-done v _ _ _
     ordinary-keeps old refused = let ex : ℕ → Bool = λ p. eqb p (pageNo i) in forwarded-keeps old (find foundIn u v (size + 8) ex) (find-most u v (size + 8) ex)
 
@@ -85,27 +87,27 @@ module _ (u : SegView) (v : List ℕ) where
     again-keeps t old (nowhere a) h = refusal v a h
     again-keeps t old (found q j a) h = is-done v _ _ _
 
-    target-keeps : (t : ℕ) (old : List ℕ) (r : Relocated) → RefusedOrDone v (atTarget u v i size new t old r)
+    target-keeps : (t : ℕ) (old : List ℕ) (r : Relocated) → RefusedOrDone v (atTarget foundIn u v i size new t old r)
     target-keeps t old (moved a) = is-done v _ _ _
     target-keeps t old refused = let ex : ℕ → Bool = λ p. eqb p (pageNo i) || eqb p (pageNo t) in
         again-keeps t old (find foundIn u v (size + 8) ex) (find-most u v (size + 8) ex)
 
-    home-keeps : (t : ℕ) (old : List ℕ) (r : Relocated) → RefusedOrDone v (atHome u v i size new t old r)
+    home-keeps : (t : ℕ) (old : List ℕ) (r : Relocated) → RefusedOrDone v (atHome foundIn u v i size new t old r)
     home-keeps t old (moved a) = is-done v _ _ _
     home-keeps t old refused = target-keeps t old (relocate (u .page (pageNo t)) (slotNo t) (size + 8))
 
-    by-slot : (x : Slot) → RefusedOrDone v (storeBy u v i size new x)
+    by-slot : (x : Slot) → RefusedOrDone v (storeBy foundIn u v i size new x)
     by-slot (Ordinary o l) = ordinary-keeps _ (relocate (u .page (pageNo i)) (slotNo i) size)
     by-slot Free = refusal v 5 (omega arith)
     by-slot (Redirect t) = refuse-if (not (pointsBack u i t)) v 4 _ (omega arith) (home-keeps t _ (relocate (u .page (pageNo i)) (slotNo i) size))
     by-slot (Target o l) = refusal v 6 (omega arith)
 
-    store-plan : RefusedOrDone v (storePlan u v i size new)
+    store-plan : RefusedOrDone v (storePlan foundIn u v i size new)
     unfolding storePlan
     store-plan =
-        refuse-if (ltb 16364 size) v 3 _ (omega arith)
-        (refuse-if (leb (u .pages) (pageNo i)) v 2 _ (omega arith)
-        (refuse-if (not (sound (u .page (pageNo i)))) v 4 _ (omega arith) (by-slot (u .page (pageNo i) .at (slotNo i)))))
+        refuse-if (ltb 16364 size) v LONG _ (omega arith)
+        (by-root (RefusedOrDone v) u i (refuse v) (storeBy foundIn u v i size new) (λ e. refusal v NOPAGE (omega arith))
+        (λ e f. refusal v DAMAGED (omega arith)) (λ e f. by-slot (u .page (pageNo i) .at (slotNo i))))
 
   erase-by : (i : ℕ) (x : Slot) → RefusedOrDone v (eraseBy u v i x)
   erase-by i (Ordinary o l) = is-done v _ _ _
@@ -116,8 +118,8 @@ module _ (u : SegView) (v : List ℕ) where
   erase-plan : (i : ℕ) → RefusedOrDone v (erasePlan u v i)
   unfolding erasePlan
   erase-plan i =
-      refuse-if (leb (u .pages) (pageNo i)) v 2 _ (omega arith)
-      (refuse-if (not (sound (u .page (pageNo i)))) v 4 _ (omega arith) (erase-by i (u .page (pageNo i) .at (slotNo i))))
+      by-root (RefusedOrDone v) u i (refuse v) (eraseBy u v i) (λ e. refusal v NOPAGE (omega arith)) (λ e f. refusal v DAMAGED (omega arith))
+      (λ e f. erase-by i (u .page (pageNo i) .at (slotNo i)))
 
   call-plan : (c : Call) → RefusedOrDone v (planOf c v u)
   call-plan (insert bs) = insert-plan bs

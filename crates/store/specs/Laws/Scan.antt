@@ -12,8 +12,9 @@ use Rattle.store.specs.Numbers.{be, idOf, pageNo, slotNo}
 use Rattle.store.specs.Slots.{isRecord, isTarget}
 use Rattle.store.specs.Page.{View, liesWell, sound}
 use Rattle.store.specs.Segment.{segView, sizeOk, Read, noRead, readBy, readPlan, readStep}
-use Rattle.store.specs.Scan.{Scanned, without, overPage, recordAt, nextRecord, scanFrom, scanPlan, scanStep}
+use Rattle.store.specs.Scan.{Scanned, without, overPage, recordAt, nextRecord, damagedAt, scanFrom, scanPlan, scanStep}
 use Rattle.store.specs.SoundSegment.{slotOn, SoundSegment}
+use Rattle.store.specs.Laws.Roots.{root-entry}
 use Rattle.store.specs.Laws.SoundPage.{sound-test}
 use Rattle.store.specs.Laws.Calls.{by-test}
 use Rattle.store.specs.Laws.Stays.{page-of, slot-of, points-back}
@@ -51,7 +52,7 @@ module _ (s v : List ℕ) (h : SoundSegment s v) where
 
   read-by : (i : ℕ) → pageNo i < segView s .pages → readStep s i ≡ readBy (segView s) i (slotOn (segView s) i)
   unfolding readStep readPlan
-  read-by i l = rw (h .whole, lt-leb (segView s .pages) (pageNo i) l, sound-test (segView s .page (pageNo i)) (seen-sound s v h .sounds (pageNo i)))
+  read-by i l = rw (h .whole, root-entry (segView s) i l (sound-test (segView s .page (pageNo i)) (seen-sound s v h .sounds (pageNo i))))
 
   -- of slot j on page p, which holds a record
   module _ (p j : ℕ) (below : p < segView s .pages) (counted : j < segView s .page p .slotCount) where
@@ -103,10 +104,10 @@ module _ (s v : List ℕ) (h : SoundSegment s v) where
           record-reads p j (omega arith) c (w .at j) refl (next-record (w .slotCount - k) w k (omega (arith, next-low (w .slotCount - k) w k)))
 
       go : Reads (scanFrom m (segView s) (p + 1) 0)
-          → Reads (cond (eqb k 0 && not (sound w)) (without 4 overPage 0)
+          → Reads (cond (damagedAt w k) (without 4 overPage 0)
           (cond (ltb j (w .slotCount)) (cond (liesWell w j) (recordAt w p j) (without 4 overPage 0)) (scanFrom m (segView s) (p + 1) 0)))
       go ih =
-          by-test Reads (eqb k 0 && not (sound w)) (without 4 overPage 0)
+          by-test Reads (damagedAt w k) (without 4 overPage 0)
           (cond (ltb j (w .slotCount)) (cond (liesWell w j) (recordAt w p j) (without 4 overPage 0)) (scanFrom m (segView s) (p + 1) 0))
           (λ a. none 4 overPage 0)
           (λ a. by-test Reads (ltb j (w .slotCount)) (cond (liesWell w j) (recordAt w p j) (without 4 overPage 0)) (scanFrom m (segView s) (p + 1) 0)

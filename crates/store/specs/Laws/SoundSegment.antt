@@ -8,16 +8,18 @@ use native.Mathlib.Omega.{arith}
 use native.Mathlib.Decide.{decLt}
 use lib.ListN.{length, length-take, length-drop}
 use lib.Dec.{eqb, ltb, leb}
-use borrow.Author.Tests.{leb-true, leb-false, eqb-true}
+use borrow.Author.Tests.{leb-true, leb-false, le-leb, eqb-true}
 use Rattle.store.specs.Numbers.{zeros, fit, pageNo, slotNo}
-use Rattle.store.specs.Page.{View, view, fresh, soundTests, passes, sound, liesWell}
+use Rattle.store.specs.Page.{View, view, fresh, countFits, soundTests, passes, sound, liesWell}
 use Rattle.store.specs.PageSteps.{initialised, opened, plan}
 use Rattle.store.specs.Inventory.{Truth}
+use Rattle.store.specs.Inventory.{foundIn}
 use Rattle.store.specs.Segment.{SegView, segView, pageOf, sizeOk, OnPage, Out, Result, result, carried, step, refuse, insertPlan, Read, noRead}
 use Rattle.store.specs.Segment.{readBy, readPlan, readStep}
+use Rattle.store.specs.Laws.Roots.{by-sound-root}
 use Rattle.store.specs.Laws.Views.{Sound}
 use Rattle.store.specs.Laws.SoundPage.{and-both, sound-init, sound-opened, sound-test, good-in}
-use Rattle.store.specs.Scan.{Scanned, without, overPage, recordAt, nextRecord, scanFrom, scanPlan, scanStep}
+use Rattle.store.specs.Scan.{Scanned, without, overPage, recordAt, nextRecord, damagedAt, scanFrom, scanPlan, scanStep}
 use Rattle.store.specs.Laws.Segments.{AllExact, AllSound, length-page, settled, settledOn, carried-seen, settled-sound}
 use Rattle.store.specs.Laws.Calls.{by-test}
 use Rattle.store.specs.Laws.AlikeByKind.{length-carried, Exacting, planOf, called-plan, call-exacting}
@@ -147,7 +149,7 @@ plan-right plan w s v x k h =
 
 -- ---- the five writing calls
 
-insert-keeps : (s v bs : List ℕ) → Seen s v → Stays (segView s) v (wrote bs) (insertPlan (segView s) v bs)
+insert-keeps : (s v bs : List ℕ) → Seen s v → Stays (segView s) v (wrote bs) (insertPlan foundIn (segView s) v bs)
 insert-keeps s v bs e = insert-stays (segView s) (e .sounds) (e .few) v (e .one) (e .pairs) (e .truth) bs
 
 -- what the answer's id reads as, after a call that is carried out
@@ -161,7 +163,7 @@ rowOf (erase i) u = noRead 5
 pub call-staying : (c : Call) (v : List ℕ) → Staying (planOf c v) (rowOf c) v
 call-staying (insert bs) v z e = insert-keeps z v bs e
 call-staying (allocate n) v z e =
-    by-test (Stays (segView z) v (wrote (zeros n))) (ltb 16364 n) (refuse v 3) (insertPlan (segView z) v _)
+    by-test (Stays (segView z) v (wrote (zeros n))) (ltb 16364 n) (refuse v 3) (insertPlan foundIn (segView z) v _)
     (λ f. refusal (segView z) (e .sounds) (e .few) v (e .one) (e .pairs) (e .truth) (wrote (zeros n)) 3 (λ x. omega arith) (λ x. omega arith)
     (λ x. omega arith))
     (λ f. insert-keeps z v _ e)
@@ -186,9 +188,11 @@ calls-right (c ∷ cs) s v h =
 
 -- ---- reads and scans
 
-and-no : (b : Bool) → (b && false) ≡ false
-and-no true = refl
-and-no false = refl
+-- on a sound page no position is damaged
+undamaged : (w : View) → Sound w → (k : ℕ) → damagedAt w k ≡ false
+undamaged w t k =
+    by-test (λ (b : Bool). b ≡ false) (eqb k 0) (not (sound w)) (not (countFits w)) (λ e. ap not (sound-test w t))
+    (λ e. ap not (le-leb (w .slotCount) 2046 (t .few)))
 
 module _ (s v : List ℕ) (h : SoundSegment s v) where
   read-whole : (i : ℕ) → readPlan (segView s) i .answer ≢ 4
@@ -196,11 +200,8 @@ module _ (s v : List ℕ) (h : SoundSegment s v) where
   read-whole i =
       let e = seen-sound s v h in
       let r : View = segView s .page (pageNo i) in
-      by-test (λ (d : Read). d .answer ≢ 4) (leb (segView s .pages) (pageNo i)) (noRead 2)
-      (cond (not (sound r)) (noRead 4) (readBy (segView s) i (r .at (slotNo i)))) (λ a x. omega arith)
-      (λ a. by-test (λ (d : Read). d .answer ≢ 4) (not (sound r)) (noRead 4) (readBy (segView s) i (r .at (slotNo i)))
-      (λ b. let y : not (sound r) ≡ false = ap not (sound-test r (e .sounds (pageNo i))) in let z : _≡_ {A = ℕ} 0 1 = cc in absurd (omega arith))
-      (λ b. go e (leb-false (segView s .pages) (pageNo i) a) (r .at (slotNo i)) refl))
+      by-sound-root (λ (d : Read). d .answer ≢ 4) (segView s) i noRead (readBy (segView s) i) (sound-test r (e .sounds (pageNo i)))
+      (λ l x. omega arith) (λ l. go e l (r .at (slotNo i)) refl)
     where
       go : Seen s v → pageNo i < segView s .pages → (x : Slot) → segView s .page (pageNo i) .at (slotNo i) ≡ x → readBy (segView s) i x .answer ≢ 4
       go e l (Ordinary o k) q = λ x. omega arith
@@ -226,12 +227,11 @@ module _ (s v : List ℕ) (h : SoundSegment s v) where
       record-whole = λ x. omega arith
 
       go : scanFrom m (segView s) (p + 1) 0 .answer ≢ 4
-          → cond (eqb k 0 && not (sound w)) (without 4 overPage 0)
+          → cond (damagedAt w k) (without 4 overPage 0)
           (cond (ltb j (w .slotCount)) (cond (liesWell w j) (recordAt w p j) (without 4 overPage 0)) (scanFrom m (segView s) (p + 1) 0)) .answer ≢ 4
       go ih =
           let t = seen-sound s v h .sounds p in
-          let b : (eqb k 0 && not (sound w)) ≡ false = ap (λ (y : Bool). eqb k 0 && not y) (sound-test w t) ∙ and-no (eqb k 0) in
-          rw (b, good-in w t j) (by-test (λ (d : Scanned). d .answer ≢ 4) (ltb j (w .slotCount)) (recordAt w p j) (scanFrom m (segView s) (p + 1) 0)
+          rw (undamaged w t k, good-in w t j) (by-test (λ (d : Scanned). d .answer ≢ 4) (ltb j (w .slotCount)) (recordAt w p j) (scanFrom m (segView s) (p + 1) 0)
           (λ a. record-whole) (λ a. ih))
 
   -- wherever the scan stands

@@ -11,12 +11,14 @@ use lib.ListN.{length, take, drop}
 use lib.Dec.{eqb, ltb, leb}
 use borrow.Author.Tests.{eq-eqb, ne-eqb, lt-ltb, eqb-true, eqb-false, leb-false, ltb-true, ltb-false}
 use Rattle.store.specs.Numbers.{be, toBE, zeros, upd, sum, pageNo, slotNo, idOf}
+use Rattle.store.specs.Laws.Roots.{by-sound-root}
 use Rattle.store.specs.Laws.Slots.{tag}
 use Rattle.store.specs.Slots.{off, len, isFree, isTarget, placed}
 use Rattle.store.specs.Page.{View, sound}
 use Rattle.store.specs.PageSteps.{move, Plan, withSlot, Alloc, noRoom, got, eraseForRedirect, Relocated, refused, moved, relocate, filled, plan}
 use Rattle.store.specs.PageSteps.{allocate, erase}
 use Rattle.store.specs.Inventory.{classOf, entryFor, entryAt, Truth, update, foundIn}
+use Rattle.store.specs.Refusals.{NOPAGE, LONG}
 use Rattle.store.specs.Segment.{SegView, OnPage, on, Out, done, refuse, refuseIf, Found, nowhere, found, taken, findOn, needFor, find, inserted}
 use Rattle.store.specs.Segment.{insertPlan, pointsBack, targeted, forwarded, fromOrdinary, forwardedAgain, atTarget, atHome, fromRedirect}
 use Rattle.store.specs.Segment.{storeBy, storePlan, eraseBy, erasePlan, Read, noRead}
@@ -333,7 +335,7 @@ module _ (u : SegView) (sounds : (p : ℕ) → Sound (u .page p)) (few : u .page
 
   -- ---- insert and allocate
 
-  pub insert-stays : (bs : List ℕ) → Stays u v (wrote bs) (insertPlan u v bs)
+  pub insert-stays : (bs : List ℕ) → Stays u v (wrote bs) (insertPlan foundIn u v bs)
   unfolding insertPlan
   insert-stays bs =
       by-test (Stays u v (wrote bs)) (ltb 16364 (length bs)) (refuse v 3) (inserted u v bs (find foundIn u v (length bs) (λ p. false)))
@@ -350,7 +352,7 @@ module _ (u : SegView) (sounds : (p : ℕ) → Sound (u .page p)) (few : u .page
           (subst Plain (sym (free-tag q j (o .3 .small) (o .2))) tt) tt refl)
 
   -- an id that is handed out was free
-  pub insert-new : (bs : List ℕ) → insertPlan u v bs .answer ≡ 0 → tagOn u (insertPlan u v bs .id) ≡ Free
+  pub insert-new : (bs : List ℕ) → insertPlan foundIn u v bs .answer ≡ 0 → tagOn u (insertPlan foundIn u v bs .id) ≡ Free
   unfolding insertPlan
   insert-new bs =
       by-test (λ (o : Out). o .answer ≡ 0 → tagOn u (o .id) ≡ Free) (ltb 16364 (length bs)) (refuse v 3)
@@ -415,11 +417,8 @@ module _ (u : SegView) (sounds : (p : ℕ) → Sound (u .page p)) (few : u .page
   pub erase-stays : (i : ℕ) → Stays u v (noRead 5) (erasePlan u v i)
   unfolding erasePlan
   erase-stays i =
-      by-test (Stays u v (noRead 5)) (leb (u .pages) (pageNo i)) (refuse v 2) (refuseIf (not (sound r)) v 4 (eraseBy u v i (r .at (slotNo i))))
-      (λ e. refusal (noRead 5) 2 (λ x. omega arith) (λ x. omega arith) (λ x. omega arith))
-      (λ e. by-test (Stays u v (noRead 5)) (not (sound r)) (refuse v 4) (eraseBy u v i (r .at (slotNo i)))
-      (λ f. let y : not (sound r) ≡ false = ap not (sound-test r (sounds (pageNo i))) in let z : _≡_ {A = ℕ} 0 1 = cc in absurd (omega arith))
-      (λ f. go (leb-false (u .pages) (pageNo i) e) (r .at (slotNo i)) refl))
+      by-sound-root (Stays u v (noRead 5)) u i (refuse v) (eraseBy u v i) (sound-test r (sounds (pageNo i)))
+      (λ e. refusal (noRead 5) NOPAGE (λ x. omega arith) (λ x. omega arith) (λ x. omega arith)) (λ l. go l (r .at (slotNo i)) refl)
     where
       r : View
       r = u .page (pageNo i)
@@ -477,7 +476,7 @@ module _ (u : SegView) (sounds : (p : ℕ) → Sound (u .page p)) (few : u .page
           (λ e. n (sym (page-of q j h) ∙ e)) plain (free-tag q j h (o .2)) (back-read i (new old) small-id))
 
       ordinary-stays : (o l : ℕ) → slotOn u i ≡ Ordinary o l → (old : List ℕ) (r : Relocated)
-          → Relocates (u .page (pageNo i)) (sounds (pageNo i)) (slotNo i) inside taken size r → Stays u v (wrote (new old)) (fromOrdinary u v i size new old r)
+          → Relocates (u .page (pageNo i)) (sounds (pageNo i)) (slotNo i) inside taken size r → Stays u v (wrote (new old)) (fromOrdinary foundIn u v i size new old r)
       ordinary-stays o l e old (moved a) m =
           one-step (wrote (new old)) i below (pageNo i) (slotNo i) (placed (slotOn u i) 0 size) (new old) (filled a (slotNo i) (new old)) below
           (m (new old)) i (id-of i)
@@ -520,7 +519,7 @@ module _ (u : SegView) (sounds : (p : ℕ) → Sound (u .page p)) (few : u .page
 
         at-target-stays : (old : List ℕ) → u .page (pageNo i) .freeSpace < size → (r : Relocated)
             → Relocates (u .page (pageNo t)) (sounds (pageNo t)) (slotNo t) (target-counted i t below here) (target-taken i t below here) (size + 8) r
-            → Stays u v (wrote (new old)) (atTarget u v i size new t old r)
+            → Stays u v (wrote (new old)) (atTarget foundIn u v i size new t old r)
         at-target-stays old short (moved a) m =
             let bs : List ℕ = toBE 8 i ++ new old in
             one-step (wrote (new old)) i below (pageNo t) (slotNo t) (Target 0 (size + 8)) bs (filled a (slotNo t) bs) (partner i t below here .0)
@@ -539,7 +538,7 @@ module _ (u : SegView) (sounds : (p : ℕ) → Sound (u .page p)) (few : u .page
             (or-true (eqb q (pageNo i)) (eqb q (pageNo t)) x)))
 
         home-stays : (old : List ℕ) (r : Relocated) → Relocates (u .page (pageNo i)) (sounds (pageNo i)) (slotNo i) inside taken size r
-            → Stays u v (wrote (new old)) (atHome u v i size new t old r)
+            → Stays u v (wrote (new old)) (atHome foundIn u v i size new t old r)
         home-stays old (moved a) m =
             two-steps (wrote (new old)) i below (pageNo i) (slotNo i) (placed (slotOn u i) 0 size) (new old) (filled a (slotNo i) (new old)) below
             (m (new old)) i (id-of i)
@@ -552,37 +551,33 @@ module _ (u : SegView) (sounds : (p : ℕ) → Sound (u .page p)) (few : u .page
             at-target-stays old m (relocate (u .page (pageNo t)) (slotNo t) (size + 8))
             (relocate-changes (u .page (pageNo t)) (sounds (pageNo t)) (slotNo t) (target-counted i t below here) (target-taken i t below here) (size + 8))
 
-  pub store-stays : (i size : ℕ) (new : List ℕ → List ℕ) → Stays u v (wrote (new (oldBytes u i))) (storePlan u v i size new)
+  pub store-stays : (i size : ℕ) (new : List ℕ → List ℕ) → Stays u v (wrote (new (oldBytes u i))) (storePlan foundIn u v i size new)
   unfolding storePlan
   store-stays i size new =
-      by-test (Stays u v (wrote (new (oldBytes u i)))) (ltb 16364 size) (refuse v 3)
-      (refuseIf (leb (u .pages) (pageNo i)) v 2 (refuseIf (not (sound r)) v 4 (storeBy u v i size new (r .at (slotNo i)))))
-      (λ d. refusal (wrote (new (oldBytes u i))) 3 (λ x. omega arith) (λ x. omega arith) (λ x. omega arith))
-      (λ d. by-test (Stays u v (wrote (new (oldBytes u i)))) (leb (u .pages) (pageNo i)) (refuse v 2)
-      (refuseIf (not (sound r)) v 4 (storeBy u v i size new (r .at (slotNo i))))
-      (λ e. refusal (wrote (new (oldBytes u i))) 2 (λ x. omega arith) (λ x. omega arith) (λ x. omega arith))
-      (λ e. by-test (Stays u v (wrote (new (oldBytes u i)))) (not (sound r)) (refuse v 4) (storeBy u v i size new (r .at (slotNo i)))
-      (λ f. let y : not (sound r) ≡ false = ap not (sound-test r (sounds (pageNo i))) in let z : _≡_ {A = ℕ} 0 1 = cc in absurd (omega arith))
-      (λ f. go (leb-false (u .pages) (pageNo i) e) (r .at (slotNo i)) refl)))
+      by-test (Stays u v (wrote (new (oldBytes u i)))) (ltb 16364 size) (refuse v LONG) _
+      (λ d. refusal (wrote (new (oldBytes u i))) LONG (λ x. omega arith) (λ x. omega arith) (λ x. omega arith))
+      (λ d. by-sound-root (Stays u v (wrote (new (oldBytes u i)))) u i (refuse v) (storeBy foundIn u v i size new) (sound-test r (sounds (pageNo i)))
+      (λ e. refusal (wrote (new (oldBytes u i))) NOPAGE (λ x. omega arith) (λ x. omega arith) (λ x. omega arith))
+      (λ l. go l (r .at (slotNo i)) refl))
     where
       r : View
       r = u .page (pageNo i)
 
-      go : pageNo i < u .pages → (x : Slot) → r .at (slotNo i) ≡ x → Stays u v (wrote (new (oldBytes u i))) (storeBy u v i size new x)
+      go : pageNo i < u .pages → (x : Slot) → r .at (slotNo i) ≡ x → Stays u v (wrote (new (oldBytes u i))) (storeBy foundIn u v i size new x)
       go l (Ordinary o k) e =
           let y : isFree (slotOn u i) ≡ false = ap isFree e in
           let b : oldBytes u i ≡ r .bytes (slotNo i) = ap (λ (x : Slot). look (bytesOn u) i (tag x) .bytes) e in
-          subst (λ (z : List ℕ). Stays u v (wrote (new z)) (storeBy u v i size new (Ordinary o k))) (sym b)
+          subst (λ (z : List ℕ). Stays u v (wrote (new z)) (storeBy foundIn u v i size new (Ordinary o k))) (sym b)
           (ordinary-stays i size new l y o k e (r .bytes (slotNo i)) (relocate r (slotNo i) size)
           (relocate-changes r (sounds (pageNo i)) (slotNo i) (inside i size new l y) y size))
       go l Free e = refusal (wrote (new (oldBytes u i))) 5 (λ x. omega arith) (λ x. omega arith) (λ x. omega arith)
       go l (Redirect t) e =
-          by-test (Stays u v (wrote (new (oldBytes u i)))) (not (pointsBack u i t)) (refuse v 4) (fromRedirect u v i size new t)
+          by-test (Stays u v (wrote (new (oldBytes u i)))) (not (pointsBack u i t)) (refuse v 4) (fromRedirect foundIn u v i size new t)
           (λ f. let y : not (pointsBack u i t) ≡ false = ap not (points-back i t l e) in let z : _≡_ {A = ℕ} 0 1 = cc in absurd (omega arith))
           (λ f.
           let y : isFree (slotOn u i) ≡ false = ap isFree e in
           let b : oldBytes u i ≡ drop 8 (u .page (pageNo t) .bytes (slotNo t)) = ap (λ (x : Slot). look (bytesOn u) i (tag x) .bytes) e in
-          subst (λ (z : List ℕ). Stays u v (wrote (new z)) (fromRedirect u v i size new t)) (sym b)
+          subst (λ (z : List ℕ). Stays u v (wrote (new z)) (fromRedirect foundIn u v i size new t)) (sym b)
           (home-stays i size new l y t e (drop 8 (u .page (pageNo t) .bytes (slotNo t))) (relocate r (slotNo i) size)
           (relocate-changes r (sounds (pageNo i)) (slotNo i) (inside i size new l y) y size)))
       go l (Target o k) e = refusal (wrote (new (oldBytes u i))) 6 (λ x. omega arith) (λ x. omega arith) (λ x. omega arith)

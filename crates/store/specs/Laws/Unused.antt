@@ -4,6 +4,7 @@ use mathlib.Core.Path.{_≡_, sym, subst}
 use mathlib.Core.List.{List}
 use native.Mathlib.Omega.{arith}
 use lib.Dec.{ltb}
+use Rattle.store.specs.Inventory.{foundIn}
 use Rattle.store.specs.Segment.{segView, Out, Result, result, refuse, insertPlan}
 use Rattle.store.specs.Calls.{Call, insert, allocate, write, resize, erase, called}
 use Rattle.store.specs.SoundSegment.{SoundSegment}
@@ -25,7 +26,7 @@ Makes (erase i) = ⊥
 plan-unused : (c : Call) (s v : List ℕ) → Makes c → Seen s v → planOf c v (segView s) .answer ≡ 0 → tagOn (segView s) (planOf c v (segView s) .id) ≡ Free
 plan-unused (insert bs) s v m e = insert-new (segView s) (e .sounds) (e .few) v (e .one) (e .pairs) (e .truth) bs
 plan-unused (allocate n) s v m e =
-    by-test (λ (o : Out). o .answer ≡ 0 → tagOn (segView s) (o .id) ≡ Free) (ltb 16364 n) (refuse v 3) (insertPlan (segView s) v _)
+    by-test (λ (o : Out). o .answer ≡ 0 → tagOn (segView s) (o .id) ≡ Free) (ltb 16364 n) (refuse v 3) (insertPlan foundIn (segView s) v _)
     (λ b x. absurd (omega arith))
     (λ b. insert-new (segView s) (e .sounds) (e .few) v (e .one) (e .pairs) (e .truth) _)
 plan-unused (write i bs) s v m e = absurd m

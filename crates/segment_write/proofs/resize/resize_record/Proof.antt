@@ -7,6 +7,7 @@ use native.Mathlib.Omega.{arith}
 use borrow.Author.Tests.{not-true, not-false}
 use Rattle.store.specs.Numbers.{fit, pageNo}
 use Rattle.store.specs.Page.{sound}
+use Rattle.store.specs.Inventory.{foundIn}
 use Rattle.store.specs.Segment.{segView, sizeOk, invOk, result, storeBy, resizeStep}
 use Rattle.store.specs.declared.Slot.{Slot}
 use Rattle.segment_steps.specs.After.{sizes}
@@ -29,7 +30,7 @@ sound-here c = let e : c .before .page-sound .result ≡ true = not-false _ (c .
 
 by-slot : (c : tie.After-slot-on) (x : Slot) → c .slot-on .result ≡ x
     → let a = c .before .before .before .before .before .before .before .before .before .before .before .before .before .args in
-    result (now (a .segment)) (storeBy (segView (now (a .segment))) (now (a .inventory)) (a .id) (a .size) (fit (a .size)) x)
+    result (now (a .segment)) (storeBy foundIn (segView (now (a .segment))) (now (a .inventory)) (a .id) (a .size) (fit (a .size)) x)
     ≡ resizeStep (now (a .segment)) (now (a .inventory)) (a .id) (a .size)
 by-slot c x e =
     let a = c .before .before .before .before .before .before .before .before .before .before .before .before .before .args in

@@ -9,6 +9,7 @@ use borrow.Author.Tests.{not-true, not-false}
 use Rattle.store.specs.Numbers.{pageNo}
 use Rattle.store.specs.Slots.{isFree, isTarget}
 use Rattle.store.specs.Page.{sound}
+use Rattle.store.specs.Inventory.{foundIn}
 use Rattle.store.specs.Segment.{segView, sizeOk, invOk, result, storeBy, writeStep}
 use Rattle.store.specs.declared.Slot.{Slot}
 use Rattle.segment_steps.specs.After.{sizes}
@@ -31,7 +32,7 @@ sound-here c = let e : c .before .page-sound .result ≡ true = not-false _ (c .
 
 by-slot : (c : tie.After-slot-on) (x : Slot) → c .slot-on .result ≡ x
     → let a = c .before .before .before .before .before .before .before .before .before .before .before .before .before .before .args in
-    result (now (a .segment)) (storeBy (segView (now (a .segment))) (now (a .inventory)) (a .id) (length (now (a .bytes)))
+    result (now (a .segment)) (storeBy foundIn (segView (now (a .segment))) (now (a .inventory)) (a .id) (length (now (a .bytes)))
     (λ old. now (a .bytes)) x) ≡ writeStep (now (a .segment)) (now (a .inventory)) (a .id) (now (a .bytes))
 by-slot c x e =
     let a = c .before .before .before .before .before .before .before .before .before .before .before .before .before .before .args in
