@@ -138,7 +138,8 @@ pub fn at_home(
         → (now (segment .exit) ≡ now (segment .entry)) × (now (inventory .exit) ≡ now (inventory .entry)))
         × (wasMoved (relocate (seen (now (segment .entry)) (pageNo id)) (slotNo id) size) ≡ true
         → outcome (Answer.Done id) (now (segment .exit)) (now (inventory .exit))
-        ≡ result (now (segment .entry)) (atHome foundIn (segView (now (segment .entry))) (now (inventory .entry)) id size (λ o. fit size (now (bytes .entry))) t []
+        ≡ result (now (segment .entry))
+        (atHome foundIn (segView (now (segment .entry))) (now (inventory .entry)) id size (λ o. fit size (now (bytes .entry))) t []
         (relocate (seen (now (segment .entry)) (pageNo id)) (slotNo id) size))) ⌝ }
 {
     if !segment_steps::rewrite_on(segment, id / 65536, id % 65536, bytes, size) {

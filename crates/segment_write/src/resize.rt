@@ -26,7 +26,8 @@ fn resize_ordinary(
     requires { ⌜ (pageNo id * 16384 + 16384 ≤ length (now segment)) × (sound (seen (now segment) (pageNo id)) ≡ true)
         × (seen (now segment) (pageNo id) .at (slotNo id) ≡ Slot.Ordinary offset n) × (size ≤ 16364) ⌝ }
     ensures { λ r. ⌜ outcome r (now (segment .exit)) (now (inventory .exit))
-        ≡ result (now (segment .entry)) (storeBy foundIn (segView (now (segment .entry))) (now (inventory .entry)) id size (fit size) (Slot.Ordinary offset n)) ⌝ }
+        ≡ result (now (segment .entry))
+        (storeBy foundIn (segView (now (segment .entry))) (now (inventory .entry)) id size (fit size) (Slot.Ordinary offset n)) ⌝ }
 {
     if segment_steps::resize_on(segment, id / 65536, id % 65536, size) {
         segment_steps::update_on(segment, inventory, id / 65536);

@@ -6,8 +6,8 @@ use mathlib.Core.List.{List, [], _∷_, _++_}
 use mathlib.Core.Logic.{_≢_}
 use native.Mathlib.Omega.{arith}
 use lib.ListN.{length, take, drop, length-append}
-use lib.Dec.{ltb, leb, eqb}
-use borrow.Author.Tests.{le-ltb, leb-false, ltb-true, eqb-true, eqb-false}
+use lib.Dec.{ltb, eqb}
+use borrow.Author.Tests.{le-ltb, ltb-true, eqb-true, eqb-false}
 use native.Mathlib.Decide.{decLt}
 use Rattle.store.specs.Numbers.{cut, be, toBE, pageNo, slotNo, idOf}
 use Rattle.store.specs.Slots.{off, len, isFree, isTarget}
@@ -16,7 +16,7 @@ use Rattle.store.specs.PageSteps.{initialised, opened, Plan, Alloc, noRo
 use Rattle.store.specs.PageSteps.{withSlot, eraseForRedirect, relocate, Relocated, refused, moved, plan, allocate, erase}
 use Rattle.store.specs.Inventory.{foundIn, entryFor, entryAt, update}
 use Rattle.store.specs.Refusals.{LONG}
-use Rattle.store.specs.Segment.{segView, pageOf, on, done, refuse, refuseIf, Found, nowhere, found, taken, findOn, needFor, find, inserted}
+use Rattle.store.specs.Segment.{segView, pageOf, on, done, refuse, Found, nowhere, found, taken, findOn, needFor, find, inserted}
 use Rattle.store.specs.Segment.{insertPlan, pointsBack, eraseBy, erasePlan, targeted, forwarded, fromOrdinary, forwardedAgain, atTarget, atHome}
 use Rattle.store.specs.Segment.{fromRedirect, storeBy, storePlan}
 use Rattle.store.specs.Laws.Roots.{by-root}
@@ -349,7 +349,8 @@ module _ (s v : List ℕ) (i size : ℕ) (new : List ℕ → List ℕ) (sized : 
       r : View
       r = segView s .page (pageNo i)
 
-      go : pageNo i * 16384 + 16384 ≤ length s → sound r ≡ true → (x : Slot) → r .at (slotNo i) ≡ x → AllExact s (storeBy foundIn (segView s) v i size new x .steps)
+      go : pageNo i * 16384 + 16384 ≤ length s → sound r ≡ true → (x : Slot) → r .at (slotNo i) ≡ x
+          → AllExact s (storeBy foundIn (segView s) v i size new x .steps)
       go h q (Ordinary o l) e =
           let k = page-ok s (pageNo i) (slotNo i) h q (ap isFree e) in
           ordinary-exact k (ap isFree e) (r .bytes (slotNo i)) (relocate r (slotNo i) size)

@@ -67,7 +67,8 @@ then s plan = record { seen = settled (did s plan .steps) (s .seen); inv = did s
 
 -- "n = 3: insert 16,000 at (0,0), 100 at (1,0), 12,000 at (1,1)."
 three : State
-three = then (then (then (start 3) (λ u v. insertPlan foundIn u v (zeros 16000))) (λ u v. insertPlan foundIn u v (zeros 100))) (λ u v. insertPlan foundIn u v (zeros 12000))
+three = then (then (then (start 3) (λ u v. insertPlan foundIn u v (zeros 16000))) (λ u v. insertPlan foundIn u v (zeros 100)))
+    (λ u v. insertPlan foundIn u v (zeros 12000))
 
 -- "Write 5,000 to (1,0)"
 forwarded : State

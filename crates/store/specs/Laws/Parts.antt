@@ -1,11 +1,11 @@
 -- The part of the lent segment that a read or a scan's step answers has the record's bytes.
 use Prim.Native.Nat.{ℕ, zero, suc, _+_, _-_, _*_, _≤_, _<_}
 use mathlib.Core.Path.{_≡_, refl, sym, ap, subst, _∙_}
-use mathlib.Core.Bool.{true, false, cond, not, _&&_}
+use mathlib.Core.Bool.{true, cond}
 use mathlib.Core.List.{List}
 use native.Mathlib.Omega.{arith}
 use lib.ListN.{length, drop}
-use lib.Dec.{eqb, ltb, leb}
+use lib.Dec.{eqb, ltb}
 use Rattle.store.specs.Numbers.{cut, pageNo, slotNo}
 use Rattle.store.specs.Slots.{off, len, isTarget}
 use Rattle.store.specs.Page.{View, view, fresh, liesWell, sound}
@@ -16,7 +16,7 @@ use Rattle.store.specs.Laws.Roots.{by-root}
 use Rattle.store.specs.Laws.Numbers.{cut-cut, cut-drop}
 use Rattle.store.specs.Laws.SoundPage.{in-page}
 use Rattle.store.specs.Laws.Segments.{length-page}
-use Rattle.store.specs.Laws.Calls.{by-test, not-false, page-below, sound-seen, back-ok}
+use Rattle.store.specs.Laws.Calls.{by-test, page-below, sound-seen, back-ok}
 use Rattle.store.specs.declared.Slot.{Slot}
 use Rattle.store.specs.declared.Slot.the-variants.{Ordinary, Free, Redirect, Target}
 

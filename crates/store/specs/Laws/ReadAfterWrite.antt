@@ -1,19 +1,15 @@
 -- Read after write: from a sound segment, what a read gives after a call that is carried out, by the answer's id and by every other root.
 use Prim.Native.Nat.{ℕ, _/_, _≤_, _<_}
 use mathlib.Core.Path.{_≡_, refl, sym, ap, _∙_, subst}
-use mathlib.Core.Bool.{false, not}
 use mathlib.Core.List.{List}
 use mathlib.Core.Logic.{_≢_}
 use lib.ListN.{length, getD}
-use lib.Dec.{leb}
-use borrow.Author.Tests.{lt-leb}
 use Rattle.store.specs.PageSteps.{plan}
 use Rattle.store.specs.Numbers.{fit, pageNo}
 use Rattle.store.specs.Laws.Roots.{root-entry}
 use Rattle.store.specs.Laws.Numbers.{fit-kept, fit-added}
 use Rattle.store.specs.Laws.Relocate.{length-fit}
 use Rattle.store.specs.Laws.Slots.{tag}
-use Rattle.store.specs.Page.{sound}
 use Rattle.store.specs.Segment.{SegView, segView, Out, Result, result, carried, step, resizeStep, Read, readBy, readPlan, readStep}
 use Rattle.store.specs.Laws.SoundPage.{sound-test}
 use Rattle.store.specs.Laws.Segments.{AllExact, settled}

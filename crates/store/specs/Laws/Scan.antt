@@ -1,16 +1,16 @@
 -- A row that the scan hands out is the row that a read by its id gives, in a sound segment.
 use Prim.Native.Nat.{ℕ, zero, suc, _+_, _-_, _≤_, _<_}
 use mathlib.Core.Path.{_≡_, refl, sym, ap, subst, _∙_}
-use mathlib.Core.Bool.{Bool, true, false, cond, not, _&&_}
+use mathlib.Core.Bool.{Bool, true, false, cond}
 use mathlib.Core.List.{List}
 use native.Mathlib.Omega.{arith}
 use native.Mathlib.Decide.{decLt}
 use lib.ListN.{drop, take}
-use lib.Dec.{eqb, ltb}
-use borrow.Author.Tests.{ltb-true, lt-leb}
+use lib.Dec.{ltb}
+use borrow.Author.Tests.{ltb-true}
 use Rattle.store.specs.Numbers.{be, idOf, pageNo, slotNo}
 use Rattle.store.specs.Slots.{isRecord, isTarget}
-use Rattle.store.specs.Page.{View, liesWell, sound}
+use Rattle.store.specs.Page.{View, liesWell}
 use Rattle.store.specs.Segment.{segView, sizeOk, Read, noRead, readBy, readPlan, readStep}
 use Rattle.store.specs.Scan.{Scanned, without, overPage, recordAt, nextRecord, damagedAt, scanFrom, scanPlan, scanStep}
 use Rattle.store.specs.SoundSegment.{slotOn, SoundSegment}

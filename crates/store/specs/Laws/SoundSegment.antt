@@ -8,7 +8,7 @@ use native.Mathlib.Omega.{arith}
 use native.Mathlib.Decide.{decLt}
 use lib.ListN.{length, length-take, length-drop}
 use lib.Dec.{eqb, ltb, leb}
-use borrow.Author.Tests.{leb-true, leb-false, le-leb, eqb-true}
+use borrow.Author.Tests.{leb-true, le-leb, eqb-true}
 use Rattle.store.specs.Numbers.{zeros, fit, pageNo, slotNo}
 use Rattle.store.specs.Page.{View, view, fresh, countFits, soundTests, passes, sound, liesWell}
 use Rattle.store.specs.PageSteps.{initialised, opened, plan}
@@ -231,7 +231,8 @@ module _ (s v : List ℕ) (h : SoundSegment s v) where
           (cond (ltb j (w .slotCount)) (cond (liesWell w j) (recordAt w p j) (without 4 overPage 0)) (scanFrom m (segView s) (p + 1) 0)) .answer ≢ 4
       go ih =
           let t = seen-sound s v h .sounds p in
-          rw (undamaged w t k, good-in w t j) (by-test (λ (d : Scanned). d .answer ≢ 4) (ltb j (w .slotCount)) (recordAt w p j) (scanFrom m (segView s) (p + 1) 0)
+          rw (undamaged w t k, good-in w t j)
+          (by-test (λ (d : Scanned). d .answer ≢ 4) (ltb j (w .slotCount)) (recordAt w p j) (scanFrom m (segView s) (p + 1) 0)
           (λ a. record-whole) (λ a. ih))
 
   -- wherever the scan stands

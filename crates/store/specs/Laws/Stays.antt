@@ -8,8 +8,8 @@ use mathlib.Core.Logic.{_⊎_, inl, inr, ⊎-elim, _≢_}
 use native.Mathlib.Omega.{arith}
 use native.Mathlib.Decide.{ℕ-discrete, decLt}
 use lib.ListN.{length, take, drop}
-use lib.Dec.{eqb, ltb, leb}
-use borrow.Author.Tests.{eq-eqb, ne-eqb, lt-ltb, eqb-true, eqb-false, leb-false, ltb-true, ltb-false}
+use lib.Dec.{eqb, ltb}
+use borrow.Author.Tests.{eq-eqb, ne-eqb, lt-ltb, eqb-true, eqb-false, ltb-true, ltb-false}
 use Rattle.store.specs.Numbers.{be, toBE, zeros, upd, sum, pageNo, slotNo, idOf}
 use Rattle.store.specs.Laws.Roots.{by-sound-root}
 use Rattle.store.specs.Laws.Slots.{tag}
@@ -19,7 +19,7 @@ use Rattle.store.specs.PageSteps.{move, Plan, withSlot, Alloc, noRoom, g
 use Rattle.store.specs.PageSteps.{allocate, erase}
 use Rattle.store.specs.Inventory.{classOf, entryFor, entryAt, Truth, update, foundIn}
 use Rattle.store.specs.Refusals.{NOPAGE, LONG}
-use Rattle.store.specs.Segment.{SegView, OnPage, on, Out, done, refuse, refuseIf, Found, nowhere, found, taken, findOn, needFor, find, inserted}
+use Rattle.store.specs.Segment.{SegView, OnPage, on, Out, done, refuse, Found, nowhere, found, taken, findOn, needFor, find, inserted}
 use Rattle.store.specs.Segment.{insertPlan, pointsBack, targeted, forwarded, fromOrdinary, forwardedAgain, atTarget, atHome, fromRedirect}
 use Rattle.store.specs.Segment.{storeBy, storePlan, eraseBy, erasePlan, Read, noRead}
 use Rattle.store.specs.Laws.Numbers.{be-toBE}
@@ -476,7 +476,8 @@ module _ (u : SegView) (sounds : (p : ℕ) → Sound (u .page p)) (few : u .page
           (λ e. n (sym (page-of q j h) ∙ e)) plain (free-tag q j h (o .2)) (back-read i (new old) small-id))
 
       ordinary-stays : (o l : ℕ) → slotOn u i ≡ Ordinary o l → (old : List ℕ) (r : Relocated)
-          → Relocates (u .page (pageNo i)) (sounds (pageNo i)) (slotNo i) inside taken size r → Stays u v (wrote (new old)) (fromOrdinary foundIn u v i size new old r)
+          → Relocates (u .page (pageNo i)) (sounds (pageNo i)) (slotNo i) inside taken size r
+          → Stays u v (wrote (new old)) (fromOrdinary foundIn u v i size new old r)
       ordinary-stays o l e old (moved a) m =
           one-step (wrote (new old)) i below (pageNo i) (slotNo i) (placed (slotOn u i) 0 size) (new old) (filled a (slotNo i) (new old)) below
           (m (new old)) i (id-of i)
