@@ -21,7 +21,7 @@ use Rattle.store.specs.Laws.SoundPage.{sound-test}
 use Rattle.store.specs.Laws.Calls.{target-taken}
 use Rattle.store.specs.Laws.Pairs.{tagOn, look}
 use Rattle.store.specs.Laws.SoundSegment.{page-past, sized, seen-sound, seen-page, seen-pages, sound-closed}
-use Rattle.store.specs.Laws.ReadAfterWrite.{read-look}
+use Rattle.store.specs.Laws.Rows.{read-look}
 use Rattle.store.specs.declared.Slot.{Slot}
 use Rattle.store.specs.declared.Slot.the-variants.{Free}
 

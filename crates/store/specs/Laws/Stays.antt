@@ -32,8 +32,8 @@ use Rattle.store.specs.Laws.Calls.{by-test}
 use Rattle.store.specs.Laws.OneSlot.{cost-most}
 use Rattle.store.specs.Laws.Changes.{Writes, Headed, Changes, retag, fill-changes, alloc-changes, AllocChanges, erase-changes, redirect-changes}
 use Rattle.store.specs.Laws.Changes.{entry-changes, Relocates, relocate-changes}
-use Rattle.store.specs.SoundSegment.{slotOn, bytesOn, nibbleOf, classes}
-use Rattle.store.specs.Laws.Pairs.{PairOk, Pairs, tagOn, tag-target, moves-by, Moves, look, rowAt, Root, Plain, pairs-one, pairs-target}
+use Rattle.store.specs.SoundSegment.{slotOn, bytesOn, Root, nibbleOf, classes}
+use Rattle.store.specs.Laws.Pairs.{PairOk, Pairs, tagOn, tag-target, moves-by, Moves, look, rowAt, Plain, pairs-one, pairs-target}
 use Rattle.store.specs.Laws.Pairs.{pairs-home, pairs-again, pairs-forward}
 use Rattle.store.specs.Laws.Settled.{page-else, tags-step, bytes-step, classes-step, classes-same, classes-bounded, changed-bounded}
 use Rattle.store.specs.Laws.Settled.{changed-swap, update-true, length-update}
@@ -330,8 +330,11 @@ module _ (u : SegView) (sounds : (p : ℕ) → Sound (u .page p)) (few : u .page
           (λ x. absurd (omega (arith, out p x .1, h .2 (out p x .0))))
           (λ x. placed-in p (h .0) x (h .1) (allocate (u .page p) m) (alloc-changes (u .page p) (sounds p) m)))
 
+  free-slot : (q j : ℕ) → j < 65536 → u .page q .at j ≡ Free → slotOn u (idOf q j) ≡ Free
+  free-slot q j l e = (λ i. u .page (page-of q j l i) .at (slot-of q j l i)) ∙ e
+
   free-tag : (q j : ℕ) → j < 65536 → u .page q .at j ≡ Free → tagOn u (idOf q j) ≡ Free
-  free-tag q j l e = (λ i. tag (u .page (page-of q j l i) .at (slot-of q j l i))) ∙ ap tag e
+  free-tag q j l e = ap tag (free-slot q j l e)
 
   -- ---- insert and allocate
 
@@ -352,16 +355,16 @@ module _ (u : SegView) (sounds : (p : ℕ) → Sound (u .page p)) (few : u .page
           (subst Plain (sym (free-tag q j (o .3 .small) (o .2))) tt) tt refl)
 
   -- an id that is handed out was free
-  pub insert-new : (bs : List ℕ) → insertPlan foundIn u v bs .answer ≡ 0 → tagOn u (insertPlan foundIn u v bs .id) ≡ Free
+  pub insert-new : (bs : List ℕ) → insertPlan foundIn u v bs .answer ≡ 0 → slotOn u (insertPlan foundIn u v bs .id) ≡ Free
   unfolding insertPlan
   insert-new bs =
-      by-test (λ (o : Out). o .answer ≡ 0 → tagOn u (o .id) ≡ Free) (ltb 16364 (length bs)) (refuse v 3)
+      by-test (λ (o : Out). o .answer ≡ 0 → slotOn u (o .id) ≡ Free) (ltb 16364 (length bs)) (refuse v 3)
       (inserted u v bs (find foundIn u v (length bs) (λ p. false))) (λ e x. absurd (omega arith))
       (λ e. go (find foundIn u v (length bs) (λ p. false)) (find-fits (length bs) (λ p. false) (λ q x. let z : _≡_ {A = ℕ} 0 1 = cc in absurd (omega arith))))
     where
-      go : (f : Found) → FoundFits (length bs) (λ p. false) f → inserted u v bs f .answer ≡ 0 → tagOn u (inserted u v bs f .id) ≡ Free
+      go : (f : Found) → FoundFits (length bs) (λ p. false) f → inserted u v bs f .answer ≡ 0 → slotOn u (inserted u v bs f .id) ≡ Free
       go (nowhere a) o x = absurd (omega arith)
-      go (found q j a) o x = free-tag q j (o .3 .small) (o .2)
+      go (found q j a) o x = free-slot q j (o .3 .small) (o .2)
 
   -- ---- a redirect of a sound segment leads to its target
 
