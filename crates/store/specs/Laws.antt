@@ -29,5 +29,3 @@ pub mod Scan
 pub mod Rows
 pub mod Grown
 pub mod Blank
-pub mod Marked
-pub mod Examples

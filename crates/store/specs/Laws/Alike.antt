@@ -10,24 +10,21 @@ use native.Mathlib.Decide.{ℕ-discrete, decLt}
 use lib.ListN.{length, getD}
 use lib.Dec.{eqb, ltb, leb}
 use borrow.Author.Tests.{le-ltb, eqb-true, ne-eqb}
-use Rattle.store.specs.Numbers.{cut, put, be, pageNo, slotNo}
+use Rattle.store.specs.Numbers.{cut, put, be}
 use Rattle.store.specs.Slots.{off, slotBytes, slotOf}
 use Rattle.store.specs.Page.{View, view, count, slotAt, bytesAt, fresh, sound}
 use Rattle.store.specs.PageSteps.{initialised, opened, Edit, head, move, commit, fill, apply, run, Plan, headBytes, putHead, putSlot, putBytes, plan}
-use Rattle.store.specs.Inventory.{Truth}
-use Rattle.store.specs.Segment.{SegView, segView, pageOf, OnPage, Out, result, carried, carriedOn, step, sizeOk, Read, noPart, partBy, locateStep}
+use Rattle.store.specs.Segment.{SegView, segView, pageOf, OnPage, Out, result, carried, carriedOn, step, sizeOk, Read}
 use Rattle.store.specs.Laws.Numbers.{length-put, cut-same, cut-take}
-use Rattle.store.specs.Laws.SoundPage.{sound-test}
 use Rattle.store.specs.Laws.Exact.{length-apply, length-run}
 use Rattle.store.specs.Laws.Segments.{AllExact, length-page, page-same, page-other, carried-on}
 use Rattle.store.specs.Laws.Calls.{by-test}
 use Rattle.store.specs.Laws.Changes.{Writes, Headed}
-use Rattle.store.specs.Laws.Plans.{Exacting, planOf, called-plan, call-exacting}
-use Rattle.store.specs.Calls.{Call, called, results}
-use Rattle.store.specs.Alike.{AlikePage, both-fresh, both-used, Alike, AlikeToRead, AlikeByKind, Same, AllSame}
-use Rattle.store.specs.SoundSegment.{classes, Paired, SoundSegment}
+use Rattle.store.specs.Laws.Plans.{Exacting}
+use Rattle.store.specs.Alike.{AlikePage, both-fresh, both-used, Alike, AlikeByKind}
+use Rattle.store.specs.SoundSegment.{SoundSegment}
 use Rattle.store.specs.Laws.Stays.{StepOk, AllSteps}
-use Rattle.store.specs.Laws.SoundSegment.{page-past, sound-closed, seen-sound, seen-page, Sized, sized, Staying, rowOf, call-staying}
+use Rattle.store.specs.Laws.SoundSegment.{page-past, seen-sound, seen-page, Sized, sized, Staying}
 use Rattle.store.specs.declared.Slot.the-variants.{Free}
 
 -- ---- the same edits on two pages: a part that is equal stays equal, and one that is written becomes so

@@ -1,7 +1,7 @@
 -- Each of the five writing calls is a plan, and its steps are exact on every segment of a right size.
 use Prim.Native.Nat.{ℕ, _*_, _/_, _%_, _≤_}
-use mathlib.Core.Path.{_≡_, refl, sym, _∙_, subst}
-use mathlib.Core.Bool.{cond, not, _&&_}
+use mathlib.Core.Path.{_≡_, refl, _∙_}
+use mathlib.Core.Bool.{not, _&&_}
 use mathlib.Core.List.{List, [], _∷_}
 use lib.ListN.{length}
 use lib.Dec.{ltb, leb, eqb}
@@ -9,16 +9,13 @@ use borrow.Author.Tests.{leb-true}
 use Rattle.store.specs.Numbers.{fit}
 use Rattle.store.specs.PageSteps.{run}
 use Rattle.store.specs.Inventory.{foundIn}
-use Rattle.store.specs.Segment.{SegView, segView, sizeOk, invOk, pageOf, OnPage, Out, result, carried, carriedOn, step, refuse, insertPlan}
+use Rattle.store.specs.Segment.{SegView, segView, sizeOk, invOk, pageOf, OnPage, Out, carried, carriedOn, step, refuse, insertPlan}
 use Rattle.store.specs.Segment.{allocatePlan, writePlan, resizePlan, erasePlan, insertStep, allocateStep, writeStep, resizeStep, eraseStep}
-use Rattle.store.specs.Segment.{noRead, readPlan, readStep}
 use Rattle.store.specs.Laws.Numbers.{length-put}
 use Rattle.store.specs.Laws.Relocate.{length-fit}
 use Rattle.store.specs.Laws.SoundPage.{and-both}
-use Rattle.store.specs.Scan.{without, overPage, scanPlan, scanStep}
-use Rattle.store.specs.Calls.{Call, insert, allocate, write, resize, erase, called, results}
-use Rattle.store.specs.Alike.{AlikeByKind, Same, AllSame}
-use Rattle.store.specs.Laws.Segments.{AllExact, planned, same-answer, same-id, same-inv, left-alike}
+use Rattle.store.specs.Calls.{Call, insert, allocate, write, resize, erase, called}
+use Rattle.store.specs.Laws.Segments.{AllExact, planned}
 use Rattle.store.specs.Laws.Calls.{by-test, not-false, insert-exact, store-exact, erase-call-exact}
 
 pub length-carried : (es : List OnPage) (s : List ℕ) → length (carried es s) ≡ length s

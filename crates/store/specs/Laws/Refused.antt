@@ -1,7 +1,7 @@
 -- For all bytes, damaged ones too: a plan that is refused has no step and the inventory as it was, its answer is one of 0 to 8, and one that is
 -- carried out has the id that it was lent.
 use Prim.Native.Nat.{ℕ, _+_, _≤_, _<_}
-use mathlib.Core.Path.{_≡_, refl, sym, ap, _∙_, subst}
+use mathlib.Core.Path.{_≡_, refl}
 use mathlib.Core.Bool.{Bool, true, false, cond, not, _&&_, _||_}
 use mathlib.Core.List.{List, []}
 use mathlib.Core.Logic.{_≢_}
@@ -13,15 +13,15 @@ use Rattle.store.specs.Page.{sound}
 use Rattle.store.specs.PageSteps.{Alloc, noRoom, got, allocate, Relocated, refused, moved, relocate}
 use Rattle.store.specs.Inventory.{foundIn}
 use Rattle.store.specs.Refusals.{SIZE, NOPAGE, LONG, DAMAGED, NONE, FORWARDED}
-use Rattle.store.specs.Segment.{SegView, segView, sizeOk, invOk, OnPage, Out, done, refuse, refuseIf, Result, result, carried, Found, nowhere}
+use Rattle.store.specs.Segment.{SegView, segView, sizeOk, invOk, OnPage, Out, done, refuse, refuseIf, Found, nowhere}
 use Rattle.store.specs.Segment.{found, taken, findOn, find, inserted, insertPlan, pointsBack, forwarded, fromOrdinary, forwardedAgain, atTarget}
 use Rattle.store.specs.Segment.{atHome, storeBy, storePlan, eraseBy, erasePlan}
-use Rattle.store.specs.Calls.{Call, insert, allocate as allocateCall, write, resize, erase, called, OfId}
-use Rattle.store.specs.SoundSegment.{slotOn, Root, Rooted}
+use Rattle.store.specs.Calls.{Call, insert, allocate as allocateCall, write, resize, erase}
+use Rattle.store.specs.SoundSegment.{slotOn, Root}
 use Rattle.store.specs.Laws.Roots.{by-root}
 use Rattle.store.specs.Laws.Calls.{by-test}
 use Rattle.store.specs.Laws.Segments.{planned}
-use Rattle.store.specs.Laws.Plans.{planOf, called-plan}
+use Rattle.store.specs.Laws.Plans.{planOf}
 use Rattle.store.specs.declared.Named.{Named}
 use Rattle.store.specs.declared.Named.the-variants.{At, Full}
 use Rattle.store.specs.declared.Slot.{Slot}
@@ -92,7 +92,8 @@ module _ (u : SegView) (v : List ℕ) where
 
       ordinary-keeps : (old : List ℕ) (r : Relocated) → RefusedOrDone v P (fromOrdinary foundIn u v i size new old r)
       ordinary-keeps old (moved a) = is-done v P _ _ _ own
-      ordinary-keeps old refused = let ex : ℕ → Bool = λ p. eqb p (pageNo i) in forwarded-keeps old (find foundIn u v (size + 8) ex) (find-most u v (size + 8) ex)
+      ordinary-keeps old refused = let ex : ℕ → Bool = λ p. eqb p (pageNo i) in
+          forwarded-keeps old (find foundIn u v (size + 8) ex) (find-most u v (size + 8) ex)
 
       again-keeps : (t : ℕ) (old : List ℕ) (f : Found) → NumberMost f → RefusedOrDone v P (forwardedAgain u v i size new t old f)
       again-keeps t old (nowhere a) h = refusal v P a (h .0) (h .1)

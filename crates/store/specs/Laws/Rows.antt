@@ -1,23 +1,21 @@
 -- From a sound segment: what a read gives after a call that is carried out, by the answer's id and by every other root.
-use Prim.Native.Nat.{ℕ, _/_, _≤_, _<_}
+use Prim.Native.Nat.{ℕ, _/_, _<_}
 use mathlib.Core.Path.{_≡_, refl, sym, ap, _∙_, subst}
 use mathlib.Core.List.{List}
 use mathlib.Core.Logic.{_≢_}
-use lib.ListN.{length, getD}
+use lib.ListN.{length}
 use Rattle.store.specs.PageSteps.{plan}
-use Rattle.store.specs.Numbers.{fit, pageNo}
+use Rattle.store.specs.Numbers.{pageNo}
 use Rattle.store.specs.Laws.Roots.{root-entry}
-use Rattle.store.specs.Laws.Numbers.{fit-kept, fit-added}
-use Rattle.store.specs.Laws.Relocate.{length-fit}
 use Rattle.store.specs.Laws.Slots.{tag}
-use Rattle.store.specs.Segment.{SegView, segView, Out, Result, result, carried, step, resizeStep, Read, readBy, readPlan, readStep}
+use Rattle.store.specs.Segment.{SegView, segView, Out, Result, result, carried, step, Read, readBy, readPlan, readStep}
 use Rattle.store.specs.Laws.SoundPage.{sound-test}
 use Rattle.store.specs.Laws.Segments.{AllExact, settled}
 use Rattle.store.specs.Laws.Plans.{Exacting, planOf, called-plan, call-exacting}
-use Rattle.store.specs.Calls.{Call, resize, called}
+use Rattle.store.specs.Calls.{Call, called}
 use Rattle.store.specs.SoundSegment.{slotOn, bytesOn, Root, Rooted, SoundSegment}
 use Rattle.store.specs.Laws.Pairs.{tagOn, look, tag-root, look-root, row-root}
-use Rattle.store.specs.Laws.Stays.{Stays, oldBytes, points-back}
+use Rattle.store.specs.Laws.Stays.{Stays, points-back}
 use Rattle.store.specs.Laws.SoundSegment.{Seen, seen-sound, seen-pages, sized, stays-right, after-seen, page-count, Staying, rowOf, call-staying}
 use Rattle.store.specs.declared.Slot.{Slot}
 use Rattle.store.specs.declared.Slot.the-variants.{Ordinary, Free, Redirect, Target}

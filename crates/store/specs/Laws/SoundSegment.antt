@@ -14,16 +14,16 @@ use Rattle.store.specs.Page.{View, view, fresh, countFits, soundTests, p
 use Rattle.store.specs.PageSteps.{initialised, opened, plan}
 use Rattle.store.specs.Inventory.{Truth}
 use Rattle.store.specs.Inventory.{foundIn}
-use Rattle.store.specs.Segment.{SegView, segView, pageOf, sizeOk, OnPage, Out, Result, result, carried, step, refuse, insertPlan, Read, noRead}
-use Rattle.store.specs.Segment.{readBy, readPlan, readStep}
+use Rattle.store.specs.Segment.{SegView, segView, pageOf, sizeOk, OnPage, Out, carried, refuse, insertPlan, Read, noRead}
+use Rattle.store.specs.Segment.{readBy, readPlan}
 use Rattle.store.specs.Laws.Roots.{by-sound-root}
 use Rattle.store.specs.Laws.Views.{Sound}
 use Rattle.store.specs.Laws.SoundPage.{and-both, sound-init, sound-opened, sound-test, good-in}
-use Rattle.store.specs.Scan.{Scanned, without, overPage, recordAt, nextRecord, damagedAt, scanFrom, scanPlan, scanStep}
+use Rattle.store.specs.Scan.{Scanned, without, overPage, recordAt, nextRecord, damagedAt, scanFrom}
 use Rattle.store.specs.Laws.Segments.{AllExact, AllSound, length-page, settled, settledOn, carried-seen, settled-sound}
 use Rattle.store.specs.Laws.Calls.{by-test}
-use Rattle.store.specs.Laws.Plans.{length-carried, Exacting, planOf, called-plan, call-exacting}
-use Rattle.store.specs.Calls.{Call, insert, allocate, write, resize, erase, called, results}
+use Rattle.store.specs.Laws.Plans.{length-carried, planOf}
+use Rattle.store.specs.Calls.{Call, insert, allocate, write, resize, erase}
 use Rattle.store.specs.SoundSegment.{bytesOn, classes, SoundSegment}
 use Rattle.store.specs.Laws.Pairs.{Pairs, tagOn, paired-pairs, pairs-paired}
 use Rattle.store.specs.Laws.Stays.{Stays, wrote, oldBytes, refusal, insert-stays, store-stays, erase-stays, points-back}

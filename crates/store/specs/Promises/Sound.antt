@@ -1,7 +1,7 @@
 -- A sound segment stays sound, whatever the calls: every page, the pairs of redirects and targets, the true inventory. From one, no call
 -- answers 4 (damaged) or 8 (no room where the inventory named a page), and no read or scan answers 4.
 use Prim.Native.Nat.{ℕ, _-_}
-use mathlib.Core.Path.{_≡_, sym, subst}
+use mathlib.Core.Path.{sym, subst}
 use mathlib.Core.Bool.{cond}
 use mathlib.Core.List.{List, [], _∷_}
 use mathlib.Core.Logic.{_≢_}
