@@ -8,21 +8,16 @@ use native.Mathlib.Decide.{decLt}
 use lib.ListN.{length, take, drop, length-append, length-drop, length-replicate}
 use lib.Seq.{take-append-le, drop-append-le}
 use lib.Dec.{ltb}
-use borrow.Author.Tests.{eq-eqb, lt-ltb, le-ltb, le-leb}
+use borrow.Author.Tests.{eq-eqb, lt-ltb, le-ltb}
 use Rattle.store.specs.Numbers.{cut, be, zeros, pageNo, slotNo}
 use Rattle.store.specs.Slots.{isFree}
-use Rattle.store.specs.Page.{View, view, count, sound}
+use Rattle.store.specs.Page.{View, view, count}
 use Rattle.store.specs.PageSteps.{initialised, opened}
-use Rattle.store.specs.Inventory.{Lowest, Truth}
-use Rattle.store.specs.Segment.{SegView, segView, pageOf, noRead, readStep}
-use Rattle.store.specs.SoundSegment.{slotOn, bytesOn, Paired, nibbleOf, classes, SoundSegment}
-use Rattle.store.specs.Laws.Slots.{tag}
-use Rattle.store.specs.Laws.SoundPage.{sound-test}
+use Rattle.store.specs.Inventory.{Lowest}
+use Rattle.store.specs.Segment.{SegView, segView, pageOf}
+use Rattle.store.specs.SoundSegment.{slotOn, Paired, nibbleOf, classes, SoundSegment}
 use Rattle.store.specs.Laws.Calls.{target-taken}
-use Rattle.store.specs.Laws.Pairs.{tagOn, look}
-use Rattle.store.specs.Laws.SoundSegment.{page-past, sized, seen-sound, seen-page, seen-pages, sound-closed}
-use Rattle.store.specs.Laws.Rows.{read-look}
-use Rattle.store.specs.declared.Slot.{Slot}
+use Rattle.store.specs.Laws.SoundSegment.{page-past, sized, seen-page, seen-pages}
 use Rattle.store.specs.declared.Slot.the-variants.{Free}
 
 -- ---- zeros

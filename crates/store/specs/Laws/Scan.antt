@@ -4,15 +4,14 @@ use mathlib.Core.Path.{_≡_, refl, sym, ap, subst, _∙_}
 use mathlib.Core.Bool.{Bool, true, false, cond}
 use mathlib.Core.List.{List}
 use native.Mathlib.Omega.{arith}
-use native.Mathlib.Decide.{decLt}
 use lib.ListN.{drop, take}
 use lib.Dec.{ltb}
 use borrow.Author.Tests.{ltb-true}
 use Rattle.store.specs.Numbers.{be, idOf, pageNo, slotNo}
 use Rattle.store.specs.Slots.{isRecord, isTarget}
 use Rattle.store.specs.Page.{View, liesWell}
-use Rattle.store.specs.Segment.{segView, sizeOk, Read, noRead, readBy, readPlan, readStep}
-use Rattle.store.specs.Scan.{Scanned, without, overPage, recordAt, nextRecord, damagedAt, scanFrom, scanPlan, scanStep}
+use Rattle.store.specs.Segment.{segView, Read, noRead, readBy, readPlan, readStep}
+use Rattle.store.specs.Scan.{Scanned, without, overPage, recordAt, nextRecord, damagedAt, scanFrom}
 use Rattle.store.specs.SoundSegment.{slotOn, SoundSegment}
 use Rattle.store.specs.Laws.Roots.{root-entry}
 use Rattle.store.specs.Laws.SoundPage.{sound-test}

@@ -1,6 +1,6 @@
 -- In a sound segment, a record that a scan's step hands out is what a read by its id gives: the answer 0 and the same bytes. A record that was
 -- forwarded has its root's id.
-use Prim.Native.Nat.{ℕ, _+_, _-_, _<_}
+use Prim.Native.Nat.{ℕ, _-_, _<_}
 use mathlib.Core.Path.{_≡_, sym, subst}
 use mathlib.Core.Bool.{true, cond}
 use mathlib.Core.List.{List}
