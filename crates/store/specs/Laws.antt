@@ -1,5 +1,6 @@
 pub mod Cases
 pub mod Numbers
+pub mod Fit
 pub mod Slots
 pub mod Classes
 pub mod Inventory

@@ -5,18 +5,18 @@ use mathlib.Core.Bool.{not, _&&_}
 use mathlib.Core.List.{List, [], _∷_}
 use lib.ListN.{length}
 use lib.Dec.{ltb, leb, eqb}
-use borrow.Author.Tests.{leb-true}
+use borrow.Author.Tests.{leb-true, not-false}
 use Rattle.store.specs.Numbers.{fit}
 use Rattle.store.specs.PageSteps.{run}
 use Rattle.store.specs.Inventory.{foundIn}
 use Rattle.store.specs.Segment.{SegView, segView, sizeOk, invOk, pageOf, OnPage, Out, carried, carriedOn, step, refuse, insertPlan}
 use Rattle.store.specs.Segment.{allocatePlan, writePlan, resizePlan, erasePlan, insertStep, allocateStep, writeStep, resizeStep, eraseStep}
 use Rattle.store.specs.Laws.Numbers.{length-put}
-use Rattle.store.specs.Laws.Relocate.{length-fit}
+use Rattle.store.specs.Laws.Fit.{length-fit}
 use Rattle.store.specs.Laws.SoundPage.{and-both}
 use Rattle.store.specs.Calls.{Call, insert, allocate, write, resize, erase, called}
 use Rattle.store.specs.Laws.Segments.{AllExact, planned}
-use Rattle.store.specs.Laws.Calls.{by-test, not-false, insert-exact, store-exact, erase-call-exact}
+use Rattle.store.specs.Laws.Calls.{by-test, insert-exact, store-exact, erase-call-exact}
 
 pub length-carried : (es : List OnPage) (s : List ℕ) → length (carried es s) ≡ length s
 length-carried [] s = refl

@@ -25,7 +25,7 @@ abbrev pub row : List ℕ → Read
 row bs = record { answer = 0; bytes = bs }
 
 -- the slot found holds a record
-next-record : (m : ℕ) (v : View) (k : ℕ) → nextRecord m v k < k + m → isRecord (v .at (nextRecord m v k)) ≡ true
+pub next-record : (m : ℕ) (v : View) (k : ℕ) → nextRecord m v k < k + m → isRecord (v .at (nextRecord m v k)) ≡ true
 next-record zero v k h = absurd (omega arith)
 next-record (suc m) v k h = go (isRecord (v .at k)) refl h (λ l. next-record m v (k + 1) l)
   where
@@ -34,7 +34,7 @@ next-record (suc m) v k h = go (isRecord (v .at k)) refl h (λ l. next-record m 
     go true e l ih = e
     go false e l ih = ih (omega arith)
 
-next-low : (m : ℕ) (v : View) (k : ℕ) → k ≤ nextRecord m v k
+pub next-low : (m : ℕ) (v : View) (k : ℕ) → k ≤ nextRecord m v k
 next-low zero v k = omega arith
 next-low (suc m) v k = go (isRecord (v .at k)) (next-low m v (k + 1))
   where

@@ -16,6 +16,7 @@ use Rattle.store.specs.Inventory.{Truth}
 use Rattle.store.specs.Inventory.{foundIn}
 use Rattle.store.specs.Segment.{SegView, segView, pageOf, sizeOk, OnPage, Out, carried, refuse, insertPlan, Read, noRead}
 use Rattle.store.specs.Segment.{readBy, readPlan}
+use Rattle.store.specs.Laws.Cases.{or-in}
 use Rattle.store.specs.Laws.Roots.{by-sound-root}
 use Rattle.store.specs.Laws.Views.{Sound}
 use Rattle.store.specs.Laws.SoundPage.{and-both, sound-init, sound-opened, sound-test, good-in}
@@ -74,11 +75,7 @@ seen-sound s v h =
 
 pub open-sound : (v : View) → sound (opened v) ≡ sound v
 unfolding sound
-open-sound v = by-test (λ w. sound w ≡ sound v) (fresh v) initialised v (λ f. sym (or-left (fresh v) (passes soundTests v) f)) (λ f. refl)
-  where
-    or-left : (a b : Bool) → a ≡ true → (a || b) ≡ true
-    or-left true b e = refl
-    or-left false b e = let z : _≡_ {A = ℕ} 0 1 = cc in absurd (omega arith)
+open-sound v = by-test (λ w. sound w ≡ sound v) (fresh v) initialised v (λ f. sym (or-in (fresh v) (passes soundTests v) f)) (λ f. refl)
 
 pub sound-closed : (v : View) → sound (opened v) ≡ true → sound v ≡ true
 sound-closed v e = sym (open-sound v) ∙ e

@@ -11,8 +11,7 @@ use Rattle.store.specs.Refusals.{DONE, NONE}
 use Rattle.store.specs.Segment.{segView, Result, Read, noRead, readStep}
 use Rattle.store.specs.Calls.{Call, insert, allocate, write, resize, erase, called, results, Each, NoneOfId}
 use Rattle.store.specs.SoundSegment.{Rooted, SoundSegment}
-use Rattle.store.specs.Laws.Numbers.{fit-kept, fit-added}
-use Rattle.store.specs.Laws.Relocate.{length-fit}
+use Rattle.store.specs.Laws.Fit.{length-fit, fit-kept, fit-added}
 use Rattle.store.specs.Laws.SoundSegment.{rowOf}
 use Rattle.store.specs.Laws.Rows.{read-look, call-rows}
 use Rattle.store.specs.Promises.Sound.{call-right}
