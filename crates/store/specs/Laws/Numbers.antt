@@ -8,7 +8,7 @@ use lib.ListN.{length, take, drop, set, getD, length-drop, length-reverse}
 use borrow.Rule.Slice.PartMut.{putMid, put-same}
 use lib.Seq.{drop-drop, take-append-le, drop-append-le, take-all, take-take, drop-cons, length-take-le}
 use mathlib.Core.Logic.{_⊎_, inl, inr}
-use Rattle.store.specs.Numbers.{cut, put, zeros, fit, be, toBE, le, toLE}
+use Rattle.store.specs.Numbers.{cut, put, be, toBE, le, toLE}
 
 pub length-put : (p : List ℕ) (i : ℕ) (vs : List ℕ) → length (put p i vs) ≡ length p
 length-put [] i vs = refl
