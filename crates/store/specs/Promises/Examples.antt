@@ -10,7 +10,7 @@ use Rattle.store.specs.Inventory.{classOf, nibbleAt, setNibble, entryAt,
 use Rattle.store.specs.Inventory.{updated, update, foundIn}
 use Rattle.store.specs.Segment.{SegView, Out, find, insertPlan, storePlan, writePlan, rootOf}
 use Rattle.store.specs.Laws.Segments.{settled}
-use Rattle.store.specs.Laws.Marked.{Row}
+use Rattle.store.specs.Promises.Marked.{Row}
 
 -- ---- one page
 
@@ -137,9 +137,9 @@ unfolding start did then three forwarded sound compactify allocate eraseForRedir
     firstFrom nextPage runEnd setFrom pulledBack movedOn updated update foundIn find insertPlan storePlan rootOf
 over-is = refl
 
-rows : List Row
+pub rows : List Row
 rows = full ∷ pruned ∷ packed ∷ unpacked ∷ long ∷ moved ∷ fills ∷ over ∷ []
 
-examples : map (λ r. r .got) rows ≡ map (λ r. r .want) rows
+pub examples : map (λ r. r .got) rows ≡ map (λ r. r .want) rows
 unfolding rows
 examples = λ i. full-is i ∷ pruned-is i ∷ packed-is i ∷ unpacked-is i ∷ long-is i ∷ moved-is i ∷ fills-is i ∷ over-is i ∷ []

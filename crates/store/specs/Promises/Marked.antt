@@ -142,9 +142,9 @@ unfolding blank three view sound apply compactify allocate classOf nibbleAt setN
     resizeStep
 p12-is = refl
 
-rows : List Row
+pub rows : List Row
 rows = p1 ∷ p2 ∷ p3 ∷ p4 ∷ p5 ∷ p6 ∷ p7 ∷ p8 ∷ p9 ∷ p10 ∷ p11 ∷ p12 ∷ []
 
-marked : map (λ r. r .got) rows ≡ map (λ r. r .want) rows
+pub marked : map (λ r. r .got) rows ≡ map (λ r. r .want) rows
 unfolding rows
 marked = λ i. p1-is i ∷ p2-is i ∷ p3-is i ∷ p4-is i ∷ p5-is i ∷ p6-is i ∷ p7-is i ∷ p8-is i ∷ p9-is i ∷ p10-is i ∷ p11-is i ∷ p12-is i ∷ []
