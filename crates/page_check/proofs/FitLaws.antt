@@ -1,9 +1,9 @@
 -- All slots: one more slot, and the whole page.
 use Prim.Native.Nat.{ℕ, _+_, _*_, _≤_, _<_}
 use mathlib.Core.Path.{_≡_, refl, sym, ap, _∙_}
-use mathlib.Core.Bool.{Bool, true, false}
+use mathlib.Core.Bool.{Bool, true, false, _||_}
 use mathlib.Core.List.{List}
-use mathlib.Core.Logic.{_⊎_, inl, inr, _≢_}
+use mathlib.Core.Logic.{inr, ⊎-swap, _≢_}
 use native.Mathlib.Omega.{arith}
 use native.Mathlib.Numerals.{add-one}
 use native.Mathlib.Decide.{decLt, ℕ-discrete}
@@ -12,11 +12,10 @@ use lib.Dec.{eqb}
 use borrow.Author.Tests.{eq-eqb, ne-eqb}
 use Rattle.store.specs.Numbers.{sum}
 use Rattle.store.specs.Slots.{off, len, isTarget}
-use Rattle.store.specs.Page.{View, view, slotAt, sound}
+use Rattle.store.specs.Page.{View, view, slotAt, fresh, soundTests, passes, sound}
 use Rattle.store.specs.Laws.Edits.{Apart}
 use Rattle.store.specs.Laws.Views.{Sound}
 use Rattle.store.specs.Laws.SoundPage.{sound-page, sound-test, past-free, page-codable}
-use Rattle.store.specs.declared.Slot.{Slot}
 use Rattle.page_check.specs.Fit.{Allowed, Runs, RecordsFit, Total, HeaderFits}
 use Rattle.page_check.proofs.SlotLaws.{refuted}
 
@@ -69,18 +68,24 @@ fit-under v k f low o l h r a s =
 
 -- ---- the page
 
--- a slot count of 0
-pub fresh-sound : (p : List ℕ) (n : ℕ) → n ≡ view p .slotCount → n ≡ 0 → true ≡ sound (view p)
+pub fresh-sound : (v : View) → fresh v ≡ true → true ≡ sound v
 unfolding sound
-fresh-sound p n e z = sym (rw (eq-eqb (view p .slotCount) 0 (sym e ∙ z)))
+fresh-sound v e = sym (ap (λ (b : Bool). b || passes soundTests v) e)
 
-module _ (p : List ℕ) (n f d : ℕ) (whole : length p ≡ 16384) (en : n ≡ view p .slotCount) (ef : f ≡ view p .firstFree) (ed : d ≡ view p .dataStart) where
+-- what is read of the header
+pub record Header (p : List ℕ) (n f d : ℕ) : Type 0 where
+  pub whole : length p ≡ 16384
+  pub slots : n ≡ view p .slotCount
+  pub first : f ≡ view p .firstFree
+  pub start : d ≡ view p .dataStart
+
+module _ {p : List ℕ} {n f d : ℕ} (a : Header p n f d) where
   pub sound-header : Sound (view p) → HeaderFits (view p) n f d
-  sound-header s = rw (en, ef, ed) (record { few = s .few; first = s .first≤; free = s .first-free; dir = s .dir; start = s .start≤ })
+  sound-header s = rw (a .slots, a .first, a .start) (record { few = s .few; first = s .first≤; free = s .first-free; dir = s .dir; start = s .start≤ })
 
   pub sound-records : Sound (view p) → RecordsFit (view p) n f d
   sound-records s =
-      rw (en, ef, ed)
+      rw (a .slots, a .first, a .start)
       (record {
         allowed = λ j h. record { under = s .high j; long = s .targets j; used = s .lower j };
         above = λ j h. s .low j;
@@ -88,11 +93,11 @@ module _ (p : List ℕ) (n f d : ℕ) (whole : length p ≡ 16384) (en : n ≡ v
       })
 
   -- a page that is neither fresh nor sound
-  pub unsound : n ≢ 0 → (Sound (view p) → ⊥) → false ≡ sound (view p)
-  unsound z h = go (sound (view p)) refl
+  pub unsound : fresh (view p) ≡ false → (Sound (view p) → ⊥) → false ≡ sound (view p)
+  unsound used h = go (sound (view p)) refl
     where
       go : (b : Bool) → sound (view p) ≡ b → false ≡ sound (view p)
-      go true e = absurd (h (sound-page p whole (ne-eqb (view p .slotCount) 0 (λ q. z (en ∙ q))) e))
+      go true e = absurd (h (sound-page p (a .whole) used e))
       go false e = sym e
 
   -- a slot past the last is free, and what is asked of one that is counted holds of it
@@ -109,20 +114,13 @@ module _ (p : List ℕ) (n f d : ℕ) (whole : length p ≡ 16384) (en : n ≡ v
     long j (yes g) = r .allowed j g .long
     long j (no g) = rw (past-free p j (omega arith)) refuted
 
-    swap : (s t : Slot) → Apart s t → Apart t s
-    swap s t a x y = go (a y x)
-      where
-        go : (off s + len s ≤ off t) ⊎ (off t + len t ≤ off s) → (off t + len t ≤ off s) ⊎ (off s + len s ≤ off t)
-        go (inl e) = inr e
-        go (inr e) = inl e
-
     ordered : (i j : ℕ) → i < j → Dec (j < n) → Apart (view p .at i) (view p .at j)
     ordered i j g (yes m) = r .apart i j g m
     ordered i j g (no m) = rw (past-free p j (omega arith)) (λ x y. absurd (omega arith))
 
     apart : (i j : ℕ) → i ≢ j → Dec (i < j) → Apart (view p .at i) (view p .at j)
     apart i j e (yes g) = ordered i j g (decLt j n)
-    apart i j e (no g) = swap (view p .at j) (view p .at i) (ordered j i (omega arith) (decLt i n))
+    apart i j e (no g) = λ x y. ⊎-swap (ordered j i (omega arith) (decLt i n) y x)
 
     lens : (j : ℕ) → length (view p .bytes j) ≡ len (view p .at j)
     unfolding view
@@ -132,11 +130,11 @@ module _ (p : List ℕ) (n f d : ℕ) (whole : length p ≡ 16384) (en : n ≡ v
     all-sound e = record {
       few = omega (arith, h .few);
       first≤ = omega (arith, h .first);
-      first-free = rw (← ef) (h .free);
+      first-free = rw (← a .first) (h .free);
       lower = λ j g. r .allowed j (omega (arith, h .first)) .used (omega arith);
       dir = omega (arith, h .dir);
       start≤ = omega (arith, h .start);
-      low = λ j. rw (← ed) (low j (decLt j n));
+      low = λ j. rw (← a .start) (low j (decLt j n));
       high = λ j. high j (decLt j n);
       apart = λ i j g. apart i j g (decLt i j);
       targets = λ j. long j (decLt j n);
@@ -147,12 +145,12 @@ module _ (p : List ℕ) (n f d : ℕ) (whole : length p ≡ 16384) (en : n ≡ v
     }
 
     -- all that is left is the free space
-    pub sound-space : n ≢ 0 → (a t : ℕ) → a ≡ view p .freeSpace → Total (view p) n t → eqb (a + 8 * n + t) 16372 ≡ sound (view p)
-    sound-space z a t ea s = go (ℕ-discrete (a + 8 * n + t) 16372)
+    pub sound-space : fresh (view p) ≡ false → (s t : ℕ) → s ≡ view p .freeSpace → Total (view p) n t → eqb (s + 8 * n + t) 16372 ≡ sound (view p)
+    sound-space used s t es w = go (ℕ-discrete (s + 8 * n + t) 16372)
       where
-        sums : a + 8 * n + t ≡ view p .freeSpace + 8 * view p .slotCount + sum (view p .slotCount) (λ j. len (view p .at j))
-        sums = (λ i. ea i + 8 * n + s .is i) ∙ (λ i. view p .freeSpace + 8 * en i + sum (en i) (λ j. len (view p .at j)))
+        sums : s + 8 * n + t ≡ view p .freeSpace + 8 * view p .slotCount + sum (view p .slotCount) (λ j. len (view p .at j))
+        sums = rw (es, w .is, a .slots)
 
-        go : Dec (a + 8 * n + t ≡ 16372) → eqb (a + 8 * n + t) 16372 ≡ sound (view p)
-        go (yes e) = eq-eqb (a + 8 * n + t) 16372 e ∙ sym (sound-test (view p) (all-sound (sym sums ∙ e)))
-        go (no e) = ne-eqb (a + 8 * n + t) 16372 e ∙ unsound z (λ q. e (sums ∙ q .sums))
+        go : Dec (s + 8 * n + t ≡ 16372) → eqb (s + 8 * n + t) 16372 ≡ sound (view p)
+        go (yes e) = eq-eqb (s + 8 * n + t) 16372 e ∙ sym (sound-test (view p) (all-sound (sym sums ∙ e)))
+        go (no e) = ne-eqb (s + 8 * n + t) 16372 e ∙ unsound used (λ q. e (sums ∙ q .sums))

@@ -51,16 +51,15 @@ fn records_fit(page: &[u8], n: usize, f: usize, d: usize) -> Pass
     map::claim_all(page, n, f, d, &mut used)
 }
 
-// "A slot count of 0 means a fresh page and its other bytes don't matter." Last comes "free space = 16,372 − 8 × count − the sum of all
-// ordinary and target lengths".
+// A fresh page is sound as it stands. Last comes "free space = 16,372 − 8 × count − the sum of all ordinary and target lengths".
 pub fn is_sound(page: &[u8]) -> bool
     requires { ⌜ length (now page) ≡ 16384 ⌝ }
     ensures { λ r. ⌜ r ≡ sound (view (now (page .entry))) ⌝ }
 {
-    let n = layout::header::get_slot_count(page);
-    if n == 0 {
+    if layout::header::is_fresh(page) {
         return true;
     }
+    let n = layout::header::get_slot_count(page);
     let f = layout::header::get_first_free_slot(page);
     let d = layout::header::get_data_start(page);
     if !header_fits(page, n, f, d) {

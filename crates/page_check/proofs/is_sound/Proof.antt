@@ -1,18 +1,52 @@
 -- `page_check::is_sound` meets its contract.
+use mathlib.Core.Path.{_≡_, sym, _∙_}
+use mathlib.Core.Bool.{false}
 use native.Mathlib.Omega.{arith}
 use denote.Ref.{now}
-use borrow.Author.Tests.{not-true, not-false}
-use Rattle.page_check.proofs.SlotLaws.{told}
-use Rattle.page_check.proofs.FitLaws.{sound-header, sound-records, unsound, sound-space, fresh-sound}
 use borrow.Author.Needs.{needs}
+use borrow.Author.Tests.{not-true, not-false}
+use Rattle.store.specs.Page.{view, fresh}
+use Rattle.page_check.proofs.SlotLaws.{told}
+use Rattle.page_check.proofs.FitLaws.{Header, sound-header, sound-records, unsound, sound-space, fresh-sound}
 use Rattle.page_check.proofs.is_sound.Statement.{statement}
 use Rattle.page_check.proofs.is_sound.Tie as tie
 
-get-slot-count-requires : tie.Need-get-slot-count-requires
-get-slot-count-requires c κs = search needs
+-- ---- the places: the page is not fresh, its header is read, the header fits, the records are looked at
+
+abbrev entry : tie.Else1 → tie.Start
+entry c = c .before .before .before
+
+not-fresh : (c : tie.Else1) → fresh (view (now (entry c .args .page))) ≡ false
+not-fresh c = sym (c .before .is-fresh .ensures) ∙ c .if1 .left
+
+abbrev used : tie.After-get-data-start → tie.Else1
+used c = c .before .before .before
+
+header : (c : tie.After-get-data-start)
+    → Header (now (entry (used c) .args .page)) (c .before .before .get-slot-count .result) (c .before .get-first-free-slot .result) (c .get-data-start .result)
+header c = record {
+  whole = entry (used c) .pre;
+  slots = c .before .before .get-slot-count .ensures .0;
+  first = c .before .get-first-free-slot .ensures .0;
+  start = c .get-data-start .ensures .0;
+}
+
+abbrev read : tie.Else2 → tie.After-get-data-start
+read c = c .before .before
+
+abbrev fitting : tie.Else3 → tie.Else2
+fitting c = c .before .before .before
+
+-- ---- the needs
+
+is-fresh-requires : tie.Need-is-fresh-requires
+is-fresh-requires c κs = search needs
 
 returns : tie.Need-returns
-returns c = fresh-sound _ _ (c .before .get-slot-count .ensures .0) (c .if1 .taken)
+returns c = fresh-sound _ (sym (c .before .is-fresh .ensures) ∙ c .if1 .taken)
+
+get-slot-count-requires : tie.Need-get-slot-count-requires
+get-slot-count-requires c κs = search needs
 
 get-first-free-slot-requires : tie.Need-get-first-free-slot-requires
 get-first-free-slot-requires c κs = search needs
@@ -25,28 +59,22 @@ header-fits-requires c κs = search needs
 
 returns-2 : tie.Need-returns-2
 returns-2 c =
-    let s = c .before .before .before .before .before .before .before in
-    let en = c .before .before .before .before .before .get-slot-count .ensures .0 in
-    let ef = c .before .before .before .get-first-free-slot .ensures .0 in
-    let ed = c .before .before .get-data-start .ensures .0 in
-    let w = c .before .header-fits in
-    unsound (now (s .args .page)) _ _ _ (s .pre) en ef ed (c .before .before .before .before .if1 .left)
-    (λ x. told (w .result) (w .ensures) (not-true _ (c .if2 .taken)) (sound-header _ _ _ _ (s .pre) en ef ed x))
+    let at-header = c .before .before in
+    let h = header at-header in
+    unsound h (not-fresh (used at-header)) (λ s. told _ (c .before .header-fits .ensures) (not-true _ (c .if2 .taken)) (sound-header h s))
 
 records-fit-requires : tie.Need-records-fit-requires
 records-fit-requires c κs =
-    let h = c .before .header-fits .ensures .yes (not-false _ (c .if2 .left)) in
-    (c .before .before .before .before .before .before .before .pre, c .before .before .before .before .before .get-slot-count .ensures .0, h .few)
+    let h = header (read c) in
+    (h .whole, h .slots, c .before .header-fits .ensures .yes (not-false _ (c .if2 .left)) .few)
 
 returns-3 : tie.Need-returns-3
 returns-3 c =
-    let s = c .before .before .before .before .before .before .before .before .before .before in
-    let en = c .before .before .before .before .before .before .before .before .get-slot-count .ensures .0 in
-    let ef = c .before .before .before .before .before .before .get-first-free-slot .ensures .0 in
-    let ed = c .before .before .before .before .before .get-data-start .ensures .0 in
-    let w = c .before .before .records-fit in
-    unsound (now (s .args .page)) _ _ _ (s .pre) en ef ed (c .before .before .before .before .before .before .before .if1 .left)
-    (λ x. told (w .result .fits) (w .ensures .0) (not-true _ (c .if3 .taken)) (sound-records _ _ _ _ (s .pre) en ef ed x))
+    let at-records = c .before .before in
+    let at-header = read (at-records .before) in
+    let h = header at-header in
+    let w = at-records .records-fit .ensures in
+    unsound h (not-fresh (used at-header)) (λ s. told _ (w .0) (not-true _ (c .if3 .taken)) (sound-records h s))
 
 get-free-space-requires : tie.Need-get-free-space-requires
 get-free-space-requires c κs = search needs
@@ -59,27 +87,28 @@ add-result c = search needs
 
 add-result-2 : tie.Need-add-result-2
 add-result-2 c =
-    let t = c .before .before .before .before .records-fit .ensures .1 (not-false _ (c .before .before .if3 .left)) in
+    let at-fits = c .before .before in
+    let t = at-fits .before .before .records-fit .ensures .1 (not-false _ (at-fits .if3 .left)) in
     omega (arith, t .small)
 
 returns-4 : tie.Need-returns-4
 returns-4 c =
-    let s = c .before .before .before .before .before .before .before .before .before .before .before .before in
-    let en = c .before .before .before .before .before .before .before .before .before .before .get-slot-count .ensures .0 in
-    let ef = c .before .before .before .before .before .before .before .before .get-first-free-slot .ensures .0 in
-    let ed = c .before .before .before .before .before .before .before .get-data-start .ensures .0 in
-    let h = c .before .before .before .before .before .before .header-fits .ensures .yes (not-false _ (c .before .before .before .before .before .if2 .left)) in
-    let w = c .before .before .before .before .records-fit .ensures in
-    let e = not-false _ (c .before .before .if3 .left) in
-    sound-space (now (s .args .page)) _ _ _ (s .pre) en ef ed h (w .0 .yes e)
-    (c .before .before .before .before .before .before .before .before .before .if1 .left) _ _ (c .before .get-free-space .ensures .0) (w .1 e)
+    let at-space = c .before in
+    let at-fits = at-space .before in
+    let at-header-fits = fitting at-fits in
+    let at-header = read at-header-fits in
+    let w = at-fits .before .before .records-fit .ensures in
+    let e = not-false _ (at-fits .if3 .left) in
+    let fits = at-header-fits .before .header-fits .ensures .yes (not-false _ (at-header-fits .if2 .left)) in
+    sound-space (header at-header) fits (w .0 .yes e) (not-fresh (used at-header)) _ _ (at-space .get-free-space .ensures .0) (w .1 e)
 
 pub is-sound-spec : {M : Type 1} → statement M
 is-sound-spec =
     tie.close
     (tie.spec
-    get-slot-count-requires
+    is-fresh-requires
     returns
+    get-slot-count-requires
     get-first-free-slot-requires
     get-data-start-requires
     header-fits-requires
