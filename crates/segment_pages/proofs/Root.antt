@@ -1,6 +1,6 @@
 -- The own page of an id, test by test; and what its answer tells.
 use Prim.Native.Nat.{ℕ, _/_, _≤_, _<_}
-use mathlib.Core.Path.{_≡_}
+use mathlib.Core.Path.{_≡_, ap, _∙_}
 use mathlib.Core.Bool.{true, false, not}
 use mathlib.Core.List.{List}
 use native.Mathlib.Omega.{arith}
@@ -8,11 +8,13 @@ use lib.ListN.{length}
 use lib.Dec.{leb}
 use borrow.Author.Tests.{le-leb, lt-leb, leb-false, not-false}
 use Rattle.store.specs.Numbers.{pageNo, slotNo}
+use Rattle.store.specs.Slots.{isFree}
 use Rattle.store.specs.Page.{sound}
-use Rattle.store.specs.Segment.{segView, rootOf}
+use Rattle.store.specs.Segment.{segView, rootOf, pointsBack}
 use Rattle.store.specs.Laws.SoundSegment.{seen-pages}
-use Rattle.store.specs.Laws.Lent.{RootIs}
-use Rattle.store.specs.Laws.Calls.{page-below}
+use Rattle.store.specs.Laws.Lent.{SoundOn, TakenOn, RootIs}
+use Rattle.store.specs.Laws.Calls.{page-below, back-ok, target-taken}
+use Rattle.store.specs.Laws.SoundPage.{sound-test}
 use Rattle.store.specs.Laws.Cases.{by-test}
 use Rattle.store.specs.declared.Root.{Root}
 use Rattle.store.specs.declared.Root.the-variants.{Entry, NoPage, Damaged}
@@ -44,3 +46,17 @@ module _ (s : List ℕ) (i : ℕ) where
         sound = not-false (sound (segView s .page (pageNo i))) d;
         entry = cc;
       }))
+
+-- so it is a sound page, and a slot that is not free where the entry says so
+pub root-sound : (s : List ℕ) (i : ℕ) (x : Slot) → RootIs s i x → SoundOn s (pageNo i)
+root-sound s i x r = record { whole = r .whole; sound = r .sound }
+
+pub root-taken : (s : List ℕ) (i : ℕ) (x : Slot) → RootIs s i x → isFree x ≡ false → TakenOn s (pageNo i) (slotNo i)
+root-taken s i x r e = record { whole = r .whole; sound = r .sound; taken = ap isFree (r .entry) ∙ e }
+
+-- and so is the page of a target that points back
+pub back-taken : (s : List ℕ) (i t : ℕ) → pointsBack (segView s) i t ≡ true → TakenOn s (pageNo t) (slotNo t)
+back-taken s i t e =
+    let b = back-ok s i t e in
+    let u = segView s .page (pageNo t) in
+    record { whole = b .0 .fits; sound = sound-test u (b .0 .sound); taken = target-taken (u .at (slotNo t)) (b .1) }

@@ -20,6 +20,7 @@ use Rattle.store.specs.Laws.Exact.{exact-then, length-run}
 use Rattle.store.specs.Laws.Segments.{length-page, page-same, page-other, ExactOn, exact-skip}
 use Rattle.store.specs.Laws.OneSlot.{redirect-exact}
 use Rattle.store.specs.Laws.Relocate.{fill-exact, retype-exact, relocate-answer, Answered, Moved}
+use Rattle.store.specs.Laws.Lent.{SoundOn, TakenOn}
 use Rattle.store.specs.Laws.Calls.{PageOk, page-ok, shows-ok, erase-on, AllocOk, alloc-ok}
 use Rattle.store.specs.Laws.SoundPage.{and-both}
 use Rattle.store.specs.Laws.SoundSegment.{seen-page, seen-pages, sized}
@@ -27,13 +28,10 @@ use Rattle.store.specs.declared.Slot.{Slot}
 use Rattle.store.specs.declared.Slot.the-variants.{Redirect, Target}
 use Rattle.store.specs.declared.Place.{Place}
 use Rattle.store.specs.declared.Place.the-variants.{At, NoRoom}
+use Rattle.segment_steps.specs.Words.{Sizes}
 use Rattle.slotted_page.specs.Words.{pageAfter, placeOf, targetPlan, targetAt, redirectPlan, pageMoved, wasMoved, refilled}
 
 -- ---- sizes
-
-pub record Sizes (s v : List ℕ) : Type 0 where
-  pub few : length s / 16384 ≤ 32527
-  pub one : length v ≡ 16384
 
 pub sizes : (s v : List ℕ) → (sizeOk s && invOk v) ≡ true → Sizes s v
 sizes s v e =
@@ -156,17 +154,16 @@ got-none (got k a) e = let z : suc k ≡ 0 = ap slotIn e in absurd (omega arith)
 
 -- ---- steps by name: on a slot that is not free
 
-module _ (s : List ℕ) (p k : ℕ) (fits : p * 16384 + 16384 ≤ length s) (ok : sound (segView s .page p) ≡ true)
-    (taken : isFree (segView s .page p .at k) ≡ false) where
+module _ (s : List ℕ) (p k : ℕ) (h : TakenOn s p k) where
   page : PageOk s p k
-  page = page-ok s p k fits ok taken
+  page = page-ok s p k (h .whole) (h .sound) (h .taken)
 
   pub erase-on-page : ExactOn s (on p (erase (segView s .page p) k))
-  erase-on-page = erase-on s p k page taken
+  erase-on-page = erase-on s p k page (h .taken)
 
   pub for-redirect-on-page : (id : ℕ) → id < 2 ^ 62 → ExactOn s (on p (eraseForRedirect (segView s .page p) k id))
   for-redirect-on-page id small =
-      record { inside = fits; exact = redirect-exact (segView s .page p) (page .sound) k (page .counted) taken id small (pageOf s p) (shows-ok s p k page) }
+      record { inside = h .whole; exact = redirect-exact (segView s .page p) (page .sound) k (page .counted) (h .taken) id small (pageOf s p) (shows-ok s p k page) }
 
   pub took-for-redirect : (id : ℕ) → id < 2 ^ 62 → (t : List ℕ) → t ≡ carriedOn (on p (eraseForRedirect (segView s .page p) k id)) s
       → Took s (on p (eraseForRedirect (segView s .page p) k id)) t
@@ -175,13 +172,13 @@ module _ (s : List ℕ) (p k : ℕ) (fits : p * 16384 + 16384 ≤ length s) (ok 
   -- the slot's record at another size n, with these bytes; "a target has length 8 or more"
   module _ (n : ℕ) (target : isTarget (segView s .page p .at k) ≡ true → 8 ≤ n) where
     moves : Answered (pageOf s p) (segView s .page p) k n (relocate (segView s .page p) k n)
-    moves = relocate-answer (pageOf s p) (segView s .page p) (length-page s p fits) (page .seen) (page .sound) k (page .counted) n target
+    moves = relocate-answer (pageOf s p) (segView s .page p) (length-page s p (h .whole)) (page .seen) (page .sound) k (page .counted) n target
 
     module _ (a : Plan) (way : relocate (segView s .page p) k n ≡ moved a) (bs : List ℕ) (size : length bs ≡ n) where
       pub filled-on-page : ExactOn s (on p (filled a k bs))
       filled-on-page =
           let m : Moved (pageOf s p) (segView s .page p) k n a = subst (Answered (pageOf s p) (segView s .page p) k n) way moves in
-          record { inside = fits; exact = fill-exact (pageOf s p) a (length-page s p fits) (m .exact) k (m .inside) (m .free) bs (size ∙ sym (m .size)) }
+          record { inside = h .whole; exact = fill-exact (pageOf s p) a (length-page s p (h .whole)) (m .exact) k (m .inside) (m .free) bs (size ∙ sym (m .size)) }
 
       pub took-filled : (t : List ℕ) → t ≡ put s (p * 16384) (pageMoved (refilled (relocate (segView s .page p) k n) k bs) (pageOf s p))
           → Took s (on p (filled a k bs)) t
@@ -196,15 +193,13 @@ pub target-length : (id : ℕ) (bs : List ℕ) (n : ℕ) → length bs ≡ n →
 target-length id bs n e = length-append (toBE 8 id) bs ∙ omega (arith, e)
 
 -- the entry of a redirect names another id
-module _ (s : List ℕ) (p k : ℕ) (fits : p * 16384 + 16384 ≤ length s) (ok : sound (segView s .page p) ≡ true) (i : ℕ)
-    (here : segView s .page p .at k ≡ Redirect i)
-    (id : ℕ) (small : id < 2 ^ 62) where
+module _ (s : List ℕ) (p k : ℕ) (h : SoundOn s p) (i : ℕ) (here : segView s .page p .at k ≡ Redirect i) (id : ℕ) (small : id < 2 ^ 62) where
   pub redirect-on-page : ExactOn s (on p (redirectPlan (segView s .page p) k id))
   redirect-on-page =
-      let o = page-ok s p k fits ok (ap isFree here) in
+      let o = page-ok s p k (h .whole) (h .sound) (ap isFree here) in
       record {
-        inside = fits;
-        exact = retype-exact (pageOf s p) (stay (segView s .page p)) (length-page s p fits) (record { seen = o .seen; sound = o .sound }) k
+        inside = h .whole;
+        exact = retype-exact (pageOf s p) (stay (segView s .page p)) (length-page s p (h .whole)) (record { seen = o .seen; sound = o .sound }) k
             (o .counted) (ap isFree here) (Redirect id)
             (sym (ap off here)) (sym (ap len here)) refl small (λ e. let z : _≡_ {A = ℕ} 0 1 = cc in omega arith) [] refl;
       }
@@ -213,26 +208,25 @@ module _ (s : List ℕ) (p k : ℕ) (fits : p * 16384 + 16384 ≤ length s) (ok 
   took-redirect t e = record { exact = redirect-on-page; is = e }
 
 -- a new place of n bytes on a sound page, fresh or in use
-module _ (s : List ℕ) (p : ℕ) (fits : p * 16384 + 16384 ≤ length s) (ok : sound (segView s .page p) ≡ true) (n j : ℕ) (a : Plan)
-    (way : allocate (segView s .page p) n ≡ got j a) where
+module _ (s : List ℕ) (p : ℕ) (h : SoundOn s p) (n j : ℕ) (a : Plan) (way : allocate (segView s .page p) n ≡ got j a) where
   place : AllocOk (pageOf s p) n (got j a)
   unfolding segView
-  place = subst (AllocOk (pageOf s p) n) way (alloc-ok (pageOf s p) n (length-page s p fits) ok)
+  place = subst (AllocOk (pageOf s p) n) way (alloc-ok (pageOf s p) n (length-page s p (h .whole)) (h .sound))
 
   -- its id can stand in a redirect
   pub small-id : length s / 16384 ≤ 32527 → idOf p j < 2 ^ 62
-  small-id few = omega (arith, fits, place .1, place .0 .sound .few)
+  small-id few = omega (arith, h .whole, place .1, place .0 .sound .few)
 
   module _ (long : 8 ≤ n) (bs : List ℕ) (size : length bs ≡ n) where
     pub target-on-page : ExactOn s (on p (targetPlan j a bs))
     target-on-page =
         let w = a .after in
         let o = place in
-        let h : off (w .at j) + len (w .at j) ≤ 16384 = o .0 .sound .high j in
+        let high : off (w .at j) + len (w .at j) ≤ 16384 = o .0 .sound .high j in
         record {
-          inside = fits;
+          inside = h .whole;
           exact = exact-then (pageOf s p) a (λ u. let x = withSlot u j (Target (off (u .at j)) (len (u .at j))) bs in plan (move j x ∷ []) x)
-              (retype-exact (pageOf s p) a (length-page s p fits) (o .0) j (o .1) (o .2) (Target (off (w .at j)) (len (w .at j))) refl refl refl
+              (retype-exact (pageOf s p) a (length-page s p (h .whole)) (o .0) j (o .1) (o .2) (Target (off (w .at j)) (len (w .at j))) refl refl refl
               (omega arith, omega arith)
               (λ e. omega (arith, o .3)) bs (size ∙ sym (o .3)));
         }

@@ -14,6 +14,7 @@ use Rattle.store.specs.Segment.{segView, pageOf, on, carriedOn}
 use Rattle.store.specs.Laws.Views.{Sound}
 use Rattle.store.specs.Laws.Exact.{length-run}
 use Rattle.store.specs.Laws.Segments.{length-page, lent-part, lent-page}
+use Rattle.store.specs.Laws.Lent.{UsedSlot, TakenOn}
 use Rattle.store.specs.Laws.Calls.{page-ok}
 use Rattle.store.specs.Laws.SoundSegment.{seen-page, sound-closed}
 use Rattle.slotted_page.specs.Words.{unfilled, pageBare, pageMoved, wasMoved, refilled}
@@ -68,18 +69,21 @@ module _ (s : List ℕ) (p : ℕ) (fits : p * 16384 + 16384 ≤ length s) where
 
 -- ---- a page with a slot that is not free, as the steps on that slot ask for it
 
-module _ (s : List ℕ) (p k : ℕ) (fits : p * 16384 + 16384 ≤ length s) (ok : sound (segView s .page p) ≡ true)
-    (taken : isFree (segView s .page p .at k) ≡ false) where
-  pub lent-taken : (length (lentPart s p) ≡ 16384) × Sound (view (lentPart s p)) × (k < view (lentPart s p) .slotCount)
+module _ (s : List ℕ) (p k : ℕ) (h : TakenOn s p k) where
+  pub lent-taken : UsedSlot (lentPart s p) k
   lent-taken =
-      let o = page-ok s p k fits ok taken in
-      (lent-whole s p fits, lent-fact s p fits view (o .seen) Sound (o .sound), lent-fact s p fits view (o .seen) (λ (v : View). k < v .slotCount) (o .counted))
+      let o = page-ok s p k (h .whole) (h .sound) (h .taken) in
+      record {
+        whole = lent-whole s p (h .whole);
+        sound = lent-fact s p (h .whole) view (o .seen) Sound (o .sound);
+        counted = lent-fact s p (h .whole) view (o .seen) (λ (v : View). k < v .slotCount) (o .counted);
+      }
 
   -- the slot's entry lies in the page
   pub lent-entry : 20 + 8 * k ≤ length (lentPart s p)
   lent-entry =
-      let o = page-ok s p k fits ok taken in
-      omega (arith, lent-whole s p fits, o .counted, o .sound .few)
+      let o = page-ok s p k (h .whole) (h .sound) (h .taken) in
+      omega (arith, lent-whole s p (h .whole), o .counted, o .sound .few)
 
   -- the slot's record at another size n: what is left and answered, where the bytes written are told from the page
   pub lent-moved : (n : ℕ) (bs : View → List ℕ) (out : List ℕ) (r : Bool)
@@ -89,8 +93,8 @@ module _ (s : List ℕ) (p k : ℕ) (fits : p * 16384 + 16384 ≤ length s) (ok 
       ≡ put s (p * 16384) (pageMoved (refilled (relocate (segView s .page p) k n) k (bs (segView s .page p))) (pageOf s p)))
       × (r ≡ wasMoved (relocate (segView s .page p) k n))
   lent-moved n bs out r e =
-      let o = page-ok s p k fits ok taken in (
-        lent-step s p fits view (o .seen) (λ (v : View) (q : List ℕ). pageMoved (refilled (relocate v k n) k (bs v)) q)
+      let o = page-ok s p k (h .whole) (h .sound) (h .taken) in (
+        lent-step s p (h .whole) view (o .seen) (λ (v : View) (q : List ℕ). pageMoved (refilled (relocate v k n) k (bs v)) q)
             (λ (v : View) (q : List ℕ). length-moved (refilled (relocate v k n) k (bs v)) q) out (e .0),
-        lent-answer s p fits view (o .seen) (λ (v : View). wasMoved (relocate v k n)) r (e .1),
+        lent-answer s p (h .whole) view (o .seen) (λ (v : View). wasMoved (relocate v k n)) r (e .1),
       )
