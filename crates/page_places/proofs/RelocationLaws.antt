@@ -65,8 +65,10 @@ module _ (v : View) (k n m : ℕ) (p : List ℕ) (em : m ≡ v .freeSpace) where
   home-done r q h e er =
       let t : ltb (v .freeSpace) n ≡ false = le-ltb (v .freeSpace) n (omega arith) in
       let w : View = makeRoom v n .after in
-      rw t
-      (under-bare v k n (Ordinary 0 0) [] (zeros n) p p q refl e, ap (λ (x : ℕ). placed (At k x)) (er ∙ sym (ap off (upd-same (w .at) k (Ordinary (w .dataStart - n) n)))))
+      rw t (
+        under-bare v k n (Ordinary 0 0) [] (zeros n) p p q refl e,
+        ap (λ (x : ℕ). placed (At k x)) (er ∙ sym (ap off (upd-same (w .at) k (Ordinary (w .dataStart - n) n)))),
+      )
 
 -- ---- smaller
 

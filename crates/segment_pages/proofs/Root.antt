@@ -39,8 +39,10 @@ module _ (s : List ℕ) (i : ℕ) where
   pub root-is : (x : Slot) → rootOf (segView s) i ≡ Entry x → RootIs s i x
   unfolding rootOf
   root-is x =
-      by-test (λ (r : Root). r ≡ Entry x → RootIs s i x) (leb (segView s .pages) (pageNo i)) NoPage _ (λ e q. let z : _≡_ {A = ℕ} 0 1 = cc in absurd (omega arith))
-      (λ e. by-test (λ (r : Root). r ≡ Entry x → RootIs s i x) (not (sound (segView s .page (pageNo i)))) Damaged _ (λ d q. let z : _≡_ {A = ℕ} 0 1 = cc in absurd (omega arith))
+      by-test (λ (r : Root). r ≡ Entry x → RootIs s i x) (leb (segView s .pages) (pageNo i)) NoPage _ (λ e q. let z : _≡_ {A = ℕ} 0 1 = cc in
+      absurd (omega arith))
+      (λ e. by-test (λ (r : Root). r ≡ Entry x → RootIs s i x) (not (sound (segView s .page (pageNo i)))) Damaged _
+      (λ d q. let z : _≡_ {A = ℕ} 0 1 = cc in absurd (omega arith))
       (λ d q. record {
         whole = page-below s (pageNo i) (leb-false (segView s .pages) (pageNo i) e);
         sound = not-false (sound (segView s .page (pageNo i))) d;

@@ -163,7 +163,11 @@ module _ (s : List ℕ) (p k : ℕ) (h : TakenOn s p k) where
 
   pub for-redirect-on-page : (id : ℕ) → id < 2 ^ 62 → ExactOn s (on p (eraseForRedirect (segView s .page p) k id))
   for-redirect-on-page id small =
-      record { inside = h .whole; exact = redirect-exact (segView s .page p) (page .sound) k (page .counted) (h .taken) id small (pageOf s p) (shows-ok s p k page) }
+      record {
+        inside = h .whole;
+        exact =
+            redirect-exact (segView s .page p) (page .sound) k (page .counted) (h .taken) id small (pageOf s p) (shows-ok s p k page);
+      }
 
   pub took-for-redirect : (id : ℕ) → id < 2 ^ 62 → (t : List ℕ) → t ≡ carriedOn (on p (eraseForRedirect (segView s .page p) k id)) s
       → Took s (on p (eraseForRedirect (segView s .page p) k id)) t
@@ -178,7 +182,11 @@ module _ (s : List ℕ) (p k : ℕ) (h : TakenOn s p k) where
       pub filled-on-page : ExactOn s (on p (filled a k bs))
       filled-on-page =
           let m : Moved (pageOf s p) (segView s .page p) k n a = subst (Answered (pageOf s p) (segView s .page p) k n) way moves in
-          record { inside = h .whole; exact = fill-exact (pageOf s p) a (length-page s p (h .whole)) (m .exact) k (m .inside) (m .free) bs (size ∙ sym (m .size)) }
+          record {
+            inside = h .whole;
+            exact =
+                fill-exact (pageOf s p) a (length-page s p (h .whole)) (m .exact) k (m .inside) (m .free) bs (size ∙ sym (m .size));
+          }
 
       pub took-filled : (t : List ℕ) → t ≡ put s (p * 16384) (pageMoved (refilled (relocate (segView s .page p) k n) k bs) (pageOf s p))
           → Took s (on p (filled a k bs)) t

@@ -1,13 +1,12 @@
 -- One page of the segment lent on from its middle, to be written: what the borrow checker says of it, in the words of the plans.
 use Prim.Native.Nat.{ℕ, _+_, _-_, _*_, _≤_, _<_}
 use mathlib.Core.Path.{_≡_, refl, sym, ap, subst, _∙_}
-use mathlib.Core.Bool.{Bool, true, false}
+use mathlib.Core.Bool.{Bool, true}
 use mathlib.Core.List.{List}
 use native.Mathlib.Omega.{arith}
 use lib.ListN.{length}
 use borrow.Rule.Slice.PartMut.{putMid}
 use Rattle.store.specs.Numbers.{cut, put}
-use Rattle.store.specs.Slots.{isFree}
 use Rattle.store.specs.Page.{View, view, sound}
 use Rattle.store.specs.PageSteps.{run, Plan, Alloc, noRoom, got, relocate, Relocated, refused, moved}
 use Rattle.store.specs.Segment.{segView, pageOf, on, carriedOn}

@@ -2,19 +2,17 @@
 use store::PAGE_SIZE;
 use store::Place;
 ghost use mathlib.Core.Path.{_≡_};
-ghost use mathlib.Core.Bool.{true, false};
 ghost use mathlib.Core.List.{_++_};
 ghost use Prim.Native.Nat.{_+_, _*_, _/_, _≤_, _<_, _^_};
 ghost use lib.ListN.{length, drop};
 ghost use Rattle.store.specs.Numbers.{toBE, fit};
-ghost use Rattle.store.specs.Slots.{isFree};
-ghost use Rattle.store.specs.Page.{view, sound};
+ghost use Rattle.store.specs.Page.{view};
 ghost use Rattle.store.specs.PageSteps.{allocate, erase, eraseForRedirect, relocate};
 ghost use Rattle.store.specs.Inventory.{Room, update};
 ghost use Rattle.store.specs.Answers.{placed, allotted};
 ghost use Rattle.store.specs.Laws.Lent.{Within, SoundOn, TakenOn};
 ghost use Rattle.store.specs.Segment.{pageOf, on, carriedOn};
-ghost use Rattle.slotted_page.specs.Words.{placeOf, Inside, PastEntry, redirectPlan, wasMoved, refilled};
+ghost use Rattle.slotted_page.specs.Words.{Inside, PastEntry, redirectPlan, wasMoved, refilled};
 ghost use Rattle.segment_steps.specs.Words.{seen, allocatedOn, relocatedOn};
 
 // A place for a record of `size` bytes on page p, fresh or in use; its bytes are left to be written there.

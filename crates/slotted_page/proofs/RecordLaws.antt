@@ -176,7 +176,8 @@ module _ (p : List ℕ) (k n : ℕ) (used : UsedSlot p k) where
       (slotBytes y) ∙ length-put p 0 (headOf (u .slotCount) (u .firstFree) (u .dataStart) (u .freeSpace)) ∙ used .whole in
       let e : cut q o n ≡ old =
       ap (λ (z : List ℕ). cut z o n) b ∙ cut-past p k (u .slotCount) (u .firstFree) (u .dataStart) (u .freeSpace) o n y (past n (omega arith))
-      ∙ sym (take-take n (len (v .at k)) (drop o p) (omega arith)) ∙ ap (take n) (shown-bytes p k) ∙ sym (fit-cut n (v .bytes k) (omega (arith, used .sound .lens k))) in
+      ∙ sym (take-take n (len (v .at k)) (drop o p) (omega arith)) ∙ ap (take n) (shown-bytes p k)
+      ∙ sym (fit-cut n (v .bytes k) (omega (arith, used .sound .lens k))) in
       let a : off (shrunk v k n .at k) ≡ o = ap off (upd-same (v .at) k y) ∙ placed-slot-is (v .at k) o n (long-record (v .at k) (omega arith)) .off in
       sym (less-ended h .written ∙ rw (a, ← e) (put-own q o n (omega (arith, used .sound .high k))))
 

@@ -1,7 +1,7 @@
 -- `segment_pages::points_back` meets its contract.
 use Prim.Native.Nat.{_/_, _*_, _+_, _≤_, _<_}
 use mathlib.Core.Path.{_≡_, sym, _∙_}
-use mathlib.Core.Bool.{true, false}
+use mathlib.Core.Bool.{true}
 use mathlib.Core.Logic.{_≢_}
 use native.Mathlib.Omega.{arith}
 use lib.ListN.{length}
@@ -64,7 +64,8 @@ returns-4 c =
     let found = c .before .before in
     let a = start found .args in
     let t = told found in
-    back-other (now (a .segment)) (a .i) (a .t) (t .0) (t .1) (t .2) _ (c .before .slot-on .ensures .0) (not-target (c .before .slot-on .result) (c .match .keys2))
+    back-other (now (a .segment)) (a .i) (a .t) (t .0) (t .1) (t .2) _ (c .before .slot-on .ensures .0)
+    (not-target (c .before .slot-on .result) (c .match .keys2))
 
 back-id-on-requires : tie.Need-back-id-on-requires
 back-id-on-requires c κs =

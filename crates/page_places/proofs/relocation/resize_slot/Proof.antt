@@ -79,8 +79,10 @@ put-under-requires c κs =
     let b = l .before .before in
     let a = b .args in
     let x = parked-by (a .page .now) (a .k) (l .len-of .result) (a .s) (k .park .last .0) (b .pre .0) (b .pre .1 .0) (b .pre .1 .1)
-    (l .len-of .ensures) (k .park .ensures) in
-    (record { whole = x .whole; sound = rw (x .seen) (x .sound); counted = rw (x .seen) (b .pre .0 .counted) }, rw (x .seen) (omega (arith, ap len (b .pre .1 .0), l .len-of .ensures)))
+    (l .len-of .ensures) (k .park .ensures) in (
+      record { whole = x .whole; sound = rw (x .seen) (x .sound); counted = rw (x .seen) (b .pre .0 .counted) },
+      rw (x .seen) (omega (arith, ap len (b .pre .1 .0), l .len-of .ensures)),
+    )
 
 same-length-3 : tie.Need-same-length-3
 same-length-3 c = search needs

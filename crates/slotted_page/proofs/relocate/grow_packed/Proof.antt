@@ -48,7 +48,12 @@ slice-aggregate-fit-in c =
     let w = c .before .before .before .before .before .before .before .before .before .before in
     let l = c .before .before .before .before .before .before .before .before .before .before .before .before .before .before in
     let b = l .before .before in
-    rw (length-take, w .save .ensures, length-put, length-replicate) (omega (arith, b .pre .0 .sound .high (b .args .k), ap len (b .pre .1), l .len-of .ensures))
+    rw (
+      length-take,
+      w .save .ensures,
+      length-put,
+      length-replicate,
+    ) (omega (arith, b .pre .0 .sound .high (b .args .k), ap len (b .pre .1), l .len-of .ensures))
 
 fit-in-requires : tie.Need-fit-in-requires
 fit-in-requires c κs =
