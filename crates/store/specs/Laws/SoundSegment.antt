@@ -80,10 +80,6 @@ open-sound v = by-test (λ w. sound w ≡ sound v) (fresh v) initialised v (λ f
 pub sound-closed : (v : View) → sound (opened v) ≡ true → sound v ≡ true
 sound-closed v e = sym (open-sound v) ∙ e
 
-pages-settled : (es : List OnPage) (u : SegView) → settled es u .pages ≡ u .pages
-pages-settled [] u = refl
-pages-settled (e ∷ es) u = pages-settled es (settledOn e u)
-
 -- ---- once over the plan
 
 pub seen-pages : (s : List ℕ) → segView s .pages ≡ length s / 16384
