@@ -13,7 +13,7 @@ use Rattle.store.specs.Page.{sound}
 use Rattle.store.specs.PageSteps.{allocate}
 use Rattle.store.specs.Inventory.{foundIn}
 use Rattle.store.specs.Segment.{segView, pageOf}
-use Rattle.store.specs.Laws.Relocate.{length-fit}
+use Rattle.store.specs.Laws.Fit.{length-fit}
 use Rattle.store.specs.declared.Named.the-variants.{At}
 use Rattle.store.specs.declared.Place.{Place}
 use Rattle.store.specs.declared.Place.the-variants as place

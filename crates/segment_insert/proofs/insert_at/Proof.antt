@@ -12,7 +12,7 @@ use Rattle.store.specs.Page.{sound}
 use Rattle.store.specs.PageSteps.{allocate}
 use Rattle.store.specs.Segment.{segView, pageOf}
 use Rattle.store.specs.Laws.Numbers.{length-put}
-use Rattle.store.specs.Laws.Relocate.{length-fit}
+use Rattle.store.specs.Laws.Fit.{length-fit}
 use Rattle.store.specs.declared.Place.{Place}
 use Rattle.store.specs.declared.Place.the-variants.{At}
 use Rattle.slotted_page.specs.Words.{pageAfter, placeOf, filledAt, Inside}

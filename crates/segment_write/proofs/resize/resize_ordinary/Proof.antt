@@ -11,7 +11,7 @@ use Rattle.store.specs.Slots.{off, len, isFree, isTarget}
 use Rattle.store.specs.PageSteps.{filled, relocate}
 use Rattle.store.specs.Segment.{segView, on}
 use Rattle.store.specs.Laws.Numbers.{length-put}
-use Rattle.store.specs.Laws.Relocate.{length-fit}
+use Rattle.store.specs.Laws.Fit.{length-fit}
 use Rattle.store.specs.Laws.Calls.{PageOk, page-ok}
 use Rattle.store.specs.declared.Slot.{Slot}
 use Rattle.slotted_page.specs.Words.{wasMoved}
