@@ -7,7 +7,7 @@ use Rattle.store.specs.Numbers.{cut, toBE, toLE, zeros, idOf}
 use Rattle.store.specs.Slots.{slotBytes}
 use Rattle.store.specs.Page.{view, sound}
 use Rattle.store.specs.PageSteps.{initialised, headBytes, apply, compactify, allocate, relocate}
-use Rattle.store.specs.Inventory.{classOf, nibbleAt, nibble, setNibble, entryAt, setEntry, firstFrom, nextPage, runEnd, setFrom, pulledBack}
+use Rattle.store.specs.Inventory.{classOf, nibbleAt, setNibble, entryAt, setEntry, firstFrom, nextPage, runEnd, setFrom, pulledBack}
 use Rattle.store.specs.Inventory.{movedOn, updated, update, foundIn}
 use Rattle.store.specs.Segment.{Result, segView, result, find, insertPlan, storePlan, insertStep, resizeStep, rootOf}
 use Rattle.store.specs.declared.Slot.the-variants.{Redirect, Target}
