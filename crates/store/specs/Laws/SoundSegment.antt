@@ -14,14 +14,14 @@ use Rattle.store.specs.Page.{View, view, fresh, countFits, soundTests, p
 use Rattle.store.specs.PageSteps.{initialised, opened, plan}
 use Rattle.store.specs.Inventory.{Truth}
 use Rattle.store.specs.Inventory.{foundIn}
-use Rattle.store.specs.Segment.{SegView, segView, pageOf, sizeOk, OnPage, Out, carried, refuse, insertPlan, Read, noRead}
+use Rattle.store.specs.Segment.{SegView, segView, pageOf, sizeOk, Out, carried, refuse, insertPlan, Read, noRead}
 use Rattle.store.specs.Segment.{readBy, readPlan}
 use Rattle.store.specs.Laws.Cases.{or-in}
 use Rattle.store.specs.Laws.Roots.{by-sound-root}
 use Rattle.store.specs.Laws.Views.{Sound}
 use Rattle.store.specs.Laws.SoundPage.{and-both, sound-init, sound-opened, sound-test, good-in}
 use Rattle.store.specs.Scan.{Scanned, without, overPage, recordAt, nextRecord, damagedAt, scanFrom}
-use Rattle.store.specs.Laws.Segments.{AllExact, AllSound, length-page, settled, settledOn, carried-seen, settled-sound}
+use Rattle.store.specs.Laws.Segments.{AllExact, AllSound, length-page, settled, carried-seen, settled-sound}
 use Rattle.store.specs.Laws.Calls.{by-test}
 use Rattle.store.specs.Laws.Plans.{length-carried, planOf}
 use Rattle.store.specs.Calls.{Call, insert, allocate, write, resize, erase}
@@ -79,10 +79,6 @@ open-sound v = by-test (λ w. sound w ≡ sound v) (fresh v) initialised v (λ f
 
 pub sound-closed : (v : View) → sound (opened v) ≡ true → sound v ≡ true
 sound-closed v e = sym (open-sound v) ∙ e
-
-pages-settled : (es : List OnPage) (u : SegView) → settled es u .pages ≡ u .pages
-pages-settled [] u = refl
-pages-settled (e ∷ es) u = pages-settled es (settledOn e u)
 
 -- ---- once over the plan
 

@@ -142,9 +142,6 @@ module _ (u : SegView) (sounds : (p : ℕ) → Sound (u .page p)) (few : u .page
 
   module _ (w : Read) (i : ℕ) (at-id : pageNo i < u .pages) (p k : ℕ) (x : Slot) (bs : List ℕ) (a : Plan) (below : p < u .pages)
       (c : Changes (u .page p) k x bs a) (d : ℕ) (is : idOf p k ≡ d) where
-    u1 : SegView
-    u1 = settledOn (on p a) u
-
     truth1 : Truth (classes (settledOn (on p a) u)) (u .pages) (update v (u .pages) p (a .after .freeSpace))
     truth1 =
         truth-by _ (classes (settledOn (on p a) u)) (u .pages) _ (sym (classes-step u p a below (c .used)))
@@ -421,9 +418,6 @@ module _ (u : SegView) (sounds : (p : ℕ) → Sound (u .page p)) (few : u .page
     target-new old q j a n c =
         retag (u .page q) j (Ordinary 0 n) (zeros n) a c (Target (off (a .after .at j)) (len (a .after .at j))) (toBE 8 i ++ new old)
         (move j (withSlot (a .after) j (Target (off (a .after .at j)) (len (a .after .at j))) (toBE 8 i ++ new old)))
-
-    root-page : View
-    root-page = u .page (pageNo i)
 
     module _ (taken : isFree (slotOn u i) ≡ false) where
       inside : slotNo i < u .page (pageNo i) .slotCount

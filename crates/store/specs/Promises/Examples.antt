@@ -1,9 +1,9 @@
 -- Document 01, "Numbers to meet", those not marked: the same table for them, on what is seen of the pages. One theorem, by computation.
 use Prim.Native.Nat.{ℕ}
 use mathlib.Core.Path.{_≡_, refl}
-use mathlib.Core.List.{List, [], _∷_, map}
+use mathlib.Core.List.{List, [], _∷_, _++_, map}
 use Rattle.store.specs.Numbers.{zeros, idOf}
-use Rattle.store.specs.Slots.{off, len}
+use Rattle.store.specs.Slots.{off}
 use Rattle.store.specs.Page.{View, sound}
 use Rattle.store.specs.PageSteps.{initialised, compactify, Alloc, noRoom, got, allocate, erase, eraseForRedirect, relocate}
 use Rattle.store.specs.Inventory.{classOf, nibbleAt, setNibble, entryAt, setEntry, firstFrom, nextPage, runEnd, setFrom, pulledBack, movedOn}
@@ -11,6 +11,8 @@ use Rattle.store.specs.Inventory.{updated, update, foundIn}
 use Rattle.store.specs.Segment.{SegView, Out, find, insertPlan, storePlan, writePlan, rootOf}
 use Rattle.store.specs.Laws.Segments.{settled}
 use Rattle.store.specs.Promises.Marked.{Row}
+use Rattle.store.specs.declared.Slot.{Slot}
+use Rattle.store.specs.declared.Slot.the-variants.{Ordinary, Free, Redirect, Target}
 
 -- ---- one page
 
@@ -81,21 +83,23 @@ long = record {
   want = 3 ∷ 0 ∷ [];
 }
 
+-- a target's offset and length
+abbrev place : Slot → List ℕ
+place (Ordinary o l) = []
+place Free = []
+place (Redirect i) = []
+place (Target o l) = o ∷ l ∷ []
+
 -- "forwarded to (2,0), offset 11,376, length 5,008; page 1 free 4,356, page 2 free 11,356."
 abbrev moved : Row
 moved = record {
-  got = off (forwarded .seen .page 2 .at 0) ∷ len
-      (forwarded .seen .page 2 .at 0) ∷ forwarded .seen .page 1 .freeSpace ∷ forwarded .seen .page 2 .freeSpace ∷ [];
+  got = place (forwarded .seen .page 2 .at 0) ++ (forwarded .seen .page 1 .freeSpace ∷ forwarded .seen .page 2 .freeSpace ∷ []);
   want = 11376 ∷ 5008 ∷ 4356 ∷ 11356 ∷ [];
 }
 
 -- "Then write 16,356: stays, page 2 free 0."
 abbrev fills : Row
-fills = record {
-  got = did forwarded (λ u v. writePlan foundIn u v (idOf 1 0) (zeros 16356)) .answer ∷ then forwarded
-      (λ u v. writePlan foundIn u v (idOf 1 0) (zeros 16356)) .seen .page 2 .freeSpace ∷ [];
-  want = 0 ∷ 0 ∷ [];
-}
+fills = record { got = then forwarded (λ u v. writePlan foundIn u v (idOf 1 0) (zeros 16356)) .seen .page 2 .freeSpace ∷ []; want = 0 ∷ [] }
 
 -- "16,357 instead: 7."
 abbrev over : Row

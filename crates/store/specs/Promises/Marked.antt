@@ -3,11 +3,11 @@
 use Prim.Native.Nat.{ℕ}
 use mathlib.Core.Path.{_≡_, refl}
 use mathlib.Core.List.{List, [], _∷_, _++_, map}
-use Rattle.store.specs.Numbers.{cut, zeros, idOf}
+use Rattle.store.specs.Numbers.{cut, toBE, toLE, zeros, idOf}
 use Rattle.store.specs.Slots.{slotBytes}
 use Rattle.store.specs.Page.{view, sound}
 use Rattle.store.specs.PageSteps.{initialised, headBytes, apply, compactify, allocate, relocate}
-use Rattle.store.specs.Inventory.{classOf, nibbleAt, nibble, setNibble, entryAt, setEntry, firstFrom, nextPage, runEnd, setFrom, pulledBack}
+use Rattle.store.specs.Inventory.{classOf, nibbleAt, setNibble, entryAt, setEntry, firstFrom, nextPage, runEnd, setFrom, pulledBack}
 use Rattle.store.specs.Inventory.{movedOn, updated, update, foundIn}
 use Rattle.store.specs.Segment.{Result, segView, result, find, insertPlan, storePlan, insertStep, resizeStep, rootOf}
 use Rattle.store.specs.declared.Slot.the-variants.{Redirect, Target}
@@ -34,13 +34,9 @@ hundred = insertStep blank blank (zeros 100)
 grown : Result
 grown = resizeStep (hundred .seg) (hundred .inv) 0 300
 
--- count, first free, data start and free space
-header : List ℕ → List ℕ
-header p = view p .slotCount ∷ view p .firstFree ∷ view p .dataStart ∷ view p .freeSpace ∷ []
-
--- the nibble of page 0 and the fifteen entries
-cached : List ℕ → List ℕ
-cached v = nibble v 0 ∷ map (entryAt v) (0 ∷ 1 ∷ 2 ∷ 3 ∷ 4 ∷ 5 ∷ 6 ∷ 7 ∷ 8 ∷ 9 ∷ 10 ∷ 11 ∷ 12 ∷ 13 ∷ 14 ∷ [])
+-- the bytes of a header: count, first free, data start and free space
+abbrev header : ℕ → ℕ → ℕ → ℕ → List ℕ
+header count first start free = toBE 2 count ++ (toBE 2 first ++ (toBE 4 start ++ toBE 4 free))
 
 -- P1 initialised header
 abbrev p1 : Row
@@ -48,7 +44,7 @@ p1 = record { got = headBytes initialised; want = 0 ∷ 0 ∷ 0 ∷ 0 ∷ 0 ∷ 
 
 -- P2 three bytes into it
 abbrev p2 : Row
-p2 = record { got = header (three .seg) ++ cut (three .seg) 12 8; want = 1 ∷ 1 ∷ 16381 ∷ 16361 ∷ 0 ∷ 0 ∷ 0x3F ∷ 0xFD ∷ 0 ∷ 0 ∷ 0 ∷ 3 ∷ [] }
+p2 = record { got = cut (three .seg) 0 20; want = header 1 1 16381 16361 ++ (0 ∷ 0 ∷ 0x3F ∷ 0xFD ∷ 0 ∷ 0 ∷ 0 ∷ 3 ∷ []) }
 
 -- P3 target at 16,368 of 16
 abbrev p3 : Row
@@ -74,9 +70,9 @@ p7 = record { got = classOf 4094 ∷ []; want = 3 ∷ [] }
 abbrev p8 : Row
 p8 = record { got = classOf 15584 ∷ []; want = 15 ∷ [] }
 
--- P9 n = 1, inventory all zero, then P2: nibble 2, entries 0 and 1 are 1, the rest 0
+-- P9 n = 1, inventory all zero, then P2: nibble 2, entries 0 and 1 are 1, the rest 0: fifteen entries of 8 bytes, and then page 0's nibble
 abbrev p9 : Row
-p9 = record { got = cached (three .inv); want = 2 ∷ 1 ∷ 1 ∷ zeros 13 }
+p9 = record { got = cut (three .inv) 0 121; want = toLE 8 1 ++ (toLE 8 1 ++ (zeros 104 ++ (2 ∷ []))) }
 
 -- P10 then 12,270 bytes go in
 abbrev p10 : Row
@@ -88,7 +84,7 @@ p11 = record { got = then 12271 ∷ []; want = 7 ∷ [] }
 
 -- P12 a record of 100 alone, grown to 300: data start 15,984, free 16,064
 abbrev p12 : Row
-p12 = record { got = header (grown .seg); want = 1 ∷ 1 ∷ 15984 ∷ 16064 ∷ [] }
+p12 = record { got = cut (grown .seg) 0 12; want = header 1 1 15984 16064 }
 
 -- one after the other, as each is given its own share of steps
 p1-is : p1 .got ≡ p1 .want
@@ -96,7 +92,7 @@ p1-is = refl
 
 p2-is : p2 .got ≡ p2 .want
 unfolding blank three view sound apply compactify allocate classOf nibbleAt setNibble entryAt setEntry firstFrom nextPage runEnd setFrom
-    pulledBack movedOn updated update foundIn segView result find insertPlan insertStep header
+    pulledBack movedOn updated update foundIn segView result find insertPlan insertStep
 p2-is = refl
 
 p3-is : p3 .got ≡ p3 .want
@@ -123,7 +119,7 @@ p8-is = refl
 
 p9-is : p9 .got ≡ p9 .want
 unfolding blank three view sound apply compactify allocate classOf nibbleAt setNibble entryAt setEntry firstFrom nextPage runEnd setFrom
-    pulledBack movedOn updated update foundIn segView result find insertPlan insertStep cached
+    pulledBack movedOn updated update foundIn segView result find insertPlan insertStep
 p9-is = refl
 
 p10-is : p10 .got ≡ p10 .want
@@ -138,7 +134,7 @@ p11-is = refl
 
 p12-is : p12 .got ≡ p12 .want
 unfolding blank three view sound apply compactify allocate classOf nibbleAt setNibble entryAt setEntry firstFrom nextPage runEnd setFrom
-    pulledBack movedOn updated update foundIn segView result find insertPlan insertStep hundred grown header storePlan rootOf relocate
+    pulledBack movedOn updated update foundIn segView result find insertPlan insertStep hundred grown storePlan rootOf relocate
     resizeStep
 p12-is = refl
 
