@@ -6,6 +6,7 @@ use store::Named;
 ghost use mathlib.Core.Path.{_≡_};
 ghost use Prim.Native.Nat.{_+_, _-_, _*_, _/_, _<_, _≤_};
 ghost use lib.ListN.{length};
+ghost use Rattle.store.specs.Answers.{namedPage};
 ghost use Rattle.store.specs.Inventory.{classOf, nibbleAt, setNibble, entryAt, setEntry, Room, foundIn, runEnd, nextPage, setFrom, pulledBack, update};
 
 // The class of a page with `used` bytes in use: document 01's table, which stands for the Rust's `encode`.
@@ -81,7 +82,7 @@ fn write_entry(inventory: &mut [u8], c: usize, v: usize)
 // The page for a request that needs `need` bytes, of a segment of n pages.
 pub fn find_page(inventory: &[u8], n: usize, need: usize) -> Named
     requires { ⌜ 120 ≤ length (now inventory) ⌝ }
-    ensures { λ r. ⌜ r ≡ foundIn (now (inventory .entry)) n need ⌝ }
+    ensures { λ r. ⌜ namedPage r ≡ namedPage (foundIn (now (inventory .entry)) n need) ⌝ }
 {
     if 16372 < need {
         return Named::Full;

@@ -11,16 +11,18 @@ use borrow.Author.Tests.{le-ltb, eq-eqb, ne-eqb}
 use Rattle.store.specs.Numbers.{put, zeros, toBE}
 use Rattle.store.specs.Slots.{slotBytes}
 use Rattle.store.specs.Page.{View, view, sound}
+use Rattle.store.specs.Answers.{placed, allotted}
 use Rattle.store.specs.PageSteps.{opened, initialised, apply, putHead, headBytes, withHead, allocate}
 use Rattle.store.specs.Laws.Numbers.{length-put, put-over}
 use Rattle.store.specs.Laws.Edits.{head-view}
-use Rattle.store.specs.Laws.Views.{Sound, sound-fits}
+use Rattle.store.specs.Laws.Views.{sound-fits}
+use Rattle.store.specs.Laws.Lent.{UsedPage}
 use Rattle.store.specs.Laws.SoundPage.{sound-init, sound-page}
 use Rattle.store.specs.declared.Slot.{Slot}
 use Rattle.store.specs.declared.Slot.the-variants.{Ordinary}
 use Rattle.store.specs.declared.Place.{Place}
 use Rattle.layout.specs.Run.{headOf}
-use Rattle.page_places.specs.Words.{pageBare, placeOf}
+use Rattle.page_places.specs.Words.{pageBare}
 use Rattle.page_places.proofs.BareLaws.{run-bare}
 
 pub head-init : (p : List ℕ) → put p 0 (headOf 0 0 16384 16372) ≡ putHead initialised p
@@ -47,20 +49,20 @@ init-reserve p n h =
 
 module _ (p : List ℕ) (n c : ℕ) (ec : c ≡ view p .slotCount) where
   pub fresh-done : (q₁ q₂ : List ℕ) (r : Place) → length p ≡ 16384 → n ≤ 16364 → c ≡ 0 → q₁ ≡ putHead initialised p
-      → (q₂ ≡ pageBare (allocate (view q₁) n) q₁) × (r ≡ placeOf (allocate (view q₁) n))
-      → (q₂ ≡ pageBare (allocate (opened (view p)) n) p) × (r ≡ placeOf (allocate (opened (view p)) n))
+      → (q₂ ≡ pageBare (allocate (view q₁) n) q₁) × (placed r ≡ allotted (allocate (view q₁) n))
+      → (q₂ ≡ pageBare (allocate (opened (view p)) n) p) × (placed r ≡ allotted (allocate (opened (view p)) n))
   fresh-done q₁ q₂ r whole h z e₁ e₂ =
       let t : eqb (view p .slotCount) 0 ≡ true = eq-eqb (view p .slotCount) 0 (sym ec ∙ z) in
       let s : view q₁ ≡ initialised = ap view e₁ ∙ init-view p whole in
       rw t (e₂ .0 ∙ rw (s, e₁) (init-reserve p n h), e₂ .1 ∙ rw s)
 
   pub used-done : (q : List ℕ) (r : Place) → c ≢ 0
-      → (q ≡ pageBare (allocate (view p) n) p) × (r ≡ placeOf (allocate (view p) n))
-      → (q ≡ pageBare (allocate (opened (view p)) n) p) × (r ≡ placeOf (allocate (opened (view p)) n))
+      → (q ≡ pageBare (allocate (view p) n) p) × (placed r ≡ allotted (allocate (view p) n))
+      → (q ≡ pageBare (allocate (opened (view p)) n) p) × (placed r ≡ allotted (allocate (opened (view p)) n))
   used-done q r z e = let a : view p .slotCount ≢ 0 = omega arith in rw (ne-eqb (view p .slotCount) 0 a) e
 
-  pub used-sound : length p ≡ 16384 → sound (view p) ≡ true → c ≢ 0 → Sound (view p)
-  used-sound whole e z = let a : view p .slotCount ≢ 0 = omega arith in sound-page p whole (ne-eqb (view p .slotCount) 0 a) e
+  pub used-sound : length p ≡ 16384 → sound (view p) ≡ true → c ≢ 0 → UsedPage p
+  used-sound whole e z = let a : view p .slotCount ≢ 0 = omega arith in record { whole = whole; sound = sound-page p whole (ne-eqb (view p .slotCount) 0 a) e }
 
-pub init-sound : (p q : List ℕ) → length p ≡ 16384 → q ≡ putHead initialised p → (length q ≡ 16384) × Sound (view q)
-init-sound p q whole e = (rw e (length-put p 0 (headBytes initialised) ∙ whole), rw (e, init-view p whole) sound-init)
+pub init-sound : (p q : List ℕ) → length p ≡ 16384 → q ≡ putHead initialised p → UsedPage q
+init-sound p q whole e = record { whole = rw e (length-put p 0 (headBytes initialised) ∙ whole); sound = rw (e, init-view p whole) sound-init }

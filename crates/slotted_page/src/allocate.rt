@@ -5,8 +5,9 @@ ghost use mathlib.Core.Bool.{true};
 ghost use Prim.Native.Nat.{_≤_};
 ghost use lib.ListN.{length};
 ghost use Rattle.store.specs.Page.{view, sound};
+ghost use Rattle.store.specs.Answers.{placed, allotted};
 ghost use Rattle.store.specs.PageSteps.{opened, putHead, initialised, allocate};
-ghost use Rattle.page_places.specs.Words.{pageBare, placeOf, Inside, PastEntry};
+ghost use Rattle.page_places.specs.Words.{pageBare, Inside, PastEntry};
 
 // The header of a page just initialised.
 fn initialize(page: &mut [u8])
@@ -20,7 +21,7 @@ fn initialize(page: &mut [u8])
 pub fn allocate(page: &mut [u8], size: usize) -> Place
     requires { ⌜ (length (now page) ≡ 16384) × (sound (view (now page)) ≡ true) × (size ≤ 16364) ⌝ }
     ensures { λ r. ⌜ (now (page .exit) ≡ pageBare (allocate (opened (view (now (page .entry)))) size) (now (page .entry)))
-        × (r ≡ placeOf (allocate (opened (view (now (page .entry)))) size)) × Inside r size × PastEntry r ⌝ }
+        × (placed r ≡ allotted (allocate (opened (view (now (page .entry)))) size)) × Inside r size × PastEntry r ⌝ }
 {
     let c = layout::header::get_slot_count(page);
     if c == 0 {

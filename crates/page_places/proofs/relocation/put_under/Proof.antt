@@ -46,7 +46,7 @@ returns c =
     let a = b .args in (
       under-made (a .page .now) (a .k) (a .size) (n .get-slot-count .result) (f .get-first-free-slot .result) (m .get-free-space .result)
           (r .make-room .result) (a .s) (t .placed-slot .result)
-          (r .make-room .last .0) (z .commit .last .0) (b .pre .1)
+          (r .make-room .last .0) (z .commit .last .0) (b .pre .0 .sound)
           (n .get-slot-count .ensures .0) (f .get-first-free-slot .ensures .0) (m .get-free-space .ensures .0) (r .make-room .ensures)
           (t .placed-slot .ensures .0) (z .commit .ensures),
       ap (λ (x : ℕ). x - a .size) (r .make-room .ensures .begins),

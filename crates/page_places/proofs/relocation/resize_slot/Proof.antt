@@ -21,12 +21,15 @@ returns c =
     let b = l .before .before in
     let a = b .args in
     let y = resize-same (view (a .page .now)) (a .k) (a .size) (l .len-of .result) (o .off-of .result) (a .page .now) (a .page .now)
-    (l .len-of .ensures ∙ ap len (b .pre .3)) (o .off-of .ensures ∙ ap off (b .pre .3))
-    (ap isRecord (sym (b .pre .3)) ∙ b .pre .4) (c .if1 .taken) in
-    (y .0, y .1, omega (arith, b .pre .1 .high (a .k), ap len (b .pre .3), ap off (b .pre .3), l .len-of .ensures, o .off-of .ensures))
+    (l .len-of .ensures ∙ ap len (b .pre .1 .0)) (o .off-of .ensures ∙ ap off (b .pre .1 .0))
+    (ap isRecord (sym (b .pre .1 .0)) ∙ b .pre .1 .1) (c .if1 .taken) in
+    (y .0, y .1, omega (arith, b .pre .0 .sound .high (a .k), ap len (b .pre .1 .0), ap off (b .pre .1 .0), l .len-of .ensures, o .off-of .ensures))
 
 shrink-requires : tie.Need-shrink-requires
-shrink-requires c κs = search needs
+shrink-requires c κs =
+    let l = c .before .before .before .before in
+    let b = l .before .before in
+    (b .pre .0, (b .pre .1 .0, b .pre .1 .1, omega (arith, l .len-of .ensures)))
 
 same-length : tie.Need-same-length
 same-length c = search needs
@@ -40,9 +43,9 @@ returns-2 c =
     let b = l .before .before in
     let a = b .args in
     let y = resize-less (view (a .page .now)) (a .k) (a .size) (l .len-of .result) (o .off-of .result) (a .page .now) (z .shrink .last .0)
-    (l .len-of .ensures ∙ ap len (b .pre .3)) (o .off-of .ensures ∙ ap off (b .pre .3))
-    (ap isRecord (sym (b .pre .3)) ∙ b .pre .4) (e .if2 .taken) (z .shrink .ensures) in
-    (y .0, y .1, omega (arith, b .pre .1 .high (a .k), ap len (b .pre .3), ap off (b .pre .3), l .len-of .ensures, o .off-of .ensures))
+    (l .len-of .ensures ∙ ap len (b .pre .1 .0)) (o .off-of .ensures ∙ ap off (b .pre .1 .0))
+    (ap isRecord (sym (b .pre .1 .0)) ∙ b .pre .1 .1) (e .if2 .taken) (z .shrink .ensures) in
+    (y .0, y .1, omega (arith, b .pre .0 .sound .high (a .k), ap len (b .pre .1 .0), ap off (b .pre .1 .0), l .len-of .ensures, o .off-of .ensures))
 
 get-free-space-requires : tie.Need-get-free-space-requires
 get-free-space-requires c κs = search needs
@@ -59,15 +62,15 @@ returns-3 c =
     let b = l .before .before in
     let a = b .args in
     let y = resize-none (view (a .page .now)) (a .k) (a .size) (l .len-of .result) (o .off-of .result) (a .page .now) (a .page .now)
-    (l .len-of .ensures ∙ ap len (b .pre .3)) (o .off-of .ensures ∙ ap off (b .pre .3))
-    (ap isRecord (sym (b .pre .3)) ∙ b .pre .4) (r .get-free-space .result) (r .get-free-space .ensures .0) (omega arith) (c .if3 .taken) in
+    (l .len-of .ensures ∙ ap len (b .pre .1 .0)) (o .off-of .ensures ∙ ap off (b .pre .1 .0))
+    (ap isRecord (sym (b .pre .1 .0)) ∙ b .pre .1 .1) (r .get-free-space .result) (r .get-free-space .ensures .0) (omega arith) (c .if3 .taken) in
     (y .0, y .1, tt)
 
 park-requires : tie.Need-park-requires
 park-requires c κs =
     let l = c .before .before .before .before .before .before .before in
     let b = l .before .before in
-    (b .pre .0, b .pre .1, b .pre .2, omega (arith, b .pre .1 .high (b .args .k), ap len (b .pre .3), l .len-of .ensures))
+    (b .pre .0, omega (arith, b .pre .0 .sound .high (b .args .k), ap len (b .pre .1 .0), l .len-of .ensures))
 
 put-under-requires : tie.Need-put-under-requires
 put-under-requires c κs =
@@ -75,9 +78,9 @@ put-under-requires c κs =
     let l = c .before .before .before .before .before .before .before .before .before .before .before in
     let b = l .before .before in
     let a = b .args in
-    let x = parked-by (a .page .now) (a .k) (l .len-of .result) (a .s) (k .park .last .0) (b .pre .0) (b .pre .1) (b .pre .2) (b .pre .3) (b .pre .4)
+    let x = parked-by (a .page .now) (a .k) (l .len-of .result) (a .s) (k .park .last .0) (b .pre .0) (b .pre .1 .0) (b .pre .1 .1)
     (l .len-of .ensures) (k .park .ensures) in
-    (x .whole, rw (x .seen) (x .sound), rw (x .seen) (b .pre .2), rw (x .seen) (omega (arith, ap len (b .pre .3), l .len-of .ensures)))
+    (record { whole = x .whole; sound = rw (x .seen) (x .sound); counted = rw (x .seen) (b .pre .0 .counted) }, rw (x .seen) (omega (arith, ap len (b .pre .1 .0), l .len-of .ensures)))
 
 same-length-3 : tie.Need-same-length-3
 same-length-3 c = search needs
@@ -91,14 +94,14 @@ returns-4 c =
     let l = o .before in
     let b = l .before .before in
     let a = b .args in
-    let x = parked-by (a .page .now) (a .k) (l .len-of .result) (a .s) (k .park .last .0) (b .pre .0) (b .pre .1) (b .pre .2) (b .pre .3) (b .pre .4)
+    let x = parked-by (a .page .now) (a .k) (l .len-of .result) (a .s) (k .park .last .0) (b .pre .0) (b .pre .1 .0) (b .pre .1 .1)
     (l .len-of .ensures) (k .park .ensures) in
-    let g = grow-done (a .page .now) (a .k) (l .len-of .result) (a .s) (k .park .last .0) (b .pre .0) (b .pre .1) (b .pre .2) (b .pre .3) (b .pre .4)
+    let g = grow-done (a .page .now) (a .k) (l .len-of .result) (a .s) (k .park .last .0) (b .pre .0) (b .pre .1 .0) (b .pre .1 .1)
     (l .len-of .ensures)
     (a .size) (u .put-under .last .0) (k .park .ensures) (u .put-under .ensures .0) in
     let y = resize-more (view (a .page .now)) (a .k) (a .size) (l .len-of .result) (o .off-of .result) (a .page .now) (u .put-under .last .0)
-    (l .len-of .ensures ∙ ap len (b .pre .3)) (o .off-of .ensures ∙ ap off (b .pre .3))
-    (ap isRecord (sym (b .pre .3)) ∙ b .pre .4) (r .get-free-space .result) (u .put-under .result) (r .get-free-space .ensures .0) (omega arith)
+    (l .len-of .ensures ∙ ap len (b .pre .1 .0)) (o .off-of .ensures ∙ ap off (b .pre .1 .0))
+    (ap isRecord (sym (b .pre .1 .0)) ∙ b .pre .1 .1) (r .get-free-space .result) (u .put-under .result) (r .get-free-space .ensures .0) (omega arith)
     (omega arith) g (rw (x .seen) at (u .put-under .ensures .1)) in
     (y .0, y .1, u .put-under .ensures .2)
 

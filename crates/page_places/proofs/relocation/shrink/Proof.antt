@@ -29,7 +29,7 @@ off-of-requires c κs = search needs
 placed-slot-requires : tie.Need-placed-slot-requires
 placed-slot-requires c κs =
     let a = c .before .before .before .before .before .before .before .before .before .before .before in
-    omega (arith, a .pre .1 .high (a .args .k), ap len (a .pre .3), ap off (a .pre .3), c .off-of .ensures)
+    omega (arith, a .pre .0 .sound .high (a .args .k), ap len (a .pre .1 .0), ap off (a .pre .1 .0), c .off-of .ensures)
 
 sub-commit : tie.Need-sub-commit
 sub-commit c = search needs
@@ -37,7 +37,7 @@ sub-commit c = search needs
 add-commit : tie.Need-add-commit
 add-commit c =
     let a = c .before .before .before .before .before .before .before .before .before .before .before .before .before in
-    omega (arith, a .pre .1 .high (a .args .k), ap len (a .pre .3))
+    omega (arith, a .pre .0 .sound .high (a .args .k), ap len (a .pre .1 .0))
 
 commit-requires : tie.Need-commit-requires
 commit-requires c κs = search needs
@@ -60,7 +60,7 @@ returns c =
     shrink-done (view (a .page .now)) (a .k) (a .size) (n .get-slot-count .result) (f .get-first-free-slot .result) (d .get-data-start .result)
     (m .get-free-space .result) (l .len-of .result) (o .off-of .result)
     (a .s) (t .placed-slot .result) (a .page .now) (z .commit .last .0)
-    (b .pre .3) (n .get-slot-count .ensures .0) (f .get-first-free-slot .ensures .0) (d .get-data-start .ensures .0) (m .get-free-space .ensures .0)
+    (b .pre .1 .0) (n .get-slot-count .ensures .0) (f .get-first-free-slot .ensures .0) (d .get-data-start .ensures .0) (m .get-free-space .ensures .0)
     (l .len-of .ensures) (o .off-of .ensures) (t .placed-slot .ensures .0) (z .commit .ensures)
 
 pub shrink-spec : {M : Type 1} → statement M

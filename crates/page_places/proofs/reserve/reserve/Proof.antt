@@ -85,7 +85,7 @@ returns-2 c =
     let s = b .args in
     let y = reserve-done (view (s .page .now)) (s .size) (n .get-slot-count .result) (f .get-first-free-slot .result) (g .get-free-space .result)
     (a .added-for .result)
-    (n .get-slot-count .ensures .0) (f .get-first-free-slot .ensures .0) (g .get-free-space .ensures .0) (a .added-for .ensures .0) (b .pre .1)
+    (n .get-slot-count .ensures .0) (f .get-first-free-slot .ensures .0) (g .get-free-space .ensures .0) (a .added-for .ensures .0) (b .pre .0 .sound)
     (r .make-room .result) (x .next-free .result) (s .page .now) (r .make-room .last .0) (h .set-header .last .0) (w .write-slot .last .0)
     (e .if1 .left) (x .next-free .ensures) (r .make-room .ensures .is) (r .make-room .ensures .begins) (h .set-header .ensures) (w .write-slot .ensures) in
     (y .0, y .1, omega (arith, r .make-room .ensures), omega (arith, r .make-room .ensures, a .added-for .ensures, n .get-slot-count .ensures))

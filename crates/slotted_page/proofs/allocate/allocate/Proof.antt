@@ -16,7 +16,7 @@ reserve-requires c κs =
     let i = c .before .before .before in
     let b = c .before .before .before .before .before .before .before .before .before in
     let x = init-sound (b .args .page .now) (i .initialize .last .0) (b .pre .0) (i .initialize .ensures) in
-    (x .0, x .1, omega arith)
+    (x, omega arith)
 
 same-length : tie.Need-same-length
 same-length c = search needs
@@ -39,7 +39,6 @@ reserve-requires-2 c κs =
     let n = c .before .before in
     let b = n .before .before .before in
     let a = b .args in (
-      b .pre .0,
       used-sound (a .page .now) (a .size) (n .get-slot-count .result) (n .get-slot-count .ensures .0) (b .pre .0) (b .pre .1)
           (c .before .if1 .left),
       omega arith,

@@ -33,7 +33,7 @@ start-without-requires : tie.Need-start-without-requires
 start-without-requires c κs =
     let g = c .before .before in
     let a = g .before .before .before .before .before .before .before .before .before .before .before in
-    omega (arith, a .pre .1 .high (a .args .k), a .pre .1 .sums, ap len (g .get-slot .ensures .0))
+    omega (arith, a .pre .sound .high (a .args .k), a .pre .sound .sums, ap len (g .get-slot .ensures .0))
 
 pruned-by-requires : tie.Need-pruned-by-requires
 pruned-by-requires c κs = search needs
@@ -48,7 +48,7 @@ add-set-header : tie.Need-add-set-header
 add-set-header c =
     let g = c .before .before .before .before .before .before .before in
     let a = g .before .before .before .before .before .before .before .before .before .before .before in
-    omega (arith, a .pre .1 .high (a .args .k), a .pre .1 .sums, ap len (g .get-slot .ensures .0))
+    omega (arith, a .pre .sound .high (a .args .k), a .pre .sound .sums, ap len (g .get-slot .ensures .0))
 
 mul-set-header : tie.Need-mul-set-header
 mul-set-header c = search needs
@@ -57,7 +57,7 @@ add-set-header-2 : tie.Need-add-set-header-2
 add-set-header-2 c =
     let g = c .before .before .before .before .before .before .before in
     let a = g .before .before .before .before .before .before .before .before .before .before .before in
-    omega (arith, a .pre .1 .high (a .args .k), a .pre .1 .sums, ap len (g .get-slot .ensures .0))
+    omega (arith, a .pre .sound .high (a .args .k), a .pre .sound .sums, ap len (g .get-slot .ensures .0))
 
 set-header-requires : tie.Need-set-header-requires
 set-header-requires c κs = search needs

@@ -34,13 +34,13 @@ start-without-requires : tie.Need-start-without-requires
 start-without-requires c κs =
     let g = c .before .before in
     let a = g .before .before .before .before .before .before .before .before .before .before .before in
-    omega (arith, a .pre .1 .high (a .args .k), ap len (g .get-slot .ensures .0))
+    omega (arith, a .pre .0 .sound .high (a .args .k), ap len (g .get-slot .ensures .0))
 
 add-set-header : tie.Need-add-set-header
 add-set-header c =
     let g = c .before .before .before .before in
     let a = g .before .before .before .before .before .before .before .before .before .before .before in
-    omega (arith, a .pre .1 .high (a .args .k), ap len (g .get-slot .ensures .0))
+    omega (arith, a .pre .0 .sound .high (a .args .k), ap len (g .get-slot .ensures .0))
 
 set-header-requires : tie.Need-set-header-requires
 set-header-requires c κs = search needs

@@ -16,7 +16,7 @@ returns c =
     let u = c .before .before in
     let b = u .before .before .before in
     let a = b .args in
-    (u .relocate .ensures .0 ∙ again-done (a .page .now) (a .k) (a .size) (b .pre .0) (b .pre .1) (b .pre .2), u .relocate .ensures .1)
+    (u .relocate .ensures .0 ∙ again-done (a .page .now) (a .k) (a .size) (b .pre), u .relocate .ensures .1)
 
 pub resize-spec : {M : Type 1} → statement M
 resize-spec = tie.close (tie.spec relocate-requires same-length returns)

@@ -26,7 +26,7 @@ get-slot-requires c κs =
     let u = c .before .before .before .before in
     let b = u .before .before .before in
     let a = b .args in
-    let x = target-kept (a .page .now) (a .k) (a .size) (u .relocate .last .0) (b .pre .0) (b .pre .1) (b .pre .2) (u .relocate .ensures .0)
+    let x = target-kept (a .page .now) (a .k) (a .size) (u .relocate .last .0) (b .pre .0) (u .relocate .ensures .0)
     (sym (e .if1 .taken) ∙ u .relocate .ensures .1) in
     (x .whole, x .counted .0, x .counted .1)
 
@@ -40,7 +40,7 @@ put-u64-requires c κs =
     let u = c .before .before .before .before .before .before .before in
     let b = u .before .before .before in
     let a = b .args in
-    let x = target-kept (a .page .now) (a .k) (a .size) (u .relocate .last .0) (b .pre .0) (b .pre .1) (b .pre .2) (u .relocate .ensures .0)
+    let x = target-kept (a .page .now) (a .k) (a .size) (u .relocate .last .0) (b .pre .0) (u .relocate .ensures .0)
     (sym (e .if1 .taken) ∙ u .relocate .ensures .1) in
     omega (arith, x .whole, x .high, c .off-of .ensures, ap off (g .get-slot .ensures .0))
 
@@ -56,7 +56,7 @@ returns c =
     let u = c .before .before .before .before .before .before .before .before .before .before in
     let b = u .before .before .before in
     let a = b .args in
-    let x = target-kept (a .page .now) (a .k) (a .size) (u .relocate .last .0) (b .pre .0) (b .pre .1) (b .pre .2) (u .relocate .ensures .0)
+    let x = target-kept (a .page .now) (a .k) (a .size) (u .relocate .last .0) (b .pre .0) (u .relocate .ensures .0)
     (sym (e .if1 .taken) ∙ u .relocate .ensures .1) in
     let f = o .off-of .ensures ∙ ap off (g .get-slot .ensures .0) in
     (x .done (toBE 8 (a .id)) (z .put-u64 .last .0) refl (z .put-u64 .ensures ∙ rw f), sym (e .if1 .taken) ∙ u .relocate .ensures .1)

@@ -1,5 +1,5 @@
 -- `slotted_page::record::rewrite` meets its contract.
-use mathlib.Core.Path.{sym, subst, _∙_}
+use mathlib.Core.Path.{sym, ap, subst, _∙_}
 use native.Mathlib.Omega.{arith}
 use Rattle.store.specs.Numbers.{fit}
 use Rattle.store.specs.PageSteps.{relocate}
@@ -8,6 +8,7 @@ use Rattle.store.specs.Laws.Relocate.{length-fit}
 use Rattle.store.specs.declared.Place.{Place}
 use Rattle.page_places.specs.Words.{Inside}
 use Rattle.slotted_page.proofs.RecordLaws.{bytes-done}
+use Rattle.store.specs.Answers.{placed}
 use Rattle.slotted_page.proofs.FillLaws.{refused-done}
 use borrow.Author.Needs.{needs}
 use Rattle.slotted_page.proofs.record.rewrite.Statement.{statement}
@@ -39,9 +40,9 @@ returns c =
     let u = c .before .before .before .before .before .before .before .before .before in
     let b = u .before .before .before .before in
     let a = b .args in
-    bytes-done (a .page .now) (a .k) (a .size) (b .pre .0) (b .pre .1) (b .pre .2) (g .place .given .0 .0) (g .place .given .0 .1 .0)
+    bytes-done (a .page .now) (a .k) (a .size) (b .pre) (g .place .given .0 .0) (g .place .given .0 .1 .0)
     (u .move-slot .last .0) (z .fit-in .last .0)
-    (sym (g .place .given .1) ∙ u .move-slot .ensures .1) (u .move-slot .ensures .0) (fit (a .size) (a .bytes .now))
+    (ap placed (sym (g .place .given .1)) ∙ u .move-slot .ensures .1) (u .move-slot .ensures .0) (fit (a .size) (a .bytes .now))
     (length-fit (a .size) (a .bytes .now)) (z .fit-in .ensures)
 
 same-length-2 : tie.Need-same-length-2
@@ -52,7 +53,7 @@ returns-2 c =
     let u = c .before .before .before .before in
     let a = u .before .before .before .before .args in
     let y = refused-done (a .page .now) (u .move-slot .last .0) (a .k) (relocate (view (a .page .now)) (a .k) (a .size))
-    (sym (c .enum-told .given .1) ∙ u .move-slot .ensures .1) (u .move-slot .ensures .0) in
+    (ap placed (sym (c .enum-told .given .1)) ∙ u .move-slot .ensures .1) (u .move-slot .ensures .0) in
     (y .2 (fit (a .size) (a .bytes .now)), y .1)
 
 pub rewrite-spec : {M : Type 1} → statement M

@@ -1,5 +1,5 @@
 -- `slotted_page::record::rewrite_target` meets its contract.
-use mathlib.Core.Path.{sym, subst, _∙_}
+use mathlib.Core.Path.{sym, ap, subst, _∙_}
 use mathlib.Core.List.{_++_}
 use Prim.Native.Nat.{_+_}
 use native.Mathlib.Omega.{arith}
@@ -11,6 +11,7 @@ use Rattle.layout.proofs.Writes.{write-append}
 use Rattle.store.specs.declared.Place.{Place}
 use Rattle.page_places.specs.Words.{Inside}
 use Rattle.slotted_page.proofs.RecordLaws.{bytes-done}
+use Rattle.store.specs.Answers.{placed}
 use Rattle.slotted_page.proofs.FillLaws.{refused-done}
 use borrow.Author.Needs.{needs}
 use Rattle.slotted_page.proofs.record.rewrite_target.Statement.{statement}
@@ -62,9 +63,9 @@ returns c =
     let a = b .args in
     let o = g .place .given .0 .1 .0 in
     let i = toBE 8 (a .id) in
-    bytes-done (a .page .now) (a .k) (length (a .bytes .now) + 8) (b .pre .0) (b .pre .1) (b .pre .2) (g .place .given .0 .0) o
+    bytes-done (a .page .now) (a .k) (length (a .bytes .now) + 8) (b .pre .0) (g .place .given .0 .0) o
     (u .move-slot .last .0) (z .copy-in .last .0)
-    (sym (g .place .given .1) ∙ u .move-slot .ensures .1) (u .move-slot .ensures .0) (i ++ a .bytes .now) (omega arith)
+    (ap placed (sym (g .place .given .1)) ∙ u .move-slot .ensures .1) (u .move-slot .ensures .0) (i ++ a .bytes .now) (omega arith)
     (z .copy-in .ensures ∙ rw (w .put-u64 .ensures) (sym (write-append o i (a .bytes .now) (u .move-slot .last .0))))
 
 same-length-2 : tie.Need-same-length-2
@@ -75,7 +76,7 @@ returns-2 c =
     let u = c .before .before .before .before in
     let a = u .before .before .before .before .args in
     let y = refused-done (a .page .now) (u .move-slot .last .0) (a .k) (relocate (view (a .page .now)) (a .k) (length (a .bytes .now) + 8))
-    (sym (c .enum-told .given .1) ∙ u .move-slot .ensures .1) (u .move-slot .ensures .0) in
+    (ap placed (sym (c .enum-told .given .1)) ∙ u .move-slot .ensures .1) (u .move-slot .ensures .0) in
     (y .2 (toBE 8 (a .id) ++ a .bytes .now), y .1)
 
 pub rewrite-target-spec : {M : Type 1} → statement M

@@ -7,6 +7,7 @@ use Rattle.store.specs.Page.{view}
 use Rattle.store.specs.declared.Place.{Place}
 use Rattle.page_places.specs.Words.{Inside}
 use Rattle.slotted_page.proofs.RecordLaws.{grow-done, old-done}
+use Rattle.store.specs.Answers.{placed}
 use Rattle.slotted_page.proofs.FillLaws.{refused-done}
 use borrow.Author.Needs.{needs}
 use Rattle.slotted_page.proofs.relocate.grow.Statement.{statement}
@@ -31,7 +32,7 @@ move-within-requires c κs =
     let l = c .before .before .before .before .before .before .before .before .before in
     let b = l .before .before in
     let h = subst (λ (x : Place). Inside x (b .args .size)) (g .place .given .1) (u .move-slot .ensures .2) in
-    omega (arith, h, b .pre .1 .high (b .args .k), ap len (b .pre .3), ap off (b .pre .3), c .off-of .ensures, l .len-of .ensures, b .pre .4)
+    omega (arith, h, b .pre .0 .sound .high (b .args .k), ap len (b .pre .1 .0), ap off (b .pre .1 .0), c .off-of .ensures, l .len-of .ensures, b .pre .1 .1)
 
 add-zero-fill : tie.Need-add-zero-fill
 add-zero-fill c =
@@ -40,7 +41,7 @@ add-zero-fill c =
     let l = c .before .before .before .before .before .before .before .before .before .before .before .before .before in
     let b = l .before .before in
     let h = subst (λ (x : Place). Inside x (b .args .size)) (g .place .given .1) (u .move-slot .ensures .2) in
-    omega (arith, h, l .len-of .ensures, b .pre .4)
+    omega (arith, h, l .len-of .ensures, b .pre .1 .1)
 
 sub-zero-fill : tie.Need-sub-zero-fill
 sub-zero-fill c = search needs
@@ -52,7 +53,7 @@ zero-fill-requires c κs =
     let l = c .before .before .before .before .before .before .before .before .before .before .before .before .before in
     let b = l .before .before in
     let h = subst (λ (x : Place). Inside x (b .args .size)) (g .place .given .1) (u .move-slot .ensures .2) in
-    omega (arith, h, l .len-of .ensures, b .pre .4)
+    omega (arith, h, l .len-of .ensures, b .pre .1 .1)
 
 enum-told : tie.Need-enum-told
 enum-told c = search needs
@@ -70,15 +71,15 @@ returns c =
     let l = c .before .before .before .before .before .before .before .before .before .before .before .before .before .before .before .before in
     let b = l .before .before in
     let a = b .args in
-    let e = sym (g .place .given .1) ∙ u .move-slot .ensures .1 in
+    let e = ap placed (sym (g .place .given .1)) ∙ u .move-slot .ensures .1 in
     let j = g .place .given .0 .0 in
     let d = g .place .given .0 .1 .0 in
-    let x = grow-done (a .page .now) (a .k) (a .size) (b .pre .0) (b .pre .1) (b .pre .2) j d (u .move-slot .last .0) (m .move-within .last .0) e
+    let x = grow-done (a .page .now) (a .k) (a .size) (b .pre .0) j d (u .move-slot .last .0) (m .move-within .last .0) e
     (u .move-slot .ensures .0)
-    (f .off-of .result) (l .len-of .result) (z .zero-fill .last .0) (f .off-of .ensures ∙ ap off (b .pre .3))
-    (l .len-of .ensures ∙ ap len (b .pre .3)) (omega (arith, l .len-of .ensures, b .pre .4)) (b .pre .5)
+    (f .off-of .result) (l .len-of .result) (z .zero-fill .last .0) (f .off-of .ensures ∙ ap off (b .pre .1 .0))
+    (l .len-of .ensures ∙ ap len (b .pre .1 .0)) (omega (arith, l .len-of .ensures, b .pre .1 .1)) (b .pre .1 .2)
     (m .move-within .ensures) (z .zero-fill .ensures) in
-    old-done (a .page .now) (a .k) (a .size) (b .pre .0) (b .pre .1) (b .pre .2) j d (u .move-slot .last .0) (z .zero-fill .last .0) e
+    old-done (a .page .now) (a .k) (a .size) (b .pre .0) j d (u .move-slot .last .0) (z .zero-fill .last .0) e
     (u .move-slot .ensures .0) x
 
 same-length-2 : tie.Need-same-length-2
@@ -89,7 +90,7 @@ returns-2 c =
     let u = c .before .before .before .before in
     let a = u .before .before .before .before .args in
     let y = refused-done (a .page .now) (u .move-slot .last .0) (a .k) (relocate (view (a .page .now)) (a .k) (a .size))
-    (sym (c .enum-told .given .1) ∙ u .move-slot .ensures .1) (u .move-slot .ensures .0) in
+    (ap placed (sym (c .enum-told .given .1)) ∙ u .move-slot .ensures .1) (u .move-slot .ensures .0) in
     (y .0, y .1)
 
 pub grow-spec : {M : Type 1} → statement M

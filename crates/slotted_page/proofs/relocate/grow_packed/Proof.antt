@@ -8,6 +8,7 @@ use Rattle.store.specs.Page.{view}
 use Rattle.store.specs.declared.Place.{Place}
 use Rattle.page_places.specs.Words.{Inside}
 use Rattle.slotted_page.proofs.RecordLaws.{saved-old, old-done}
+use Rattle.store.specs.Answers.{placed}
 use Rattle.slotted_page.proofs.FillLaws.{refused-done}
 use Rattle.store.specs.Laws.Numbers.{length-put}
 use borrow.Author.Needs.{needs}
@@ -27,7 +28,7 @@ save-requires : tie.Need-save-requires
 save-requires c κs =
     let l = c .before .before .before in
     let b = l .before .before in
-    omega (arith, b .pre .1 .high (b .args .k), ap len (b .pre .3), ap off (b .pre .3), c .before .off-of .ensures, l .len-of .ensures)
+    omega (arith, b .pre .0 .sound .high (b .args .k), ap len (b .pre .1), ap off (b .pre .1), c .before .off-of .ensures, l .len-of .ensures)
 
 move-slot-requires : tie.Need-move-slot-requires
 move-slot-requires c κs = search needs
@@ -40,21 +41,21 @@ array-share-prefix-saved c =
     let w = c .before .before .before .before .before .before .before .before .before in
     let l = c .before .before .before .before .before .before .before .before .before .before .before .before .before in
     let b = l .before .before in
-    rw (w .save .ensures, length-put, length-replicate) (omega (arith, b .pre .1 .high (b .args .k), ap len (b .pre .3), l .len-of .ensures))
+    rw (w .save .ensures, length-put, length-replicate) (omega (arith, b .pre .0 .sound .high (b .args .k), ap len (b .pre .1), l .len-of .ensures))
 
 slice-aggregate-fit-in : tie.Need-slice-aggregate-fit-in
 slice-aggregate-fit-in c =
     let w = c .before .before .before .before .before .before .before .before .before .before in
     let l = c .before .before .before .before .before .before .before .before .before .before .before .before .before .before in
     let b = l .before .before in
-    rw (length-take, w .save .ensures, length-put, length-replicate) (omega (arith, b .pre .1 .high (b .args .k), ap len (b .pre .3), l .len-of .ensures))
+    rw (length-take, w .save .ensures, length-put, length-replicate) (omega (arith, b .pre .0 .sound .high (b .args .k), ap len (b .pre .1), l .len-of .ensures))
 
 fit-in-requires : tie.Need-fit-in-requires
 fit-in-requires c κs =
     let g = c .before .before .before in
     let u = c .before .before .before .before .before .before .before in
-    let n = c .before .before .before .before .before .before .before .before .before .before .before .before .before .before .before .before .args .size in
-    omega (arith, subst (λ (x : Place). Inside x n) (g .place .given .1) (u .move-slot .ensures .2))
+    let b = u .before .before .before .before .before .before .before .before .before in
+    omega (arith, b .pre .0 .whole, subst (λ (x : Place). Inside x (b .args .size)) (g .place .given .1) (u .move-slot .ensures .2))
 
 enum-told : tie.Need-enum-told
 enum-told c = search needs
@@ -72,13 +73,13 @@ returns c =
     let l = c .before .before .before .before .before .before .before .before .before .before .before .before .before .before .before .before .before in
     let b = l .before .before in
     let a = b .args in
-    let x = saved-old (a .page .now) (a .k) (a .size) (b .pre .0) (b .pre .1) (b .pre .2) (f .off-of .result) (l .len-of .result) (replicate 16384 0)
+    let x = saved-old (a .page .now) (a .k) (a .size) (b .pre .0) (f .off-of .result) (l .len-of .result) (replicate 16384 0)
     (w .save .last .1 .1 .1 .0)
-    (f .off-of .ensures ∙ ap off (b .pre .3)) (l .len-of .ensures ∙ ap len (b .pre .3))
-    (rw length-replicate (omega (arith, b .pre .1 .high (a .k), ap len (b .pre .3), l .len-of .ensures))) (w .save .ensures) in
-    old-done (a .page .now) (a .k) (a .size) (b .pre .0) (b .pre .1) (b .pre .2) (g .place .given .0 .0) (g .place .given .0 .1 .0)
+    (f .off-of .ensures ∙ ap off (b .pre .1)) (l .len-of .ensures ∙ ap len (b .pre .1))
+    (rw length-replicate (omega (arith, b .pre .0 .sound .high (a .k), ap len (b .pre .1), l .len-of .ensures))) (w .save .ensures) in
+    old-done (a .page .now) (a .k) (a .size) (b .pre .0) (g .place .given .0 .0) (g .place .given .0 .1 .0)
     (u .move-slot .last .0) (z .fit-in .last .0)
-    (sym (g .place .given .1) ∙ u .move-slot .ensures .1) (u .move-slot .ensures .0) (z .fit-in .ensures ∙ rw x)
+    (ap placed (sym (g .place .given .1)) ∙ u .move-slot .ensures .1) (u .move-slot .ensures .0) (z .fit-in .ensures ∙ rw x)
 
 same-length-2 : tie.Need-same-length-2
 same-length-2 c = search needs
@@ -88,7 +89,7 @@ returns-2 c =
     let u = c .before .before .before .before in
     let a = u .before .before .before .before .before .before .before .before .before .args in
     let y = refused-done (a .page .now) (u .move-slot .last .0) (a .k) (relocate (view (a .page .now)) (a .k) (a .size))
-    (sym (c .enum-told .given .1) ∙ u .move-slot .ensures .1) (u .move-slot .ensures .0) in
+    (ap placed (sym (c .enum-told .given .1)) ∙ u .move-slot .ensures .1) (u .move-slot .ensures .0) in
     (y .0, y .1)
 
 pub grow-packed-spec : {M : Type 1} → statement M

@@ -20,7 +20,7 @@ settle-requires c κs =
     let l = c .before .before in
     let g = c .before .before .before in
     let b = g .before .before .before in
-    (b .pre .0, b .pre .1, b .pre .2, omega (arith, ap len (g .get-slot .ensures .0), l .len-of .ensures, e .if1 .taken))
+    (b .pre, omega (arith, ap len (g .get-slot .ensures .0), l .len-of .ensures, e .if1 .taken))
 
 same-length : tie.Need-same-length
 same-length c = search needs
@@ -46,7 +46,7 @@ returns-2 c =
     let b = g .before .before .before in
     let a = b .args in
     let e : l .len-of .result ≡ len (view (a .page .now) .at (a .k)) = l .len-of .ensures ∙ ap len (g .get-slot .ensures .0) in
-    rw (relocate-refused (a .page .now) (a .k) (a .size) (b .pre .0) (b .pre .1) (b .pre .2) (omega arith) (omega arith)) (refl, refl)
+    rw (relocate-refused (a .page .now) (a .k) (a .size) (b .pre) (omega arith) (omega arith)) (refl, refl)
 
 get-slot-count-requires : tie.Need-get-slot-count-requires
 get-slot-count-requires c κs = search needs
@@ -73,7 +73,13 @@ returns-3 : tie.Need-returns-3
 returns-3 c = search needs
 
 grow-requires : tie.Need-grow-requires
-grow-requires c κs = search needs
+grow-requires c κs =
+    let count = c .before .before .before .before in
+    let room = count .before .before .before in
+    let length = room .before .before .before in
+    let slot = length .before in
+    let entry = slot .before .before .before in
+    (entry .pre, (slot .get-slot .ensures .0, omega (arith, length .len-of .ensures), omega arith))
 
 same-length-4 : tie.Need-same-length-4
 same-length-4 c = search needs
