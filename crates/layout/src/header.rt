@@ -3,7 +3,7 @@ ghost use mathlib.Core.Path.{_≡_};
 ghost use Prim.Native.Nat.{_≤_, _<_};
 ghost use lib.ListN.{length};
 ghost use Rattle.store.specs.Numbers.{put};
-ghost use Rattle.store.specs.Page.{view};
+ghost use Rattle.store.specs.Page.{view, fresh};
 ghost use Rattle.layout.specs.Run.{headOf};
 
 pub fn get_slot_count(page: &[u8]) -> usize
@@ -11,6 +11,14 @@ pub fn get_slot_count(page: &[u8]) -> usize
     ensures { λ r. ⌜ (r ≡ view (now (page .entry)) .slotCount) × (r < 65536) ⌝ }
 {
     crate::get_u16(page, 0)
+}
+
+// "A slot count of 0 means a fresh page."
+pub fn is_fresh(page: &[u8]) -> bool
+    requires { ⌜ length (now page) ≡ 16384 ⌝ }
+    ensures { λ r. ⌜ r ≡ fresh (view (now (page .entry))) ⌝ }
+{
+    get_slot_count(page) == 0
 }
 
 pub fn get_first_free_slot(page: &[u8]) -> usize
