@@ -1,5 +1,5 @@
 pub mod AllocateLaws
 pub mod EraseLaws
 pub mod FillLaws
-pub mod OpenLaws
+pub mod FreshLaws
 pub mod RecordLaws

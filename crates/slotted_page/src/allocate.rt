@@ -23,8 +23,7 @@ pub fn allocate(page: &mut [u8], size: usize) -> Place
     ensures { λ r. ⌜ (now (page .exit) ≡ pageBare (allocate (opened (view (now (page .entry)))) size) (now (page .entry)))
         × (placed r ≡ allotted (allocate (opened (view (now (page .entry)))) size)) × Inside r size × PastEntry r ⌝ }
 {
-    let c = layout::header::get_slot_count(page);
-    if c == 0 {
+    if layout::header::is_fresh(page) {
         initialize(page);
         return page_places::reserve::reserve(page, size);
     }

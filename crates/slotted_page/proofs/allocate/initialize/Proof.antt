@@ -1,6 +1,6 @@
 -- `slotted_page::allocate::initialize` meets its contract.
 use mathlib.Core.Path.{_∙_}
-use Rattle.slotted_page.proofs.OpenLaws.{head-init}
+use Rattle.slotted_page.proofs.FreshLaws.{head-init}
 use borrow.Author.Needs.{needs}
 use Rattle.slotted_page.proofs.allocate.initialize.Statement.{statement}
 use Rattle.slotted_page.proofs.allocate.initialize.Tie as tie
