@@ -11,7 +11,7 @@ use Rattle.store.specs.Segment.{segView, on}
 use Rattle.store.specs.Laws.Relocate.{length-fit}
 use Rattle.slotted_page.specs.Words.{wasMoved}
 use Rattle.segment_steps.specs.After.{no-target}
-use Rattle.slotted_page.specs.Plans.{fit-all}
+use Rattle.slotted_page.proofs.FitLaws.{fit-all}
 use Rattle.segment_write.proofs.Stored.{Moves, moves, unmoved, told-asks, ForwardAsks, by-root, by-forward}
 use borrow.Author.Needs.{needs}
 use Rattle.segment_write.proofs.write.write_ordinary.Statement.{statement}
