@@ -75,10 +75,9 @@ shrink-done v k n c f d m l o s t p q es ec ef ed em el eo et e =
 -- ---- larger
 
 pub record Parked (p : List ℕ) (k : ℕ) (q : List ℕ) : Type 0 where
-  pub whole : length q ≡ 16384
   pub is : q ≡ apply (commit k (parked (view p) k)) p
   pub seen : view q ≡ parked (view p) k
-  pub sound : Sound (parked (view p) k)
+  pub used : UsedSlot q k
 
 module _ (p : List ℕ) (k l : ℕ) (s : Slot) (q : List ℕ) (used : UsedSlot p k)
     (es : s ≡ view p .at k) (rec : isRecord s ≡ true) (el : l ≡ len s) where
@@ -92,11 +91,15 @@ module _ (p : List ℕ) (k l : ℕ) (s : Slot) (q : List ℕ) (used : UsedSlot p
       let u : View = withHead v (v .slotCount) (v .firstFree) (v .dataStart) (v .freeSpace + len (v .at k)) in
       let x = park-exact p v (used .whole) refl (used .sound) k (used .counted) (record-taken (v .at k) rec-at) in
       let i : q ≡ apply (commit k (parked v k)) p = e ∙ rw (el, es) (sym (commit-writes u k (Redirect 0) [] p ∙ put-nil _ 0)) in
+      let seen : view q ≡ parked v k = ap view i ∙ x .seen in
       record {
-        whole = ap length i ∙ length-apply (commit k (parked v k)) p ∙ used .whole;
         is = i;
-        seen = ap view i ∙ x .seen;
-        sound = x .sound;
+        seen = seen;
+        used = record {
+          whole = ap length i ∙ length-apply (commit k (parked v k)) p ∙ used .whole;
+          sound = rw seen (x .sound);
+          counted = rw seen (used .counted);
+        };
       }
 
   pub grow-done : (n : ℕ) (q₂ : List ℕ)

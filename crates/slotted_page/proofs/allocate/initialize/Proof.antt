@@ -12,7 +12,7 @@ same-length : tie.Need-same-length
 same-length c = search needs
 
 returns : tie.Need-returns
-returns c = c .before .before .set-header .ensures ∙ head-init (c .before .before .before .before .before .args .page .now)
+returns c = let headed = c .before .before in headed .set-header .ensures ∙ head-init (headed .before .before .before .args .page .now)
 
 pub initialize-spec : {M : Type 1} → statement M
 initialize-spec = tie.close (tie.spec set-header-requires same-length returns)
