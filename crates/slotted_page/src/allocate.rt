@@ -14,7 +14,7 @@ fn initialize(page: &mut [u8])
     requires { ⌜ length (now page) ≡ 16384 ⌝ }
     ensures { λ _. ⌜ now (page .exit) ≡ putHead initialised (now (page .entry)) ⌝ }
 {
-    layout::header::set_header(page, 0, 0, 16384, 16372);
+    layout::header::set_header(page, 0, 0, crate::PAGE_SIZE, crate::ROOM);
 }
 
 // A size of at most 16,364 finds room on a fresh page, so a refusal never leaves one initialised.

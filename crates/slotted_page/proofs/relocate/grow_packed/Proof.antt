@@ -1,10 +1,8 @@
 -- `slotted_page::relocate::grow_packed` meets its contract.
 use mathlib.Core.Path.{_≡_, sym, ap, subst, _∙_}
-use mathlib.Core.List.{List}
-use Prim.Native.Nat.{ℕ, _+_, _≤_}
+use Prim.Native.Nat.{_+_, _≤_}
 use native.Mathlib.Omega.{arith}
 use lib.ListN.{length-take, length-replicate, replicate}
-use Rattle.store.specs.Numbers.{put, fit}
 use Rattle.store.specs.Slots.{len, off}
 use Rattle.store.specs.PageSteps.{relocate}
 use Rattle.store.specs.Page.{view}
@@ -104,7 +102,7 @@ returns c =
     let q = moved .move-slot .last .0 in
     old-done (a .page .now) (a .k) (a .size) (b .pre .0) (at .place .given .0 .0) d q (filled .fit-in .last .0)
     (ap placed (sym (at .place .given .1)) ∙ moved .move-slot .ensures .1) (moved .move-slot .ensures .0)
-    (filled .fit-in .ensures ∙ ap (λ (bs : List ℕ). put q d (fit (a .size) bs)) x)
+    (filled .fit-in .ensures ∙ rw x)
 
 same-length-2 : tie.Need-same-length-2
 same-length-2 c = search needs
