@@ -12,12 +12,12 @@ use Rattle.store.specs.Numbers.{put, zeros, fit}
 use Rattle.store.specs.Slots.{slotBytes, off, len, isFree, isRecord, placed as placedSlot}
 use Rattle.store.specs.Page.{View, view}
 use Rattle.store.specs.Answers.{placed, allotted}
-use Rattle.store.specs.PageSteps.{Edit, apply, commit, run, withHead, makeRoom, movedUnder, parked, resized, relocateBy, relocate, refused}
+use Rattle.store.specs.PageSteps.{Edit, apply, commit, run, withHead, makeRoom, moveUnder, movedUnder, parked, resized, relocateBy, relocate, refused}
 use Rattle.store.specs.Laws.Numbers.{put-nil}
 use Rattle.store.specs.Laws.Views.{Sound, upd-same}
 use Rattle.store.specs.Laws.Lent.{UsedSlot}
 use Rattle.store.specs.Laws.Exact.{run-append, length-apply}
-use Rattle.store.specs.Laws.Compactify.{placed-is}
+use Rattle.store.specs.Laws.Compactify.{placed-is, record-taken}
 use Rattle.store.specs.Laws.Relocate.{park-exact}
 use Rattle.store.specs.declared.Slot.{Slot}
 use Rattle.store.specs.declared.Slot.the-variants.{Ordinary, Free, Redirect, Target}
@@ -27,12 +27,6 @@ use Rattle.page_compactify.specs.Room.{Roomed}
 use Rattle.page_compactify.proofs.RoomLaws.{roomy-keeps}
 use Rattle.page_places.specs.Words.{underPage, unfilled, shrinkPlan, growPlan, homeOf, allocOf, pageBare}
 use Rattle.page_places.proofs.BareLaws.{commit-writes, run-bare}
-
-record-free : (s : Slot) → isRecord s ≡ true → isFree s ≡ false
-record-free (Ordinary o l) e = refl
-record-free Free e = sym e
-record-free (Redirect i) e = refl
-record-free (Target o l) e = refl
 
 -- ---- under data start
 
@@ -65,10 +59,8 @@ module _ (v : View) (k n m : ℕ) (p : List ℕ) (em : m ≡ v .freeSpace) where
   home-done r q h e er =
       let t : ltb (v .freeSpace) n ≡ false = le-ltb (v .freeSpace) n (omega arith) in
       let w : View = makeRoom v n .after in
-      rw t (
-        under-bare v k n (Ordinary 0 0) [] (zeros n) p p q refl e,
-        ap (λ (x : ℕ). placed (At k x)) (er ∙ sym (ap off (upd-same (w .at) k (Ordinary (w .dataStart - n) n)))),
-      )
+      let there : r ≡ off (moveUnder v k (Ordinary 0 0) n (zeros n) .after .at k) = er ∙ sym (ap off (upd-same (w .at) k (Ordinary (w .dataStart - n) n))) in
+      rw t (under-bare v k n (Ordinary 0 0) [] (zeros n) p p q refl e, ap (λ (x : ℕ). placed (At k x)) there)
 
 -- ---- smaller
 
@@ -83,10 +75,9 @@ shrink-done v k n c f d m l o s t p q es ec ef ed em el eo et e =
 -- ---- larger
 
 pub record Parked (p : List ℕ) (k : ℕ) (q : List ℕ) : Type 0 where
-  pub whole : length q ≡ 16384
   pub is : q ≡ apply (commit k (parked (view p) k)) p
   pub seen : view q ≡ parked (view p) k
-  pub sound : Sound (parked (view p) k)
+  pub used : UsedSlot q k
 
 module _ (p : List ℕ) (k l : ℕ) (s : Slot) (q : List ℕ) (used : UsedSlot p k)
     (es : s ≡ view p .at k) (rec : isRecord s ≡ true) (el : l ≡ len s) where
@@ -98,13 +89,17 @@ module _ (p : List ℕ) (k l : ℕ) (s : Slot) (q : List ℕ) (used : UsedSlot p
   parked-by e =
       let v = view p in
       let u : View = withHead v (v .slotCount) (v .firstFree) (v .dataStart) (v .freeSpace + len (v .at k)) in
-      let x = park-exact p v (used .whole) refl (used .sound) k (used .counted) (record-free (v .at k) rec-at) in
+      let x = park-exact p v (used .whole) refl (used .sound) k (used .counted) (record-taken (v .at k) rec-at) in
       let i : q ≡ apply (commit k (parked v k)) p = e ∙ rw (el, es) (sym (commit-writes u k (Redirect 0) [] p ∙ put-nil _ 0)) in
+      let seen : view q ≡ parked v k = ap view i ∙ x .seen in
       record {
-        whole = ap length i ∙ length-apply (commit k (parked v k)) p ∙ used .whole;
         is = i;
-        seen = ap view i ∙ x .seen;
-        sound = x .sound;
+        seen = seen;
+        used = record {
+          whole = ap length i ∙ length-apply (commit k (parked v k)) p ∙ used .whole;
+          sound = rw seen (x .sound);
+          counted = rw seen (used .counted);
+        };
       }
 
   pub grow-done : (n : ℕ) (q₂ : List ℕ)

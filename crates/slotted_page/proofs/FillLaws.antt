@@ -5,8 +5,8 @@ use mathlib.Core.List.{List, [], _∷_, _++_}
 use Prim.Native.Nat.{ℕ, _+_, _*_, _≤_}
 use native.Mathlib.Omega.{arith}
 use borrow.Author.Tests.{eq-eqb}
-use lib.ListN.{length, length-replicate}
-use Rattle.store.specs.Numbers.{put, zeros}
+use lib.ListN.{length}
+use Rattle.store.specs.Numbers.{put}
 use Rattle.store.specs.Slots.{off, len, slotBytes}
 use Rattle.store.specs.Page.{View}
 use Rattle.store.specs.Answers.{Placed, placed, allotted}
@@ -21,9 +21,6 @@ use Rattle.page_places.specs.Words.{unfilled, pageBare, placeOf, allocOf}
 use Rattle.slotted_page.specs.Words.{pageAfter, filledAt, targetAt, pageMoved, wasMoved, refilled}
 use Rattle.page_places.proofs.BareLaws.{commit-writes, run-bare}
 pub use Rattle.page_places.proofs.PlaceLaws.{placed-is}
-
-pub length-zeros : (n : ℕ) → length (zeros n) ≡ n
-length-zeros n = length-replicate n 0
 
 -- ---- the bytes written afterwards
 

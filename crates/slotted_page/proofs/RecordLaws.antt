@@ -1,14 +1,12 @@
 -- A relocated record's bytes: the old ones, cut off or filled up with zeros, are what the plan writes.
 use mathlib.Core.Path.{_≡_, refl, sym, ap, _∙_, subst}
 use mathlib.Core.Bool.{true, false}
-use mathlib.Core.List.{List, [], _∷_, _++_, append-assoc}
+use mathlib.Core.List.{List, [], _∷_, _++_}
 use mathlib.Core.Logic.{inr}
 use Prim.Native.Nat.{ℕ, _+_, _-_, _*_, _≤_, _<_}
-use native.Mathlib.Nat.{sub-zero}
-use native.Mathlib.Decide.{decLt}
 use native.Mathlib.Omega.{arith}
-use lib.ListN.{length, take, drop, length-drop, length-append, drop-of-length-le, replicate-append-replicate}
-use lib.Seq.{take-take, take-all, take-add}
+use lib.ListN.{length, take, drop, length-append}
+use lib.Seq.{take-take, take-all}
 use lib.Dec.{ltb, eqb}
 use borrow.Author.Tests.{ltb-true, ltb-false, eqb-true, eqb-false, le-ltb}
 use Rattle.store.specs.Numbers.{put, cut, zeros, fit}
@@ -23,8 +21,7 @@ use Rattle.store.specs.Laws.Lent.{UsedSlot}
 use Rattle.store.specs.Laws.Calls.{by-test}
 use Rattle.store.specs.Laws.Exact.{length-run}
 use Rattle.store.specs.Laws.Compactify.{placed-is as placed-slot-is}
-use Rattle.store.specs.Laws.Relocate.{Answered, relocate-answer}
-use Rattle.store.specs.Laws.Fit.{length-fit}
+use Rattle.store.specs.Laws.Relocate.{length-fit, Answered, relocate-answer}
 use Rattle.store.specs.declared.Slot.{Slot}
 use Rattle.store.specs.declared.Slot.the-variants.{Ordinary, Free, Redirect, Target}
 use Rattle.store.specs.declared.Place.the-variants.{At}
@@ -35,6 +32,7 @@ use Rattle.page_places.specs.Words.{unfilled, shrinkPlan, growPlan, allocOf, pa
 use Rattle.slotted_page.specs.Words.{pageAfter, pageMoved, wasMoved, refilled}
 use Rattle.page_places.proofs.PlaceLaws.{placed-is}
 use Rattle.page_places.proofs.BareLaws.{commit-writes, run-bare}
+use Rattle.slotted_page.proofs.FitLaws.{fit-none, fit-add}
 use Rattle.slotted_page.proofs.FillLaws.{Ends, Ended, ends-by, commit-ends, written-done, fill-done, moved-done, refilled-done}
 
 length-head : (c f d n : ℕ) → length (headOf c f d n) ≡ 12
@@ -47,29 +45,6 @@ cut-past : (p : List ℕ) (k c f d r o n : ℕ) (x : Slot) → (0 < n → 20 + 8
 cut-past p k c f d r o n x h =
     cut-apart (put p 0 (headOf c f d r)) (12 + 8 * k) (slotBytes x) o n (λ b w. inr (omega (arith, h w)))
     ∙ cut-apart p 0 (headOf c f d r) o n (λ b w. inr (omega (arith, h w, length-head c f d r)))
-
-fit-none : (n : ℕ) → zeros n ≡ fit n []
-fit-none n = sym (fit-filled n [] (omega arith) ∙ ap zeros (sub-zero n))
-
--- at a size of a + b: the first a bytes, and then the rest at size b
-fit-add : (a b : ℕ) (bs : List ℕ) → fit (a + b) bs ≡ fit a bs ++ fit b (drop a bs)
-fit-add a b bs = go (decLt (length bs) a)
-  where
-    go : Dec (length bs < a) → fit (a + b) bs ≡ fit a bs ++ fit b (drop a bs)
-    go (yes h) =
-        let e : a + b - length bs ≡ (a - length bs) + b = omega arith in
-        fit-filled (a + b) bs (omega arith)
-        ∙ rw (
-          e,
-          ← replicate-append-replicate {A = ℕ} (a - length bs) b 0,
-          fit-filled a bs (omega arith),
-          drop-of-length-le bs {i = a} (omega arith),
-          ← fit-none b,
-          append-assoc,
-        )
-    go (no h) =
-        let e : b - (length bs - a) ≡ a + b - length bs = omega arith in
-        rw (take-add a b bs, fit-cut a bs (omega arith), append-assoc, length-drop, e)
 
 -- the front of what was written, written again
 put-front : (p : List ℕ) (i : ℕ) (a b x : List ℕ) → length a ≡ length x → put (put p i (a ++ b)) i x ≡ put p i (x ++ b)

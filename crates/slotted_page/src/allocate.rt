@@ -14,7 +14,7 @@ fn initialize(page: &mut [u8])
     requires { ⌜ length (now page) ≡ 16384 ⌝ }
     ensures { λ _. ⌜ now (page .exit) ≡ putHead initialised (now (page .entry)) ⌝ }
 {
-    layout::header::set_header(page, 0, 0, 16384, 16372);
+    layout::header::set_header(page, 0, 0, crate::PAGE_SIZE, crate::ROOM);
 }
 
 // A size of at most 16,364 finds room on a fresh page, so a refusal never leaves one initialised.
@@ -23,8 +23,7 @@ pub fn allocate(page: &mut [u8], size: usize) -> Place
     ensures { λ r. ⌜ (now (page .exit) ≡ pageBare (allocate (opened (view (now (page .entry)))) size) (now (page .entry)))
         × (placed r ≡ allotted (allocate (opened (view (now (page .entry)))) size)) × Inside r size × PastEntry r ⌝ }
 {
-    let c = layout::header::get_slot_count(page);
-    if c == 0 {
+    if layout::header::is_fresh(page) {
         initialize(page);
         return page_places::reserve::reserve(page, size);
     }

@@ -17,7 +17,7 @@ fn grow_packed(page: &mut [u8], k: usize, s: Slot, size: usize) -> bool
         × (r ≡ wasMoved (relocate (view (now (page .entry))) k size)) ⌝ }
 {
     let n = layout::slots::len_of(s);
-    let mut saved = [0u8; 16384];
+    let mut saved = [0u8; crate::PAGE_SIZE];
     layout::save(page, layout::slots::off_of(s), n, &mut saved);
     let place = page_places::relocation::move_slot(page, k, size);
     match place {

@@ -1,16 +1,15 @@
--- A fresh page: initialised, then as any other.
+-- Allocate on a fresh page: initialised first, and then as any other.
 use mathlib.Core.Path.{_≡_, refl, sym, ap, _∙_}
 use mathlib.Core.Bool.{true, false}
 use mathlib.Core.List.{List, [], _++_}
-use mathlib.Core.Logic.{_≢_}
 use Prim.Native.Nat.{ℕ, _+_, _-_, _≤_}
 use native.Mathlib.Omega.{arith}
 use lib.ListN.{length}
-use lib.Dec.{ltb, eqb}
-use borrow.Author.Tests.{le-ltb, eq-eqb, ne-eqb}
+use lib.Dec.{ltb}
+use borrow.Author.Tests.{le-ltb}
 use Rattle.store.specs.Numbers.{put, zeros, toBE}
 use Rattle.store.specs.Slots.{slotBytes}
-use Rattle.store.specs.Page.{View, view, sound}
+use Rattle.store.specs.Page.{View, view, fresh, sound}
 use Rattle.store.specs.Answers.{placed, allotted}
 use Rattle.store.specs.PageSteps.{opened, initialised, apply, putHead, headBytes, withHead, allocate}
 use Rattle.store.specs.Laws.Numbers.{length-put, put-over}
@@ -47,22 +46,21 @@ init-reserve p n h =
     rw t (run-bare [] u 0 s (zeros n) (putHead initialised p)
     ∙ ap (λ (q : List ℕ). put q 12 (slotBytes s)) (head-over p 1 1 (16384 - n) (16372 - (n + 8))) ∙ sym (run-bare [] u 0 s (zeros n) p))
 
-module _ (p : List ℕ) (n c : ℕ) (ec : c ≡ view p .slotCount) where
-  pub fresh-done : (q₁ q₂ : List ℕ) (r : Place) → length p ≡ 16384 → n ≤ 16364 → c ≡ 0 → q₁ ≡ putHead initialised p
+module _ (p : List ℕ) (n : ℕ) where
+  pub fresh-done : (q₁ q₂ : List ℕ) (r : Place) → fresh (view p) ≡ true → length p ≡ 16384 → n ≤ 16364 → q₁ ≡ putHead initialised p
       → (q₂ ≡ pageBare (allocate (view q₁) n) q₁) × (placed r ≡ allotted (allocate (view q₁) n))
       → (q₂ ≡ pageBare (allocate (opened (view p)) n) p) × (placed r ≡ allotted (allocate (opened (view p)) n))
-  fresh-done q₁ q₂ r whole h z e₁ e₂ =
-      let t : eqb (view p .slotCount) 0 ≡ true = eq-eqb (view p .slotCount) 0 (sym ec ∙ z) in
+  fresh-done q₁ q₂ r f whole h e₁ e₂ =
       let s : view q₁ ≡ initialised = ap view e₁ ∙ init-view p whole in
-      rw t (e₂ .0 ∙ rw (s, e₁) (init-reserve p n h), e₂ .1 ∙ rw s)
+      rw f (e₂ .0 ∙ rw (s, e₁) (init-reserve p n h), e₂ .1 ∙ rw s)
 
-  pub used-done : (q : List ℕ) (r : Place) → c ≢ 0
+  pub used-done : (q : List ℕ) (r : Place) → fresh (view p) ≡ false
       → (q ≡ pageBare (allocate (view p) n) p) × (placed r ≡ allotted (allocate (view p) n))
       → (q ≡ pageBare (allocate (opened (view p)) n) p) × (placed r ≡ allotted (allocate (opened (view p)) n))
-  used-done q r z e = let a : view p .slotCount ≢ 0 = omega arith in rw (ne-eqb (view p .slotCount) 0 a) e
+  used-done q r f e = rw f e
 
-  pub used-sound : length p ≡ 16384 → sound (view p) ≡ true → c ≢ 0 → UsedPage p
-  used-sound whole e z = let a : view p .slotCount ≢ 0 = omega arith in record { whole = whole; sound = sound-page p whole (ne-eqb (view p .slotCount) 0 a) e }
+pub used-sound : (p : List ℕ) → fresh (view p) ≡ false → length p ≡ 16384 → sound (view p) ≡ true → UsedPage p
+used-sound p f whole e = record { whole = whole; sound = sound-page p whole f e }
 
 pub init-sound : (p q : List ℕ) → length p ≡ 16384 → q ≡ putHead initialised p → UsedPage q
 init-sound p q whole e = record { whole = rw e (length-put p 0 (headBytes initialised) ∙ whole); sound = rw (e, init-view p whole) sound-init }
