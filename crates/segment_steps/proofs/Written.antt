@@ -3,7 +3,7 @@ use Prim.Native.Nat.{ℕ, _+_, _-_, _*_, _≤_}
 use mathlib.Core.Path.{_≡_, refl, sym, ap, _∙_}
 use mathlib.Core.List.{List}
 use native.Mathlib.Omega.{arith}
-use lib.ListN.{length}
+use lib.ListN.{length, length-replicate}
 use borrow.Rule.Slice.PartMut.{putMid}
 use Rattle.store.specs.Numbers.{put, zeros}
 use Rattle.store.specs.Slots.{slotBytes}
@@ -18,7 +18,7 @@ use Rattle.store.specs.declared.Place.the-variants.{At, NoRoom}
 use Rattle.segment_pages.proofs.Seen.{page-right}
 use Rattle.slotted_page.specs.Words.{pageBare, placeOf, pageAfter, filledAt, targetAt}
 use Rattle.slotted_page.proofs.AllocateLaws.{allocate-ended, allocate-sized}
-use Rattle.slotted_page.proofs.FillLaws.{length-zeros, fill-done, target-done, none-done}
+use Rattle.slotted_page.proofs.FillLaws.{fill-done, target-done, none-done}
 use Rattle.segment_steps.proofs.Lent.{lentPart, length-bare}
 
 -- t is what the place for n bytes left
@@ -60,7 +60,7 @@ module _ (s : List ℕ) (p : ℕ) (h : SoundOn s p) (n : ℕ)
         let g : out ≡ put page o bs = f ∙ ap (λ (q : List ℕ). put q o bs) lent-again in
         back (ap length g ∙ length-put page o bs ∙ whole) _
         (fill-done k o (zeros n) (pageOf s p) page out (allocate (segView s .page p) n) bs
-        (allocate-ended (pageOf s p) (segView s .page p) n (page-right s p (h .whole) (h .sound))) (size ∙ sym (length-zeros n)) (sym e) refl g)
+        (allocate-ended (pageOf s p) (segView s .page p) n (page-right s p (h .whole) (h .sound))) (size ∙ sym (length-replicate n 0)) (sym e) refl g)
 
     -- the entry of a target, and its bytes
     pub target-written : 20 + 8 * k ≤ o → out ≡ put (put (lentPart t p) (12 + 8 * k) (slotBytes (Target o n))) o bs
@@ -72,4 +72,4 @@ module _ (s : List ℕ) (p : ℕ) (h : SoundOn s p) (n : ℕ)
         back (ap length g ∙ length-put (put page (12 + 8 * k) x) o bs ∙ length-put page (12 + 8 * k) x ∙ whole) _
         (target-done k o (zeros n) (pageOf s p) page (put page (12 + 8 * k) x) (allocate v n) n bs out
         (allocate-ended (pageOf s p) v n (page-right s p (h .whole) (h .sound))) (allocate-sized v n (page-right s p (h .whole) (h .sound)))
-        (size ∙ sym (length-zeros n)) past (sym e) refl refl g)
+        (size ∙ sym (length-replicate n 0)) past (sym e) refl refl g)

@@ -21,7 +21,8 @@ use Rattle.store.specs.Laws.Lent.{UsedSlot}
 use Rattle.store.specs.Laws.Calls.{by-test}
 use Rattle.store.specs.Laws.Exact.{length-run}
 use Rattle.store.specs.Laws.Compactify.{placed-is as placed-slot-is}
-use Rattle.store.specs.Laws.Relocate.{length-fit, Answered, relocate-answer}
+use Rattle.store.specs.Laws.Relocate.{Answered, relocate-answer}
+use Rattle.store.specs.Laws.Fit.{length-fit}
 use Rattle.store.specs.declared.Slot.{Slot}
 use Rattle.store.specs.declared.Slot.the-variants.{Ordinary, Free, Redirect, Target}
 use Rattle.store.specs.declared.Place.the-variants.{At}

@@ -5,7 +5,7 @@ use native.Mathlib.Omega.{arith}
 use Rattle.store.specs.Numbers.{fit}
 use Rattle.store.specs.PageSteps.{relocate}
 use Rattle.store.specs.Page.{view}
-use Rattle.store.specs.Laws.Relocate.{length-fit}
+use Rattle.store.specs.Laws.Fit.{length-fit}
 use Rattle.store.specs.declared.Place.{Place}
 use Rattle.page_places.specs.Words.{Inside}
 use Rattle.slotted_page.proofs.RecordLaws.{bytes-done}
