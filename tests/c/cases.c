@@ -192,9 +192,9 @@ static void by_the_targets_id(void) {
     end("calls by a target's own id");
 }
 
-static void scanned(uint64_t *place, uint64_t answer, uint64_t wanted, uint64_t id, uint64_t offset, uint64_t length) {
+static void scanned(uint64_t *position, uint64_t answer, uint64_t wanted, uint64_t id, uint64_t offset, uint64_t length) {
     uint64_t found = 77, i = 77, at = 77, n = 77;
-    expect("scan", hk_scan_step(segment, segment_length, place, &found, &i, &at, &n), answer);
+    expect("scan", hk_scan_step(segment, segment_length, position, &found, &i, &at, &n), answer);
     expect("scan's found", found, wanted);
     expect("scan's id", i, id);
     expect("scan's offset", at, offset);
@@ -202,22 +202,22 @@ static void scanned(uint64_t *place, uint64_t answer, uint64_t wanted, uint64_t 
 }
 
 static void scan(void) {
-    uint64_t place = 0;
+    uint64_t position = 0;
     begin_forwarded();
-    scanned(&place, HK_DONE, 1, id_of(0, 0), 384, 16000);
-    scanned(&place, HK_DONE, 1, id_of(1, 1), PAGE + 4284, 12000);
-    scanned(&place, HK_DONE, 1, id_of(1, 0), 2 * PAGE + 11384, 5000);
-    scanned(&place, HK_DONE, 0, 0, 0, 0);
-    scanned(&place, HK_DONE, 0, 0, 0, 0);
-    place = 0;
+    scanned(&position, HK_DONE, 1, id_of(0, 0), 384, 16000);
+    scanned(&position, HK_DONE, 1, id_of(1, 1), PAGE + 4284, 12000);
+    scanned(&position, HK_DONE, 1, id_of(1, 0), 2 * PAGE + 11384, 5000);
+    scanned(&position, HK_DONE, 0, 0, 0, 0);
+    scanned(&position, HK_DONE, 0, 0, 0, 0);
+    position = 0;
     segment[PAGE + 11]++;
-    scanned(&place, HK_DONE, 1, id_of(0, 0), 384, 16000);
-    scanned(&place, HK_DAMAGED, 0, 0, 0, 0);
-    scanned(&place, HK_DONE, 0, 0, 0, 0);
-    place = 0;
+    scanned(&position, HK_DONE, 1, id_of(0, 0), 384, 16000);
+    scanned(&position, HK_DAMAGED, 0, 0, 0, 0);
+    scanned(&position, HK_DONE, 0, 0, 0, 0);
+    position = 0;
     segment_length--;
-    scanned(&place, HK_SIZE, 0, 0, 0, 0);
-    scanned(&place, HK_DONE, 0, 0, 0, 0);
+    scanned(&position, HK_SIZE, 0, 0, 0, 0);
+    scanned(&position, HK_DONE, 0, 0, 0, 0);
     end("a scan, of a damaged page, of a wrong size");
 }
 
@@ -255,22 +255,39 @@ static void refused(void) {
     end("refusals");
 }
 
-/* A scan goes on from its place over what stands then: past a record that was erased, and on into pages lent since it ended. */
+/* A scan goes on from its position over what stands then: past a record that was erased, and on into pages lent since it ended. */
 static void written_between_steps(void) {
-    uint64_t place = 0;
+    uint64_t position = 0;
     begin(1);
     insert(16, 1, HK_DONE, id_of(0, 0));
     insert(17, 2, HK_DONE, id_of(0, 1));
     insert(18, 3, HK_DONE, id_of(0, 2));
-    scanned(&place, HK_DONE, 1, id_of(0, 0), 16368, 16);
+    scanned(&position, HK_DONE, 1, id_of(0, 0), 16368, 16);
     erase(id_of(0, 1), HK_DONE);
-    scanned(&place, HK_DONE, 1, id_of(0, 2), 16333, 18);
-    scanned(&place, HK_DONE, 0, 0, 0, 0);
+    scanned(&position, HK_DONE, 1, id_of(0, 2), 16333, 18);
+    scanned(&position, HK_DONE, 0, 0, 0, 0);
     segment_length = 2 * PAGE;
     insert(16000, 4, HK_DONE, id_of(1, 0));
-    scanned(&place, HK_DONE, 1, id_of(1, 0), PAGE + 384, 16000);
-    scanned(&place, HK_DONE, 0, 0, 0, 0);
+    scanned(&position, HK_DONE, 1, id_of(1, 0), PAGE + 384, 16000);
+    scanned(&position, HK_DONE, 0, 0, 0, 0);
     end("a scan with writes between its steps");
+}
+
+/* Inside a page whose slot count no page can have a scan answers damage, and no record made of bytes that are not there. */
+static void impossible_count(void) {
+    uint64_t position = 1;
+    begin(2);
+    insert(16, 1, HK_DONE, id_of(0, 0));
+    insert(17, 2, HK_DONE, id_of(0, 1));
+    segment[0] = 8; /* 2,050 slots */
+    scanned(&position, HK_DAMAGED, 0, 0, 0, 0);
+    scanned(&position, HK_DONE, 0, 0, 0, 0);
+    position = id_of(0, 2047);
+    scanned(&position, HK_DAMAGED, 0, 0, 0, 0);
+    segment[0] = 0;
+    position = 1;
+    scanned(&position, HK_DONE, 1, id_of(0, 1), 16351, 17);
+    end("a scan inside a page of impossible count");
 }
 
 static void widest(void) {
@@ -313,6 +330,7 @@ int main(void) {
     allocated();
     refused();
     written_between_steps();
+    impossible_count();
     widest();
     nothing_lent();
     return faults != 0;
