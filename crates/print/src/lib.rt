@@ -14,13 +14,21 @@ pub fn number(n: u64) {
     io::print_decimal(STDOUT_FILENO, n);
 }
 
+// A number after its name.
+pub fn named(name: &[u8], n: u64) {
+    say(name);
+    number(n);
+}
+
 // An id as its page and slot.
 pub fn id(id: u64) {
-    say(b"(");
-    number(id / 65536);
-    say(b",");
-    number(id % 65536);
+    named(b"(", id / 65536);
+    named(b",", id % 65536);
     say(b")");
+}
+
+pub fn end_line() {
+    say(b"\n");
 }
 
 // Of two lengths, the one that both slices have.
