@@ -1,7 +1,7 @@
 // A small archive: the rows of a fringe map go in, are listed, one is read back, one is erased, and they are listed again.
 mod map;
 
-use print::number;
+use print::named;
 use print::say;
 use slotted_page_segment::Answer;
 use slotted_page_segment::Step;
@@ -54,8 +54,7 @@ fn list_one(segment: &[u8], p: Position) -> Position {
     };
     say(b"  ");
     print::id(id as u64);
-    say(b"  ");
-    number(length as u64);
+    named(b"  ", length as u64);
     say(b" bytes\n");
     Position {
         page,
@@ -80,8 +79,7 @@ fn list(segment: &[u8]) {
 fn read(segment: &[u8], id: usize) {
     let mut answer: usize = 0;
     let row = slotted_page_segment::get_record(segment, id, &mut answer);
-    say(b"  answer ");
-    number(answer as u64);
+    named(b"  answer ", answer as u64);
     if 0 < row.len() {
         say(b"  ");
         say(row);

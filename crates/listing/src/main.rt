@@ -1,32 +1,28 @@
 // Lists the records of a segment of 0 to 3 whole pages on standard input, in the order of the scan: for each the page and the slot of
 // its id, and its length. Last comes `end` and the number of records, or `refused` and the answer's number.
-use print::number;
-use print::say;
+use print::end_line;
+use print::named;
 use store::Step;
 ghost use Prim.Native.Nat.{_<_};
 
 fn print_record(id: u64, length: u64) {
-    number(id / 65536);
-    say(b" ");
-    number(id % 65536);
-    say(b" ");
-    number(length);
-    say(b"\n");
+    print::number(id / 65536);
+    named(b" ", id % 65536);
+    named(b" ", length);
+    end_line();
 }
 
 fn print_end(records: u64) {
-    say(b"end ");
-    number(records);
-    say(b"\n");
+    named(b"end ", records);
+    end_line();
 }
 
 fn print_refused(answer: u64) {
-    say(b"refused ");
-    number(answer);
-    say(b"\n");
+    named(b"refused ", answer);
+    end_line();
 }
 
-// A step's line, of which `left` are left: one less after a record, and none after the scan's last step.
+// The line of a step, which `left` counts down: how many may follow, and none after the scan's last.
 fn print_step(step: Step, left: u64) -> u64
     requires { ⌜ 0 < left ⌝ }
     ensures { λ r. ⌜ r < left ⌝ }
