@@ -1,109 +1,112 @@
 // Each call with what it answers, and what a page's header says afterwards.
-use libc::STDOUT_FILENO;
-ghost use Prim.Native.Nat.{_≤_};
+use print::end_line;
+use print::least;
+use print::named;
+use print::say;
 
-pub fn say(text: &[u8]) {
-    io::write_all(STDOUT_FILENO, text);
-}
-
-fn number(n: u64) {
-    io::print_decimal(STDOUT_FILENO, n);
-}
-
-// Page and slot.
-fn id(i: u64) {
-    say(b"(");
-    number(i / 65536);
-    say(b",");
-    number(i % 65536);
-    say(b")");
-}
-
-fn answer(a: u64) {
-    say(b": ");
-    number(a);
-}
-
-fn least(a: usize, b: usize) -> usize
-    ensures { λ r. ⌜ (r ≤ a) × (r ≤ b) ⌝ }
-{
-    if a < b { a } else { b }
+fn print_insert(length: usize, answer: u64, made: u64) {
+    named(b"  insert ", length as u64);
+    named(b": ", answer);
+    if answer == 0 {
+        say(b" at ");
+        print::id(made);
+    }
+    end_line();
 }
 
 // The first `length` of these bytes as a new record.
 fn insert_first(segment: &mut [u8], inventory: &mut [u8], bytes: &[u8], length: usize) {
     let n = least(length, bytes.len());
     let mut made: u64 = 0;
-    let a = hekatosuy::hk_insert_record(segment, inventory, &bytes[0..n], &mut made);
-    say(b"  insert ");
-    number(n as u64);
-    answer(a);
-    if a == 0 {
-        say(b" at ");
-        id(made);
-    }
-    say(b"\n");
-}
-
-fn write_first(segment: &mut [u8], inventory: &mut [u8], i: u64, bytes: &[u8], length: usize) {
-    let n = least(length, bytes.len());
-    let a = hekatosuy::hk_write_record(segment, inventory, i, &bytes[0..n]);
-    say(b"  write ");
-    number(n as u64);
-    say(b" to ");
-    id(i);
-    answer(a);
-    say(b"\n");
+    let answer = hekatosuy::hk_insert_record(segment, inventory, &bytes[0..n], &mut made);
+    print_insert(n, answer, made);
 }
 
 // At most 16,365 bytes, of which none is 0.
-pub fn insert(segment: &mut [u8], inventory: &mut [u8], length: usize) {
+fn insert(segment: &mut [u8], inventory: &mut [u8], length: usize) {
     let bytes = [7u8; 16365];
     insert_first(segment, inventory, &bytes, length);
 }
 
-pub fn write(segment: &mut [u8], inventory: &mut [u8], i: u64, length: usize) {
+fn print_answer(name: &[u8], i: u64, answer: u64) {
+    say(name);
+    print::id(i);
+    named(b": ", answer);
+}
+
+fn write_first(segment: &mut [u8], inventory: &mut [u8], i: u64, bytes: &[u8], length: usize) {
+    let n = least(length, bytes.len());
+    let answer = hekatosuy::hk_write_record(segment, inventory, i, &bytes[0..n]);
+    named(b"  write ", n as u64);
+    print_answer(b" to ", i, answer);
+    end_line();
+}
+
+fn write(segment: &mut [u8], inventory: &mut [u8], i: u64, length: usize) {
     let bytes = [8u8; 16365];
     write_first(segment, inventory, i, &bytes, length);
 }
 
-pub fn erase(segment: &mut [u8], inventory: &mut [u8], i: u64) {
-    let a = hekatosuy::hk_erase_record(segment, inventory, i);
-    say(b"  erase ");
-    id(i);
-    answer(a);
-    say(b"\n");
+fn erase(segment: &mut [u8], inventory: &mut [u8], i: u64) {
+    let answer = hekatosuy::hk_erase_record(segment, inventory, i);
+    print_answer(b"  erase ", i, answer);
+    end_line();
 }
 
-// The place of a record in the segment, as page and offset on it.
-pub fn get(segment: &[u8], i: u64) {
+// Where a record lies: its page, its offset on it, and its length.
+fn get(segment: &[u8], i: u64) {
     let mut offset: u64 = 0;
     let mut length: u64 = 0;
-    let a = hekatosuy::hk_get_record(segment, i, &mut offset, &mut length);
-    say(b"  read ");
-    id(i);
-    answer(a);
-    say(b" on page ");
-    number(offset / 16384);
-    say(b" at ");
-    number(offset % 16384);
-    say(b" of ");
-    number(length);
-    say(b"\n");
+    let answer = hekatosuy::hk_get_record(segment, i, &mut offset, &mut length);
+    print_answer(b"  read ", i, answer);
+    named(b" on page ", offset / 16384);
+    named(b" at ", offset % 16384);
+    named(b" of ", length);
+    end_line();
 }
 
-// A page's header.
-pub fn page(bytes: &[u8]) {
-    if bytes.len() != 16384 {
+fn print_header(page: &[u8]) {
+    if page.len() != 16384 {
         return;
     }
-    say(b"  count ");
-    number(layout::header::get_slot_count(bytes) as u64);
-    say(b", first free ");
-    number(layout::header::get_first_free_slot(bytes) as u64);
-    say(b", data start ");
-    number(layout::header::get_data_start(bytes) as u64);
-    say(b", free ");
-    number(layout::header::get_free_space(bytes) as u64);
-    say(b"\n");
+    named(b"  count ", layout::header::get_slot_count(page) as u64);
+    named(
+        b", first free ",
+        layout::header::get_first_free_slot(page) as u64,
+    );
+    named(
+        b", data start ",
+        layout::header::get_data_start(page) as u64,
+    );
+    named(b", free ", layout::header::get_free_space(page) as u64);
+    end_line();
+}
+
+// The header of the page that begins at an offset.
+fn page(segment: &[u8], offset: usize) {
+    let at = least(offset, segment.len());
+    let e = at + least(16384, segment.len() - at);
+    print_header(&segment[at..e]);
+}
+
+// A line of a case, by its letter: I inserts n bytes, W writes n to the record (1,0), E erases the record n, R reads it, P shows the
+// page at the offset n.
+fn perform(segment: &mut [u8], inventory: &mut [u8], letter: u8, n: u64) {
+    match letter {
+        b'I' => insert(segment, inventory, n as usize),
+        b'W' => write(segment, inventory, 65536, n as usize),
+        b'E' => erase(segment, inventory, n),
+        b'R' => get(segment, n),
+        _ => page(segment, n as usize),
+    }
+}
+
+// A case's lines, each a letter and a number.
+pub fn play(segment: &mut [u8], inventory: &mut [u8], letters: &[u8], numbers: &[u64]) {
+    let lines = least(letters.len(), numbers.len());
+    let mut k: usize = 0;
+    while k < lines {
+        perform(segment, inventory, letters[k], numbers[k]);
+        k += 1;
+    }
 }

@@ -1,26 +1,10 @@
 // A small archive: the rows of a fringe map go in, are listed, one is read back, one is erased, and they are listed again.
 mod map;
 
-use libc::STDOUT_FILENO;
+use print::named;
+use print::say;
 use slotted_page_segment::Answer;
 use slotted_page_segment::Step;
-
-fn say(text: &[u8]) {
-    io::write_all(STDOUT_FILENO, text);
-}
-
-fn number(n: usize) {
-    io::print_decimal(STDOUT_FILENO, n as u64);
-}
-
-// An id as its page and slot.
-fn say_id(id: usize) {
-    say(b"(");
-    number(id / 65536);
-    say(b",");
-    number(id % 65536);
-    say(b")");
-}
 
 fn insert_row(segment: &mut [u8], inventory: &mut [u8], y: usize) {
     let mut row = [0u8; 41];
@@ -31,7 +15,7 @@ fn insert_row(segment: &mut [u8], inventory: &mut [u8], y: usize) {
         return;
     };
     say(b"  ");
-    say_id(id);
+    print::id(id as u64);
     say(b"  ");
     say(&row);
     say(b"\n");
@@ -69,9 +53,8 @@ fn list_one(segment: &[u8], p: Position) -> Position {
         };
     };
     say(b"  ");
-    say_id(id);
-    say(b"  ");
-    number(length);
+    print::id(id as u64);
+    named(b"  ", length as u64);
     say(b" bytes\n");
     Position {
         page,
@@ -96,8 +79,7 @@ fn list(segment: &[u8]) {
 fn read(segment: &[u8], id: usize) {
     let mut answer: usize = 0;
     let row = slotted_page_segment::get_record(segment, id, &mut answer);
-    say(b"  answer ");
-    number(answer);
+    named(b"  answer ", answer as u64);
     if 0 < row.len() {
         say(b"  ");
         say(row);

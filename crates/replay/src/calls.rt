@@ -1,5 +1,5 @@
 // Each call of a trace, made on the lent bytes: its answer and two numbers.
-use crate::line::Line;
+use crate::line::number;
 
 pub struct Reply {
     pub answer: u64,
@@ -7,30 +7,20 @@ pub struct Reply {
     pub second: u64,
 }
 
-// What no call answers: a record longer than a trace may have.
-fn no_call() -> Reply {
+fn answered(answer: u64) -> Reply {
     Reply {
-        answer: 99,
+        answer,
         first: 0,
         second: 0,
     }
 }
 
-// The record of a trace's line, made in `room`.
-fn insert_made(
-    segment: &mut [u8],
-    inventory: &mut [u8],
-    room: &mut [u8],
-    length: u64,
-    seed: u64,
-) -> Reply {
-    let n = length as usize;
-    if room.len() < n {
-        return no_call();
-    }
-    crate::made::record(&mut room[0..n], seed);
-    let mut id: u64 = 0;
-    let answer = hekatosuy::hk_insert_record(segment, inventory, &room[0..n], &mut id);
+// What no call answers: a record longer than a trace may have.
+fn no_call() -> Reply {
+    answered(99)
+}
+
+fn with_id(answer: u64, id: u64) -> Reply {
     Reply {
         answer,
         first: id,
@@ -38,45 +28,61 @@ fn insert_made(
     }
 }
 
-fn write_made(
-    segment: &mut [u8],
-    inventory: &mut [u8],
-    room: &mut [u8],
+fn insert(segment: &mut [u8], inventory: &mut [u8], record: &[u8]) -> Reply {
+    let mut id: u64 = 0;
+    let answer = hekatosuy::hk_insert_record(segment, inventory, record, &mut id);
+    with_id(answer, id)
+}
+
+// A record of a trace's line: where it goes, how long it is, and by what seed it is made.
+struct Record {
+    new: bool,
     id: u64,
     length: u64,
     seed: u64,
-) -> Reply {
-    let n = length as usize;
+}
+
+// The record, made in `room`, is inserted or written.
+fn put(segment: &mut [u8], inventory: &mut [u8], room: &mut [u8], r: Record) -> Reply {
+    let n = r.length as usize;
     if room.len() < n {
         return no_call();
     }
-    crate::made::record(&mut room[0..n], seed);
-    Reply {
-        answer: hekatosuy::hk_write_record(segment, inventory, id, &room[0..n]),
-        first: 0,
-        second: 0,
+    crate::made::record(&mut room[0..n], r.seed);
+    if r.new {
+        return insert(segment, inventory, &room[0..n]);
     }
+    answered(hekatosuy::hk_write_record(segment, inventory, r.id, &room[0..n]))
 }
 
 // "Records of `I` and `W` are at most 16,400 bytes long".
-fn insert(segment: &mut [u8], inventory: &mut [u8], length: u64, seed: u64) -> Reply {
+fn put_made(segment: &mut [u8], inventory: &mut [u8], r: Record) -> Reply {
     let mut room = [0u8; 16400];
-    insert_made(segment, inventory, &mut room, length, seed)
+    put(segment, inventory, &mut room, r)
 }
 
-fn write(segment: &mut [u8], inventory: &mut [u8], id: u64, length: u64, seed: u64) -> Reply {
-    let mut room = [0u8; 16400];
-    write_made(segment, inventory, &mut room, id, length, seed)
+fn insertion(text: &[u8]) -> Record {
+    Record {
+        new: true,
+        id: 0,
+        length: number(text, 1),
+        seed: number(text, 2),
+    }
+}
+
+fn rewriting(text: &[u8]) -> Record {
+    Record {
+        new: false,
+        id: number(text, 1),
+        length: number(text, 2),
+        seed: number(text, 3),
+    }
 }
 
 fn allocate(segment: &mut [u8], inventory: &mut [u8], size: u64) -> Reply {
     let mut id: u64 = 0;
     let answer = hekatosuy::hk_allocate(segment, inventory, size, &mut id);
-    Reply {
-        answer,
-        first: id,
-        second: 0,
-    }
+    with_id(answer, id)
 }
 
 fn get(segment: &[u8], id: u64) -> Reply {
@@ -90,25 +96,9 @@ fn get(segment: &[u8], id: u64) -> Reply {
     }
 }
 
-fn resize(segment: &mut [u8], inventory: &mut [u8], id: u64, size: u64) -> Reply {
-    Reply {
-        answer: hekatosuy::hk_resize_record(segment, inventory, id, size),
-        first: 0,
-        second: 0,
-    }
-}
-
-fn erase(segment: &mut [u8], inventory: &mut [u8], id: u64) -> Reply {
-    Reply {
-        answer: hekatosuy::hk_erase_record(segment, inventory, id),
-        first: 0,
-        second: 0,
-    }
-}
-
-// A scan on its way: its place, whether the last step found a record, its answer, and what it has found so far.
+// A scan on its way: its position, whether the last step found a record, its answer, and what it has found so far.
 struct Scan {
-    place: u64,
+    position: u64,
     found: u64,
     answer: u64,
     records: u64,
@@ -116,21 +106,21 @@ struct Scan {
 }
 
 fn scan_step(segment: &[u8], s: Scan) -> Scan {
-    let mut place = s.place;
+    let mut position = s.position;
     let mut found: u64 = 0;
     let mut id: u64 = 0;
     let mut offset: u64 = 0;
     let mut length: u64 = 0;
     let answer = hekatosuy::hk_scan_step(
         segment,
-        &mut place,
+        &mut position,
         &mut found,
         &mut id,
         &mut offset,
         &mut length,
     );
     let mut next = Scan {
-        place,
+        position,
         found,
         answer,
         records: s.records,
@@ -146,7 +136,7 @@ fn scan_step(segment: &[u8], s: Scan) -> Scan {
 // To the first step without a record, over no more slots than the pages of a trace can have.
 fn scan_to_end(segment: &[u8]) -> Scan {
     let mut s = Scan {
-        place: 0,
+        position: 0,
         found: 1,
         answer: 0,
         records: 0,
@@ -175,18 +165,15 @@ fn scan_all(segment: &[u8]) -> Reply {
     }
 }
 
-pub fn perform(segment: &mut [u8], inventory: &mut [u8], line: Line) -> Reply {
-    let letter = line.letter;
-    let a = line.numbers[0];
-    let b = line.numbers[1];
-    let c = line.numbers[2];
-    match letter {
-        b'I' => insert(segment, inventory, a, b),
+pub fn perform(segment: &mut [u8], inventory: &mut [u8], text: &[u8]) -> Reply {
+    let a = number(text, 1);
+    match crate::line::letter(text) {
+        b'I' => put_made(segment, inventory, insertion(text)),
         b'A' => allocate(segment, inventory, a),
         b'R' => get(segment, a),
-        b'W' => write(segment, inventory, a, b, c),
-        b'Z' => resize(segment, inventory, a, b),
-        b'E' => erase(segment, inventory, a),
+        b'W' => put_made(segment, inventory, rewriting(text)),
+        b'Z' => answered(hekatosuy::hk_resize_record(segment, inventory, a, number(text, 2))),
+        b'E' => answered(hekatosuy::hk_erase_record(segment, inventory, a)),
         b'N' => scan_all(segment),
         _ => no_call(),
     }

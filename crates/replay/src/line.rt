@@ -2,21 +2,6 @@
 ghost use Prim.Native.Nat.{_≤_};
 ghost use lib.ListN.{length};
 
-// At most eight numbers; letter 0 stands for a line that is not understood.
-pub struct Line {
-    pub letter: u8,
-    pub count: usize,
-    pub numbers: [u64; 8],
-}
-
-fn not_understood() -> Line {
-    Line {
-        letter: 0,
-        count: 0,
-        numbers: [0; 8],
-    }
-}
-
 // The value of a digit; 10 for any other byte.
 fn digit_of(b: u8) -> u64 {
     if b < b'0' {
@@ -43,56 +28,72 @@ fn with_digit(value: u64, digit: u64) -> u64 {
     18446744073709551615
 }
 
-// The line with one digit more of its last number.
-fn lengthened(line: Line, digit: u64) -> Line {
-    let count = line.count;
-    if count == 0 {
-        return not_understood();
+// A number on its way: the blanks passed, and its value so far.
+struct Reading {
+    blanks: u64,
+    value: u64,
+}
+
+// The number after so many blanks, with one byte more of the line.
+fn taken(r: Reading, blanks: u64, b: u8) -> Reading {
+    let mut next = r;
+    if b == b' ' {
+        next.blanks = std::num::wrapping_add_u64(r.blanks, 1);
+        return next;
     }
-    if 8 < count {
-        return not_understood();
+    if r.blanks == blanks {
+        next.value = with_digit(r.value, digit_of(b));
     }
-    let last = count - 1;
-    let value = line.numbers[last];
-    let mut next = line;
-    next.numbers[last] = with_digit(value, digit);
     next
 }
 
-// The line with one byte more of its text.
-fn taken(line: Line, b: u8) -> Line {
-    if b != b' ' {
-        let digit = digit_of(b);
-        if digit == 10 {
-            return not_understood();
-        }
-        return lengthened(line, digit);
-    }
-    let count = line.count;
-    if 8 <= count {
-        return not_understood();
-    }
-    let mut next = line;
-    next.count = count + 1;
-    next
-}
-
-pub fn parse(text: &[u8]) -> Line {
-    let mut line = not_understood();
-    if text.len() == 0 {
-        return line;
-    }
-    line.letter = text[0];
-    let mut at: usize = 1;
+// The k-th number, counted from 1; 0 where there are fewer.
+pub fn number(text: &[u8], k: u64) -> u64 {
+    let mut r = Reading {
+        blanks: 0,
+        value: 0,
+    };
+    let mut at: usize = 0;
     while at < text.len() {
-        line = taken(line, text[at]);
+        r = taken(r, k, text[at]);
         at = at + 1;
     }
-    line
+    r.value
+}
+
+// How many numbers there are with one byte more: at most eight, and 99 for a line that is not understood.
+fn counted(n: u64, b: u8) -> u64 {
+    if b != b' ' {
+        if n == 0 || digit_of(b) == 10 {
+            return 99;
+        }
+        return n;
+    }
+    if 8 <= n {
+        return 99;
+    }
+    n + 1
+}
+
+pub fn count(text: &[u8]) -> u64 {
+    let mut n: u64 = 0;
+    let mut at: usize = 1;
+    while at < text.len() {
+        n = counted(n, text[at]);
+        at = at + 1;
+    }
+    n
+}
+
+pub fn letter(text: &[u8]) -> u8 {
+    if text.len() == 0 {
+        return 0;
+    }
+    text[0]
 }
 
 // How many numbers stand before the five of the result; 8 where the letter is of no call.
-pub fn arguments_of(letter: u8) -> usize
+pub fn arguments_of(letter: u8) -> u64
     ensures { λ r. ⌜ r ≤ 8 ⌝ }
 {
     match letter {
@@ -102,6 +103,20 @@ pub fn arguments_of(letter: u8) -> usize
         b'W' => 3,
         _ => 8,
     }
+}
+
+// Whether these five numbers stand after so many others.
+pub fn has(text: &[u8], after: u64, five: &[u64; 5]) -> bool {
+    let mut at = after;
+    let mut k: usize = 0;
+    while k < 5 {
+        at = std::num::wrapping_add_u64(at, 1);
+        if number(text, at) != five[k] {
+            return false;
+        }
+        k = k + 1;
+    }
+    true
 }
 
 // Where the line that begins at `at` ends: at the next line feed, or with the text.
@@ -119,11 +134,14 @@ pub fn line_end(text: &[u8], at: usize) -> usize
     e
 }
 
-// How many bytes of the text are whole lines.
-pub fn whole_lines(text: &[u8]) -> usize
+// How many bytes of the text are whole lines; of the last text all.
+pub fn whole_lines(text: &[u8], last: bool) -> usize
     ensures { λ r. ⌜ r ≤ length (now (text .entry)) ⌝ }
 {
     let mut e = text.len();
+    if last {
+        return e;
+    }
     while 0 < e {
         if text[e - 1] == b'\n' {
             return e;

@@ -12,7 +12,7 @@ pub fn record(bytes: &mut [u8], seed: u64) {
 }
 
 // A big-endian number over all of the bytes.
-pub fn big_endian(bytes: &mut [u8], value: u64) {
+fn big_endian(bytes: &mut [u8], value: u64) {
     let mut left = value;
     let mut k = bytes.len();
     while 0 < k {
@@ -23,13 +23,22 @@ pub fn big_endian(bytes: &mut [u8], value: u64) {
 }
 
 // A little-endian one.
-pub fn little_endian(bytes: &mut [u8], value: u64) {
+fn little_endian(bytes: &mut [u8], value: u64) {
     let mut left = value;
     let mut k: usize = 0;
     while k < bytes.len() {
         bytes[k] = (left % 256) as u8;
         left = left / 256;
         k = k + 1;
+    }
+}
+
+// Bytes set between calls, by the letter of the line that names them.
+pub fn set(bytes: &mut [u8], letter: u8, value: u64) {
+    match letter {
+        b'B' => big_endian(bytes, value),
+        b'V' => little_endian(bytes, value),
+        _ => record(bytes, value),
     }
 }
 

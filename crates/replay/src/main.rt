@@ -5,8 +5,7 @@ mod line;
 mod made;
 mod report;
 
-use crate::calls::Reply;
-use crate::line::Line;
+use print::least;
 ghost use Prim.Native.Nat.{_≤_};
 ghost use lib.ListN.{length};
 
@@ -20,85 +19,49 @@ pub struct State {
     pub going: bool,
 }
 
-fn least(a: usize, b: usize) -> usize
-    ensures { λ r. ⌜ (r ≤ a) × (r ≤ b) ⌝ }
-{
-    if a < b { a } else { b }
-}
-
-fn stopped(s: State) -> State {
-    let mut next = s;
-    next.going = false;
-    next
+// Whether there are as many bytes, which are now zeros.
+fn zeroed(bytes: &mut [u8], n: usize) -> bool {
+    if bytes.len() < n {
+        return false;
+    }
+    layout::zero_fill(bytes, 0, n);
+    true
 }
 
 // "begins a sequence: so many bytes of segment and inventory, all zero"
-fn begin(s: State, segment: &mut [u8], inventory: &mut [u8], line: Line) -> State {
-    let a = line.numbers[0] as usize;
-    let b = line.numbers[1] as usize;
-    if segment.len() < a {
-        report::too_large(s);
-        return stopped(s);
-    }
-    if inventory.len() < b {
-        report::too_large(s);
-        return stopped(s);
-    }
-    layout::zero_fill(segment, 0, a);
-    layout::zero_fill(inventory, 0, b);
+fn begin(s: State, text: &[u8], segment: &mut [u8], inventory: &mut [u8]) -> State {
     let mut next = s;
     next.sequences = std::num::wrapping_add_u64(s.sequences, 1);
-    next.segment = a;
-    next.inventory = b;
+    next.segment = line::number(text, 1) as usize;
+    next.inventory = line::number(text, 2) as usize;
+    if !zeroed(segment, next.segment) {
+        return report::too_large(s);
+    }
+    if !zeroed(inventory, next.inventory) {
+        return report::too_large(s);
+    }
     next
 }
 
 // Bytes set between calls. A trace sets lent bytes alone; any others are passed over.
-fn poke_segment(segment: &mut [u8], line: Line) {
-    let n = segment.len();
-    let a = least(line.numbers[0] as usize, n);
-    let e = a + least(line.numbers[1] as usize, n - a);
-    let value = line.numbers[2];
-    if line.letter == b'B' {
-        made::big_endian(&mut segment[a..e], value);
-    } else {
-        made::record(&mut segment[a..e], value);
-    }
+fn poke(bytes: &mut [u8], text: &[u8]) {
+    let n = bytes.len();
+    let a = least(line::number(text, 1) as usize, n);
+    let e = a + least(line::number(text, 2) as usize, n - a);
+    made::set(&mut bytes[a..e], line::letter(text), line::number(text, 3));
 }
 
-fn poke_inventory(inventory: &mut [u8], line: Line) {
-    let n = inventory.len();
-    let a = least(line.numbers[0] as usize, n);
-    let e = a + least(line.numbers[1] as usize, n - a);
-    made::little_endian(&mut inventory[a..e], line.numbers[2]);
-}
-
-// The five numbers of a result, which stand after the arguments.
-fn is_wanted(line: Line, at: usize, r: Reply, segment: u64, inventory: u64) -> bool {
-    let w = line.numbers;
-    if 3 < at {
-        return false;
+fn call(s: State, text: &[u8], segment: &mut [u8], inventory: &mut [u8]) -> State {
+    let at = line::arguments_of(line::letter(text));
+    if line::count(text) != at + 5 {
+        return report::not_understood(s, text);
     }
-    w[at] == r.answer
-        && w[at + 1] == r.first
-        && w[at + 2] == r.second
-        && w[at + 3] == segment
-        && w[at + 4] == inventory
-}
-
-fn call(s: State, text: &[u8], segment: &mut [u8], inventory: &mut [u8], line: Line) -> State {
-    let letter = line.letter;
-    let at = line::arguments_of(letter);
-    if line.count != at + 5 {
-        report::not_understood(s, text);
-        return stopped(s);
-    }
-    let r = calls::perform(segment, inventory, line);
+    let r = calls::perform(segment, inventory, text);
     let a = made::digest(segment);
     let b = made::digest(inventory);
-    if !is_wanted(line, at, r, a, b) {
-        report::difference(s, text, r, a, b);
-        return stopped(s);
+    let got = [r.answer, r.first, r.second, a, b];
+    if !line::has(text, at, &got) {
+        return report::difference(s, text, &got);
     }
     let mut next = s;
     next.calls = std::num::wrapping_add_u64(s.calls, 1);
@@ -106,31 +69,16 @@ fn call(s: State, text: &[u8], segment: &mut [u8], inventory: &mut [u8], line: L
 }
 
 // A line on the lent bytes.
-fn replay_lent(
-    s: State,
-    text: &[u8],
-    segment: &mut [u8],
-    inventory: &mut [u8],
-    line: Line,
-) -> State {
-    let letter = line.letter;
-    if line.count == 3 {
-        if letter == b'V' {
-            poke_inventory(inventory, line);
-            return s;
-        }
-        if letter == b'B' || letter == b'G' {
-            poke_segment(segment, line);
-            return s;
-        }
+fn replay_lent(s: State, text: &[u8], segment: &mut [u8], inventory: &mut [u8]) -> State {
+    if line::count(text) != 3 {
+        return call(s, text, segment, inventory);
     }
-    call(s, text, segment, inventory, line)
-}
-
-fn on_lent(s: State, text: &[u8], segment: &mut [u8], inventory: &mut [u8], line: Line) -> State {
-    let a = least(s.segment, segment.len());
-    let b = least(s.inventory, inventory.len());
-    replay_lent(s, text, &mut segment[0..a], &mut inventory[0..b], line)
+    match line::letter(text) {
+        b'V' => poke(inventory, text),
+        b'B' | b'G' => poke(segment, text),
+        _ => return report::not_understood(s, text),
+    }
+    s
 }
 
 fn replay_line(before: State, text: &[u8], segment: &mut [u8], inventory: &mut [u8]) -> State {
@@ -139,11 +87,12 @@ fn replay_line(before: State, text: &[u8], segment: &mut [u8], inventory: &mut [
     }
     let mut s = before;
     s.line = std::num::wrapping_add_u64(before.line, 1);
-    let line = line::parse(text);
-    if line.letter == b'S' && line.count == 2 {
-        return begin(s, segment, inventory, line);
+    if line::letter(text) == b'S' && line::count(text) == 2 {
+        return begin(s, text, segment, inventory);
     }
-    on_lent(s, text, segment, inventory, line)
+    let a = least(s.segment, segment.len());
+    let b = least(s.inventory, inventory.len());
+    replay_lent(s, text, &mut segment[0..a], &mut inventory[0..b])
 }
 
 fn replay_lines(before: State, text: &[u8], segment: &mut [u8], inventory: &mut [u8]) -> State {
@@ -184,11 +133,12 @@ fn replay(text: &mut [u8], segment: &mut [u8], inventory: &mut [u8]) -> State {
     while 0 < turns {
         turns = turns - 1;
         let n = read_on(text, kept);
-        if n == kept {
-            return replay_lines(s, &text[0..n], segment, inventory);
-        }
-        let e = line::whole_lines(&text[0..n]);
+        let last = n == kept;
+        let e = line::whole_lines(&text[0..n], last);
         s = replay_lines(s, &text[0..e], segment, inventory);
+        if last {
+            return s;
+        }
         kept = n - e;
         layout::move_down(text, e, kept, 0);
     }

@@ -22,6 +22,18 @@ sub-turns c = search needs
 read-on-requires : tie.Need-read-on-requires Inv-loop μ-loop
 read-on-requires c κs = search needs
 
+sub-whole-lines : tie.Need-sub-whole-lines Inv-loop μ-loop
+sub-whole-lines c = search needs
+
+part-whole-lines-start : tie.Need-part-whole-lines-start Inv-loop μ-loop
+part-whole-lines-start c = search needs
+
+part-whole-lines-end : tie.Need-part-whole-lines-end Inv-loop μ-loop
+part-whole-lines-end c = search needs
+
+whole-lines-requires : tie.Need-whole-lines-requires Inv-loop μ-loop
+whole-lines-requires c κs = search needs
+
 sub-replay-lines : tie.Need-sub-replay-lines Inv-loop μ-loop
 sub-replay-lines c = search needs
 
@@ -45,30 +57,6 @@ same-length-3 c = search needs
 
 returns : tie.Need-returns Inv-loop μ-loop
 returns c = search needs
-
-sub-whole-lines : tie.Need-sub-whole-lines Inv-loop μ-loop
-sub-whole-lines c = search needs
-
-part-whole-lines-start : tie.Need-part-whole-lines-start Inv-loop μ-loop
-part-whole-lines-start c = search needs
-
-part-whole-lines-end : tie.Need-part-whole-lines-end Inv-loop μ-loop
-part-whole-lines-end c = search needs
-
-whole-lines-requires : tie.Need-whole-lines-requires Inv-loop μ-loop
-whole-lines-requires c κs = search needs
-
-sub-replay-lines-2 : tie.Need-sub-replay-lines-2 Inv-loop μ-loop
-sub-replay-lines-2 c = search needs
-
-part-replay-lines-start-2 : tie.Need-part-replay-lines-start-2 Inv-loop μ-loop
-part-replay-lines-start-2 c = search needs
-
-part-replay-lines-end-2 : tie.Need-part-replay-lines-end-2 Inv-loop μ-loop
-part-replay-lines-end-2 c = search needs
-
-replay-lines-requires-2 : tie.Need-replay-lines-requires-2 Inv-loop μ-loop
-replay-lines-requires-2 c κs = search needs
 
 sub-kept : tie.Need-sub-kept Inv-loop μ-loop
 sub-kept c = search needs
@@ -103,6 +91,10 @@ replay-spec =
     loop-holds
     sub-turns
     read-on-requires
+    sub-whole-lines
+    part-whole-lines-start
+    part-whole-lines-end
+    whole-lines-requires
     sub-replay-lines
     part-replay-lines-start
     part-replay-lines-end
@@ -111,14 +103,6 @@ replay-spec =
     same-length-2
     same-length-3
     returns
-    sub-whole-lines
-    part-whole-lines-start
-    part-whole-lines-end
-    whole-lines-requires
-    sub-replay-lines-2
-    part-replay-lines-start-2
-    part-replay-lines-end-2
-    replay-lines-requires-2
     sub-kept
     move-down-requires
     loop-less

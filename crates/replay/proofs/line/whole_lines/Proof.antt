@@ -6,22 +6,25 @@ use Rattle.replay.proofs.line.whole_lines.Statement.{statement}
 use Rattle.replay.proofs.line.whole_lines.Tie as tie
 
 abbrev Inv-loop : tie.InvT-loop
-Inv-loop text e₀ e = e ≤ length text
+Inv-loop text last e₀ e = e ≤ length text
 
 abbrev μ-loop : tie.MeasureT-loop
-μ-loop text e₀ e = e
+μ-loop text last e₀ e = e
+
+returns : tie.Need-returns Inv-loop μ-loop
+returns c = search needs
 
 loop-holds : tie.Need-loop-holds Inv-loop μ-loop
 loop-holds c = search needs
 
-sub-if1 : tie.Need-sub-if1 Inv-loop μ-loop
-sub-if1 c = search needs
+sub-if2 : tie.Need-sub-if2 Inv-loop μ-loop
+sub-if2 c = search needs
 
-shared-slice-read-if1 : tie.Need-shared-slice-read-if1 Inv-loop μ-loop
-shared-slice-read-if1 c = search needs
+shared-slice-read-if2 : tie.Need-shared-slice-read-if2 Inv-loop μ-loop
+shared-slice-read-if2 c = search needs
 
-returns : tie.Need-returns Inv-loop μ-loop
-returns c = search needs
+returns-2 : tie.Need-returns-2 Inv-loop μ-loop
+returns-2 c = search needs
 
 sub-e : tie.Need-sub-e Inv-loop μ-loop
 sub-e c = search needs
@@ -32,8 +35,8 @@ loop-less c = search needs
 loop-again : tie.Need-loop-again Inv-loop μ-loop
 loop-again c = search needs
 
-returns-2 : tie.Need-returns-2 Inv-loop μ-loop
-returns-2 c = search needs
+returns-3 : tie.Need-returns-3 Inv-loop μ-loop
+returns-3 c = search needs
 
 pub whole-lines-spec : {M : Type 1} → statement M
 whole-lines-spec =
@@ -41,11 +44,12 @@ whole-lines-spec =
     (tie.spec
     Inv-loop
     μ-loop
-    loop-holds
-    sub-if1
-    shared-slice-read-if1
     returns
+    loop-holds
+    sub-if2
+    shared-slice-read-if2
+    returns-2
     sub-e
     loop-less
     loop-again
-    returns-2)
+    returns-3)
