@@ -12,11 +12,14 @@ use Rattle.store.specs.Slots.{isRecord, isTarget}
 use Rattle.store.specs.Page.{View, liesWell}
 use Rattle.store.specs.Segment.{segView, Read, noRead, readBy, readPlan, readStep}
 use Rattle.store.specs.Scan.{Scanned, without, overPage, recordAt, nextRecord, damagedAt, scanFrom}
-use Rattle.store.specs.SoundSegment.{slotOn, SoundSegment}
+use Rattle.store.specs.SoundSegment.{slotOn, bytesOn, SoundSegment}
 use Rattle.store.specs.Laws.Roots.{root-entry}
 use Rattle.store.specs.Laws.SoundPage.{sound-test}
 use Rattle.store.specs.Laws.Calls.{by-test}
-use Rattle.store.specs.Laws.Stays.{page-of, slot-of, points-back}
+use Rattle.store.specs.Laws.Slots.{tag}
+use Rattle.store.specs.Laws.Pairs.{look}
+use Rattle.store.specs.Laws.Stays.{page-of, slot-of}
+use Rattle.store.specs.Laws.Rows.{read-by, by-look}
 use Rattle.store.specs.Laws.SoundSegment.{seen-sound}
 use Rattle.store.specs.declared.Slot.{Slot}
 use Rattle.store.specs.declared.Slot.the-variants.{Ordinary, Free, Redirect, Target}
@@ -49,10 +52,6 @@ module _ (s v : List ℕ) (h : SoundSegment s v) where
   pub none : (a p k : ℕ) → Reads (without a p k)
   none a p k e = let z : _≡_ {A = ℕ} 0 1 = cc in absurd (omega arith)
 
-  read-by : (i : ℕ) → pageNo i < segView s .pages → readStep s i ≡ readBy (segView s) i (slotOn (segView s) i)
-  unfolding readStep readPlan
-  read-by i l = rw (h .whole, root-entry (segView s) i l (sound-test (segView s .page (pageNo i)) (seen-sound s v h .sounds (pageNo i))))
-
   -- of slot j on page p, which holds a record
   module _ (p j : ℕ) (below : p < segView s .pages) (counted : j < segView s .page p .slotCount) where
     small : j < 65536
@@ -75,14 +74,12 @@ module _ (s v : List ℕ) (h : SoundSegment s v) where
         let n = h .pairs .targets t inside (ap isTarget (here ∙ e)) in
         let r = h .pairs .redirects (n .by) t (n .below) (n .names) in
         let b : be (take 8 (segView s .page p .bytes j)) ≡ n .by = ap (λ (bs : List ℕ). be (take 8 bs)) (sym same-bytes) ∙ r .back in
-        let z = seen-sound s v h in
-        ap (readStep s) b ∙ read-by (n .by) (n .below) ∙ ap (readBy (segView s) (n .by)) (n .names)
-        ∙ ap (λ (c : Bool). cond c (row (drop 8 (segView s .page (pageNo t) .bytes (slotNo t)))) (noRead 4))
-        (points-back (segView s) (z .sounds) (z .few) v (z .one) (z .pairs) (z .truth) (n .by) t (n .below) (n .names))
+        ap (readStep s) b ∙ read-by s v h (n .by) (n .below) ∙ by-look s v h (n .by) (n .below)
+        ∙ ap (λ (x : Slot). look (bytesOn (segView s)) (n .by) (tag x)) (n .names)
         ∙ ap (λ (bs : List ℕ). row (drop 8 bs)) same-bytes
 
     record-reads : (x : Slot) → segView s .page p .at j ≡ x → isRecord x ≡ true → Reads (recordAt (segView s .page p) p j)
-    record-reads (Ordinary o l) e r d = rw e (read-by (idOf p j) inside ∙ ap (readBy (segView s) (idOf p j)) (here ∙ e) ∙ ap row same-bytes)
+    record-reads (Ordinary o l) e r d = rw e (read-by s v h (idOf p j) inside ∙ ap (readBy (segView s) (idOf p j)) (here ∙ e) ∙ ap row same-bytes)
     record-reads Free e r d = let z : _≡_ {A = ℕ} 0 1 = cc in absurd (omega arith)
     record-reads (Redirect t) e r d = let z : _≡_ {A = ℕ} 0 1 = cc in absurd (omega arith)
     record-reads (Target o l) e r d = rw e (by-root o l e)

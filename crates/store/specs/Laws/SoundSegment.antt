@@ -159,20 +159,6 @@ undamaged w t k =
     (λ e. ap not (le-leb (w .slotCount) 2046 (t .few)))
 
 module _ (s v : List ℕ) (h : SoundSegment s v) where
-  pub read-whole : (i : ℕ) → readPlan (segView s) i .answer ≢ 4
-  unfolding readPlan
-  read-whole i =
-      let e = seen-sound s v h in
-      let r : View = segView s .page (pageNo i) in
-      by-sound-root (λ (d : Read). d .answer ≢ 4) (segView s) i noRead (readBy (segView s) i) (sound-test r (e .sounds (pageNo i)))
-      (λ l x. omega arith) (λ l. go e l (r .at (slotNo i)) refl)
-    where
-      go : Seen s v → pageNo i < segView s .pages → (x : Slot) → segView s .page (pageNo i) .at (slotNo i) ≡ x → readBy (segView s) i x .answer ≢ 4
-      go e l (Ordinary o k) q = λ x. omega arith
-      go e l Free q = λ x. omega arith
-      go e l (Redirect t) q = rw (points-back (segView s) (e .sounds) (e .few) v (e .one) (e .pairs) (e .truth) i t l q) (λ x. omega arith)
-      go e l (Target o k) q = λ x. omega arith
-
   pub scan-whole : (m p k : ℕ) → scanFrom m (segView s) p k .answer ≢ 4
   scan-whole zero p k = λ x. omega arith
   scan-whole (suc m) p k = go (scan-whole m (p + 1) 0)

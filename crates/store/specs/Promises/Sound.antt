@@ -7,13 +7,18 @@ use mathlib.Core.List.{List, [], _∷_}
 use mathlib.Core.Logic.{_≢_}
 use native.Mathlib.Omega.{arith}
 use lib.Dec.{ltb}
-use Rattle.store.specs.Segment.{SegView, segView, sizeOk, Out, Result, result, step, Read, readStep}
+use Rattle.store.specs.Numbers.{pageNo}
+use Rattle.store.specs.Segment.{SegView, segView, sizeOk, Out, Result, result, step, Read, noRead, readBy, readPlan, readStep}
 use Rattle.store.specs.Scan.{Scanned, without, overPage, scanPlan, scanStep}
 use Rattle.store.specs.Calls.{Call, called, results, Each}
-use Rattle.store.specs.SoundSegment.{SoundSegment}
+use Rattle.store.specs.SoundSegment.{bytesOn, SoundSegment}
+use Rattle.store.specs.Laws.Roots.{by-sound-root}
+use Rattle.store.specs.Laws.SoundPage.{sound-test}
+use Rattle.store.specs.Laws.Pairs.{tagOn, look-whole}
 use Rattle.store.specs.Laws.Calls.{by-test}
 use Rattle.store.specs.Laws.Plans.{Exacting, planOf, called-plan, call-exacting}
-use Rattle.store.specs.Laws.SoundSegment.{seen-sound, sized, stays-right, Staying, rowOf, call-staying, read-whole, scan-whole}
+use Rattle.store.specs.Laws.SoundSegment.{seen-sound, sized, stays-right, Staying, rowOf, call-staying, scan-whole}
+use Rattle.store.specs.Laws.Rows.{by-look}
 
 pub record Right (r : Result) : Type 0 where
   pub sound : SoundSegment (r .seg) (r .inv)
@@ -41,8 +46,12 @@ calls-right (c ∷ cs) s v h =
 
 module _ (s v : List ℕ) (h : SoundSegment s v) where
   pub read-right : (i : ℕ) → readStep s i .answer ≢ 4
-  unfolding readStep
-  read-right i = rw (h .whole) (read-whole s v h i)
+  unfolding readStep readPlan
+  read-right i =
+      rw (h .whole)
+      (by-sound-root (λ (d : Read). d .answer ≢ 4) (segView s) i noRead (readBy (segView s) i)
+      (sound-test (segView s .page (pageNo i)) (seen-sound s v h .sounds (pageNo i))) (λ l e. omega arith)
+      (λ l. subst (λ (d : Read). d .answer ≢ 4) (sym (by-look s v h i l)) (look-whole (bytesOn (segView s)) i (tagOn (segView s) i))))
 
   -- wherever the scan stands
   pub scan-right : (p k : ℕ) → scanStep s p k .answer ≢ 4
