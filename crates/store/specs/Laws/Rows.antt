@@ -16,7 +16,7 @@ use Rattle.store.specs.Calls.{Call, called}
 use Rattle.store.specs.SoundSegment.{slotOn, bytesOn, Root, Rooted, SoundSegment}
 use Rattle.store.specs.Laws.Pairs.{tagOn, look, tag-root, look-root, row-root}
 use Rattle.store.specs.Laws.Stays.{Stays, points-back}
-use Rattle.store.specs.Laws.SoundSegment.{Seen, seen-sound, seen-pages, sized, stays-right, after-seen, page-count, Staying, rowOf, call-staying}
+use Rattle.store.specs.Laws.SoundSegment.{seen-sound, seen-pages, sized, stays-right, after-seen, page-count, Staying, rowOf, call-staying}
 use Rattle.store.specs.declared.Slot.{Slot}
 use Rattle.store.specs.declared.Slot.the-variants.{Ordinary, Free, Redirect, Target}
 

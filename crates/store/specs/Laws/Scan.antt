@@ -10,11 +10,9 @@ use borrow.Author.Tests.{ltb-true}
 use Rattle.store.specs.Numbers.{be, idOf, pageNo, slotNo}
 use Rattle.store.specs.Slots.{isRecord, isTarget}
 use Rattle.store.specs.Page.{View, liesWell}
-use Rattle.store.specs.Segment.{segView, Read, noRead, readBy, readPlan, readStep}
+use Rattle.store.specs.Segment.{segView, Read, readBy, readStep}
 use Rattle.store.specs.Scan.{Scanned, without, overPage, recordAt, nextRecord, damagedAt, scanFrom}
 use Rattle.store.specs.SoundSegment.{slotOn, bytesOn, SoundSegment}
-use Rattle.store.specs.Laws.Roots.{root-entry}
-use Rattle.store.specs.Laws.SoundPage.{sound-test}
 use Rattle.store.specs.Laws.Calls.{by-test}
 use Rattle.store.specs.Laws.Slots.{tag}
 use Rattle.store.specs.Laws.Pairs.{look}

@@ -9,15 +9,13 @@ use native.Mathlib.Decide.{decLt}
 use lib.ListN.{length, length-take, length-drop}
 use lib.Dec.{eqb, ltb, leb}
 use borrow.Author.Tests.{leb-true, le-leb, eqb-true}
-use Rattle.store.specs.Numbers.{zeros, fit, pageNo, slotNo}
+use Rattle.store.specs.Numbers.{zeros, fit}
 use Rattle.store.specs.Page.{View, view, fresh, countFits, soundTests, passes, sound, liesWell}
 use Rattle.store.specs.PageSteps.{initialised, opened, plan}
 use Rattle.store.specs.Inventory.{Truth}
 use Rattle.store.specs.Inventory.{foundIn}
 use Rattle.store.specs.Segment.{SegView, segView, pageOf, sizeOk, Out, carried, refuse, insertPlan, Read, noRead}
-use Rattle.store.specs.Segment.{readBy, readPlan}
 use Rattle.store.specs.Laws.Cases.{or-in}
-use Rattle.store.specs.Laws.Roots.{by-sound-root}
 use Rattle.store.specs.Laws.Views.{Sound}
 use Rattle.store.specs.Laws.SoundPage.{and-both, sound-init, sound-opened, sound-test, good-in}
 use Rattle.store.specs.Scan.{Scanned, without, overPage, recordAt, nextRecord, damagedAt, scanFrom}
@@ -27,9 +25,7 @@ use Rattle.store.specs.Laws.Plans.{length-carried, planOf}
 use Rattle.store.specs.Calls.{Call, insert, allocate, write, resize, erase}
 use Rattle.store.specs.SoundSegment.{bytesOn, classes, SoundSegment}
 use Rattle.store.specs.Laws.Pairs.{Pairs, tagOn, paired-pairs, pairs-paired}
-use Rattle.store.specs.Laws.Stays.{Stays, wrote, oldBytes, refusal, insert-stays, store-stays, erase-stays, points-back}
-use Rattle.store.specs.declared.Slot.{Slot}
-use Rattle.store.specs.declared.Slot.the-variants.{Ordinary, Free, Redirect, Target}
+use Rattle.store.specs.Laws.Stays.{Stays, wrote, oldBytes, refusal, insert-stays, store-stays, erase-stays}
 
 -- ---- what a sound segment gives to the plans
 
