@@ -146,33 +146,10 @@ call-staying (write i bs) v z e = store-stays (segView z) (e .sounds) (e .few) v
 call-staying (resize i n) v z e = store-stays (segView z) (e .sounds) (e .few) v (e .one) (e .pairs) (e .truth) i _ _
 call-staying (erase i) v z e = erase-stays (segView z) (e .sounds) (e .few) v (e .one) (e .pairs) (e .truth) i
 
--- ---- reads and scans
+-- ---- scans
 
 -- on a sound page no position is damaged
-undamaged : (w : View) → Sound w → (k : ℕ) → damagedAt w k ≡ false
+pub undamaged : (w : View) → Sound w → (k : ℕ) → damagedAt w k ≡ false
 undamaged w t k =
     by-test (λ (b : Bool). b ≡ false) (eqb k 0) (not (sound w)) (not (countFits w)) (λ e. ap not (sound-test w t))
     (λ e. ap not (le-leb (w .slotCount) 2046 (t .few)))
-
-module _ (s v : List ℕ) (h : SoundSegment s v) where
-  pub scan-whole : (m p k : ℕ) → scanFrom m (segView s) p k .answer ≢ 4
-  scan-whole zero p k = λ x. omega arith
-  scan-whole (suc m) p k = go (scan-whole m (p + 1) 0)
-    where
-      w : View
-      w = segView s .page p
-
-      j : ℕ
-      j = nextRecord (w .slotCount - k) w k
-
-      record-whole : recordAt w p j .answer ≢ 4
-      record-whole = λ x. omega arith
-
-      go : scanFrom m (segView s) (p + 1) 0 .answer ≢ 4
-          → cond (damagedAt w k) (without 4 overPage 0)
-          (cond (ltb j (w .slotCount)) (cond (liesWell w j) (recordAt w p j) (without 4 overPage 0)) (scanFrom m (segView s) (p + 1) 0)) .answer ≢ 4
-      go ih =
-          let t = seen-sound s v h .sounds p in
-          rw (undamaged w t k, good-in w t j)
-          (by-test (λ (d : Scanned). d .answer ≢ 4) (ltb j (w .slotCount)) (recordAt w p j) (scanFrom m (segView s) (p + 1) 0)
-          (λ a. record-whole) (λ a. ih))

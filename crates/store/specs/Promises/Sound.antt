@@ -1,7 +1,7 @@
 -- A sound segment stays sound, whatever the calls: every page, the pairs of redirects and targets, the true inventory. From one, no call
 -- answers 4 (damaged) or 8 (no room where the inventory named a page), and no read or scan answers 4.
 use Prim.Native.Nat.{ℕ, _-_}
-use mathlib.Core.Path.{sym, subst}
+use mathlib.Core.Path.{_≡_, sym, subst}
 use mathlib.Core.Bool.{cond}
 use mathlib.Core.List.{List, [], _∷_}
 use mathlib.Core.Logic.{_≢_}
@@ -13,12 +13,13 @@ use Rattle.store.specs.Scan.{Scanned, without, overPage, scanPlan, scanS
 use Rattle.store.specs.Calls.{Call, called, results, Each}
 use Rattle.store.specs.SoundSegment.{bytesOn, SoundSegment}
 use Rattle.store.specs.Laws.Roots.{by-sound-root}
-use Rattle.store.specs.Laws.SoundPage.{sound-test}
+use Rattle.store.specs.Laws.SoundPage.{sound-test, good-in}
 use Rattle.store.specs.Laws.Pairs.{tagOn, look-whole}
 use Rattle.store.specs.Laws.Calls.{by-test}
 use Rattle.store.specs.Laws.Plans.{Exacting, planOf, called-plan, call-exacting}
-use Rattle.store.specs.Laws.SoundSegment.{seen-sound, sized, stays-right, Staying, rowOf, call-staying, scan-whole}
+use Rattle.store.specs.Laws.SoundSegment.{seen-sound, sized, stays-right, Staying, rowOf, call-staying, undamaged}
 use Rattle.store.specs.Laws.Rows.{by-look}
+use Rattle.store.specs.Laws.Scan.{scan-each}
 
 pub record Right (r : Result) : Type 0 where
   pub sound : SoundSegment (r .seg) (r .inv)
@@ -55,8 +56,8 @@ module _ (s v : List ℕ) (h : SoundSegment s v) where
 
   -- wherever the scan stands
   pub scan-right : (p k : ℕ) → scanStep s p k .answer ≢ 4
-  unfolding scanStep scanPlan
-  scan-right p k =
-      by-test (λ (d : Scanned). d .answer ≢ 4) (ltb 32527 p) (without 0 p k) (cond (sizeOk s) (scanPlan (segView s) p k) (without 1 overPage 0))
-      (λ a x. omega arith)
-      (λ a. rw (h .whole) (scan-whole s v h (segView s .pages - p) p k))
+  scan-right =
+      scan-each (λ d. d .answer ≢ 4) s (λ p k e. omega arith) (λ e. omega arith)
+      (λ p k e. let f = undamaged (segView s .page p) (seen-sound s v h .sounds p) k in let z : _≡_ {A = ℕ} 0 1 = cc in absurd (omega arith))
+      (λ p j e. let f = good-in (segView s .page p) (seen-sound s v h .sounds p) j in let z : _≡_ {A = ℕ} 0 1 = cc in absurd (omega arith))
+      (λ p j l c r g e. omega arith)
