@@ -1,17 +1,17 @@
 -- What is seen of a slot, as bytes of the segment; and what a read or a scan's step answers so.
-use Prim.Native.Nat.{ℕ, zero, suc, _+_, _-_, _*_, _≤_, _<_}
+use Prim.Native.Nat.{ℕ, _+_, _-_, _*_, _≤_, _<_}
 use mathlib.Core.Path.{_≡_, refl, sym, ap, subst, _∙_}
 use mathlib.Core.Bool.{true, cond}
 use mathlib.Core.List.{List}
 use native.Mathlib.Omega.{arith}
 use lib.ListN.{drop}
-use lib.Dec.{eqb, ltb}
+use lib.Dec.{eqb}
 use Rattle.store.specs.Numbers.{cut, pageNo, slotNo}
 use Rattle.store.specs.Slots.{off, len, isTarget}
 use Rattle.store.specs.Page.{View, view, fresh, liesWell, sound}
 use Rattle.store.specs.PageSteps.{initialised}
 use Rattle.store.specs.Segment.{segView, pageOf, pointsBack, Read, noRead, readBy, noPart, partOn, held, partBy}
-use Rattle.store.specs.Scan.{Scanned, without, overPage, recordAt, nextRecord, damagedAt, scanFrom}
+use Rattle.store.specs.Scan.{Scanned, recordAt}
 use Rattle.store.specs.Laws.Numbers.{cut-cut, cut-drop}
 use Rattle.store.specs.Laws.SoundPage.{in-page}
 use Rattle.store.specs.Laws.Segments.{length-page}

@@ -1,24 +1,23 @@
 -- A sound segment stays sound under each plan, and from one no plan answers 4 or 8.
-use Prim.Native.Nat.{ℕ, zero, suc, _+_, _-_, _/_, _%_, _≤_, _<_}
+use Prim.Native.Nat.{ℕ, _/_, _%_, _≤_, _<_}
 use mathlib.Core.Path.{_≡_, refl, sym, ap, _∙_, subst}
-use mathlib.Core.Bool.{Bool, true, false, cond, not, _&&_}
+use mathlib.Core.Bool.{Bool, true, false, not, _&&_}
 use mathlib.Core.List.{List, [], _∷_}
-use mathlib.Core.Logic.{_≢_}
 use native.Mathlib.Omega.{arith}
 use native.Mathlib.Decide.{decLt}
 use lib.ListN.{length, length-take, length-drop}
 use lib.Dec.{eqb, ltb, leb}
 use borrow.Author.Tests.{leb-true, le-leb, eqb-true}
 use Rattle.store.specs.Numbers.{zeros, fit}
-use Rattle.store.specs.Page.{View, view, fresh, countFits, soundTests, passes, sound, liesWell}
+use Rattle.store.specs.Page.{View, view, fresh, countFits, soundTests, passes, sound}
 use Rattle.store.specs.PageSteps.{initialised, opened, plan}
 use Rattle.store.specs.Inventory.{Truth}
 use Rattle.store.specs.Inventory.{foundIn}
 use Rattle.store.specs.Segment.{SegView, segView, pageOf, sizeOk, Out, carried, refuse, insertPlan, Read, noRead}
 use Rattle.store.specs.Laws.Cases.{or-in}
 use Rattle.store.specs.Laws.Views.{Sound}
-use Rattle.store.specs.Laws.SoundPage.{and-both, sound-init, sound-opened, sound-test, good-in}
-use Rattle.store.specs.Scan.{Scanned, without, overPage, recordAt, nextRecord, damagedAt, scanFrom}
+use Rattle.store.specs.Laws.SoundPage.{and-both, sound-init, sound-opened, sound-test}
+use Rattle.store.specs.Scan.{damagedAt}
 use Rattle.store.specs.Laws.Segments.{AllExact, AllSound, length-page, settled, carried-seen, settled-sound}
 use Rattle.store.specs.Laws.Calls.{by-test}
 use Rattle.store.specs.Laws.Plans.{length-carried, planOf}

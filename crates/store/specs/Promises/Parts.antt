@@ -1,12 +1,10 @@
 -- The part of the lent segment that a read or a scan's step answers has the record's bytes: for all bytes, damaged ones too.
-use Prim.Native.Nat.{ℕ, _-_}
+use Prim.Native.Nat.{ℕ}
 use mathlib.Core.Path.{_≡_, refl}
-use mathlib.Core.Bool.{cond}
 use mathlib.Core.List.{List}
-use lib.Dec.{ltb}
 use Rattle.store.specs.Numbers.{pageNo, slotNo}
 use Rattle.store.specs.Segment.{segView, sizeOk, noRead, readBy, readPlan, readStep, held, locateStep}
-use Rattle.store.specs.Scan.{without, overPage, scanPlan, scanStep}
+use Rattle.store.specs.Scan.{scanStep}
 use Rattle.store.specs.Laws.Roots.{by-root}
 use Rattle.store.specs.Laws.Calls.{by-test}
 use Rattle.store.specs.Laws.Parts.{Holds, high, slot-holds, Shown, record-part}

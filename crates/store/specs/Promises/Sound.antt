@@ -1,21 +1,18 @@
 -- A sound segment stays sound, whatever the calls: every page, the pairs of redirects and targets, the true inventory. From one, no call
 -- answers 4 (damaged) or 8 (no room where the inventory named a page), and no read or scan answers 4.
-use Prim.Native.Nat.{ℕ, _-_}
-use mathlib.Core.Path.{_≡_, sym, subst}
-use mathlib.Core.Bool.{cond}
+use Prim.Native.Nat.{ℕ}
+use mathlib.Core.Path.{sym, subst}
 use mathlib.Core.List.{List, [], _∷_}
 use mathlib.Core.Logic.{_≢_}
 use native.Mathlib.Omega.{arith}
-use lib.Dec.{ltb}
 use Rattle.store.specs.Numbers.{pageNo}
-use Rattle.store.specs.Segment.{SegView, segView, sizeOk, Out, Result, result, step, Read, noRead, readBy, readPlan, readStep}
-use Rattle.store.specs.Scan.{Scanned, without, overPage, scanPlan, scanStep}
+use Rattle.store.specs.Segment.{SegView, segView, Out, Result, result, step, Read, noRead, readBy, readPlan, readStep}
+use Rattle.store.specs.Scan.{scanStep}
 use Rattle.store.specs.Calls.{Call, called, results, Each}
 use Rattle.store.specs.SoundSegment.{bytesOn, SoundSegment}
 use Rattle.store.specs.Laws.Roots.{by-sound-root}
 use Rattle.store.specs.Laws.SoundPage.{sound-test, good-in}
 use Rattle.store.specs.Laws.Pairs.{tagOn, look-whole}
-use Rattle.store.specs.Laws.Calls.{by-test}
 use Rattle.store.specs.Laws.Plans.{Exacting, planOf, called-plan, call-exacting}
 use Rattle.store.specs.Laws.SoundSegment.{seen-sound, sized, stays-right, Staying, rowOf, call-staying, undamaged}
 use Rattle.store.specs.Laws.Rows.{by-look}
