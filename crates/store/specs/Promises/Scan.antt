@@ -4,11 +4,11 @@ use Prim.Native.Nat.{ℕ}
 use mathlib.Core.Path.{_≡_, refl}
 use mathlib.Core.Bool.{true, false}
 use mathlib.Core.List.{List}
-use native.Mathlib.Omega.{arith}
 use Rattle.store.specs.Refusals.{DONE}
 use Rattle.store.specs.Segment.{segView, readStep}
 use Rattle.store.specs.Scan.{scanStep}
 use Rattle.store.specs.SoundSegment.{SoundSegment}
+use Rattle.store.specs.Laws.Cases.{never}
 use Rattle.store.specs.Laws.Scan.{scan-each, Reads, record-reads}
 
 pub scan-reads : (s v : List ℕ) → SoundSegment s v → (p k : ℕ) → scanStep s p k .some ≡ true
@@ -18,4 +18,4 @@ scan-reads s v h =
     (λ p j l c r g. record-reads s v h p j l c (segView s .page p .at j) refl r)
   where
     none : {A : Type 0} → false ≡ true → A
-    none e = let z : _≡_ {A = ℕ} 0 1 = cc in absurd (omega arith)
+    none e = never e refl

@@ -10,6 +10,7 @@ use Rattle.store.specs.Segment.{SegView, segView, Out, Result, result, s
 use Rattle.store.specs.Scan.{scanStep}
 use Rattle.store.specs.Calls.{Call, called, results, Each}
 use Rattle.store.specs.SoundSegment.{bytesOn, SoundSegment}
+use Rattle.store.specs.Laws.Cases.{never}
 use Rattle.store.specs.Laws.Roots.{by-sound-root}
 use Rattle.store.specs.Laws.SoundPage.{sound-test, good-in}
 use Rattle.store.specs.Laws.Pairs.{tagOn, look-whole}
@@ -55,6 +56,6 @@ module _ (s v : List ℕ) (h : SoundSegment s v) where
   pub scan-right : (p k : ℕ) → scanStep s p k .answer ≢ 4
   scan-right =
       scan-each (λ d. d .answer ≢ 4) s (λ p k e. omega arith) (λ e. omega arith)
-      (λ p k e. let f = undamaged (segView s .page p) (seen-sound s v h .sounds p) k in let z : _≡_ {A = ℕ} 0 1 = cc in absurd (omega arith))
-      (λ p j e. let f = good-in (segView s .page p) (seen-sound s v h .sounds p) j in let z : _≡_ {A = ℕ} 0 1 = cc in absurd (omega arith))
+      (λ p k e. never e (undamaged (segView s .page p) (seen-sound s v h .sounds p) k))
+      (λ p j e. never (good-in (segView s .page p) (seen-sound s v h .sounds p) j) e)
       (λ p j l c r g e. omega arith)
