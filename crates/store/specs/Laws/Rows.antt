@@ -36,8 +36,7 @@ module _ (s v : List ℕ) (h : SoundSegment s v) where
       go (Ordinary o k) q = refl
       go Free q = refl
       go (Redirect t) q =
-          let e = seen-sound s v h in
-          rw (points-back (segView s) (e .sounds) (e .few) v (e .one) (e .pairs) (e .truth) i t l q)
+          rw (points-back (segView s) v (seen-sound s v h) i t l q)
       go (Target o k) q = refl
 
   pub read-look : (i : ℕ) → pageNo i < length s / 16384 → readStep s i ≡ look (bytesOn (segView s)) i (tagOn (segView s) i)

@@ -24,7 +24,7 @@ use Rattle.store.specs.Laws.Plans.{length-carried, planOf}
 use Rattle.store.specs.Calls.{Call, insert, allocate, write, resize, erase}
 use Rattle.store.specs.SoundSegment.{bytesOn, classes, SoundSegment}
 use Rattle.store.specs.Laws.Pairs.{Pairs, tagOn, paired-pairs, pairs-paired}
-use Rattle.store.specs.Laws.Stays.{Stays, wrote, oldBytes, refusal, insert-stays, store-stays, erase-stays}
+use Rattle.store.specs.Laws.Stays.{Stays, Seen, wrote, oldBytes, refusal, insert-stays, store-stays, erase-stays}
 
 -- ---- what a sound segment gives to the plans
 
@@ -36,13 +36,6 @@ page-past s p h w = nil (pageOf s p) (simp (length-take, length-drop) (omega ari
     nil [] e = refl
     nil (x ∷ l) e = absurd (omega arith)
 
-pub record Seen (s v : List ℕ) : Type 0 where
-  pub sounds : (p : ℕ) → Sound (segView s .page p)
-  pub few : segView s .pages ≤ 32527
-  pub one : length v ≡ 16384
-  pub pairs : Pairs (segView s .pages) (tagOn (segView s)) (bytesOn (segView s))
-  pub truth : Truth (classes (segView s)) (segView s .pages) v
-
 pub record Sized (s : List ℕ) : Type 0 where
   pub whole : length s % 16384 ≡ 0
   pub few : length s / 16384 ≤ 32527
@@ -52,7 +45,7 @@ sized s e =
     let b = and-both (eqb (length s % 16384) 0) (leb (length s / 16384) 32527) e in
     record { whole = eqb-true (length s % 16384) 0 (b .0); few = leb-true (length s / 16384) 32527 (b .1) }
 
-pub seen-sound : (s v : List ℕ) → SoundSegment s v → Seen s v
+pub seen-sound : (s v : List ℕ) → SoundSegment s v → Seen (segView s) v
 unfolding segView view
 seen-sound s v h =
     let z = sized s (h .whole) in
@@ -119,12 +112,12 @@ module _ (s v : List ℕ) (h : SoundSegment s v) (o : Out) (x : AllExact s (o .s
 
 -- a plan that stays, for every sound segment
 abbrev pub Staying : (SegView → Out) → (SegView → Read) → List ℕ → Type 0
-Staying plan w v = (s : List ℕ) → Seen s v → Stays (segView s) v (w (segView s)) (plan (segView s))
+Staying plan w v = (s : List ℕ) → Seen (segView s) v → Stays (segView s) v (w (segView s)) (plan (segView s))
 
 -- ---- the five writing calls
 
-insert-keeps : (s v bs : List ℕ) → Seen s v → Stays (segView s) v (wrote bs) (insertPlan foundIn (segView s) v bs)
-insert-keeps s v bs e = insert-stays (segView s) (e .sounds) (e .few) v (e .one) (e .pairs) (e .truth) bs
+insert-keeps : (s v bs : List ℕ) → Seen (segView s) v → Stays (segView s) v (wrote bs) (insertPlan foundIn (segView s) v bs)
+insert-keeps s v bs e = insert-stays (segView s) v e bs
 
 -- what the answer's id reads as, after a call that is carried out
 abbrev pub rowOf : Call → SegView → Read
@@ -138,12 +131,12 @@ pub call-staying : (c : Call) (v : List ℕ) → Staying (planOf c v) (rowOf c) 
 call-staying (insert bs) v z e = insert-keeps z v bs e
 call-staying (allocate n) v z e =
     by-test (Stays (segView z) v (wrote (zeros n))) (ltb 16364 n) (refuse v 3) (insertPlan foundIn (segView z) v _)
-    (λ f. refusal (segView z) (e .sounds) (e .few) v (e .one) (e .pairs) (e .truth) (wrote (zeros n)) 3 (λ x. omega arith) (λ x. omega arith)
+    (λ f. refusal (segView z) v e (wrote (zeros n)) 3 (λ x. omega arith) (λ x. omega arith)
     (λ x. omega arith))
     (λ f. insert-keeps z v _ e)
-call-staying (write i bs) v z e = store-stays (segView z) (e .sounds) (e .few) v (e .one) (e .pairs) (e .truth) i _ _
-call-staying (resize i n) v z e = store-stays (segView z) (e .sounds) (e .few) v (e .one) (e .pairs) (e .truth) i _ _
-call-staying (erase i) v z e = erase-stays (segView z) (e .sounds) (e .few) v (e .one) (e .pairs) (e .truth) i
+call-staying (write i bs) v z e = store-stays (segView z) v e i _ _
+call-staying (resize i n) v z e = store-stays (segView z) v e i _ _
+call-staying (erase i) v z e = erase-stays (segView z) v e i
 
 -- ---- scans
 
