@@ -131,8 +131,7 @@ pub call-staying : (c : Call) (v : List ℕ) → Staying (planOf c v) (rowOf c) 
 call-staying (insert bs) v z e = insert-keeps z v bs e
 call-staying (allocate n) v z e =
     by-test (Stays (segView z) v (wrote (zeros n))) (ltb 16364 n) (refuse v 3) (insertPlan foundIn (segView z) v _)
-    (λ f. refusal (segView z) v e (wrote (zeros n)) 3 (λ x. omega arith) (λ x. omega arith)
-    (λ x. omega arith))
+    (λ f. refusal (segView z) v e (wrote (zeros n)) 3 refl)
     (λ f. insert-keeps z v _ e)
 call-staying (write i bs) v z e = store-stays (segView z) v e i _ _
 call-staying (resize i n) v z e = store-stays (segView z) v e i _ _

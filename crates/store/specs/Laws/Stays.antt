@@ -18,7 +18,7 @@ use Rattle.store.specs.Page.{View, sound}
 use Rattle.store.specs.PageSteps.{move, Plan, withSlot, Alloc, noRoom, got, eraseForRedirect, Relocated, refused, moved, relocate, filled, plan}
 use Rattle.store.specs.PageSteps.{allocate, erase}
 use Rattle.store.specs.Inventory.{classOf, entryFor, Truth, update, foundIn}
-use Rattle.store.specs.Refusals.{NOPAGE, LONG}
+use Rattle.store.specs.Refusals.{DONE, NOPAGE, LONG, DAMAGED, STALE}
 use Rattle.store.specs.Segment.{SegView, OnPage, on, Out, done, refuse, Found, nowhere, found, taken, findOn, needFor, find, inserted}
 use Rattle.store.specs.Segment.{insertPlan, pointsBack, targeted, forwarded, fromOrdinary, forwardedAgain, atTarget, atHome, fromRedirect}
 use Rattle.store.specs.Segment.{storeBy, storePlan, eraseBy, erasePlan, Read, noRead}
@@ -29,7 +29,7 @@ use Rattle.store.specs.Laws.Views.{Sound}
 use Rattle.store.specs.Laws.SoundPage.{sound-test}
 use Rattle.store.specs.Laws.Segments.{settledOn, settled}
 use Rattle.store.specs.Laws.Calls.{by-test, target-taken, named-tells}
-use Rattle.store.specs.Laws.Cases.{or-true, or-false}
+use Rattle.store.specs.Laws.Cases.{never, or-true, or-false}
 use Rattle.store.specs.Laws.OneSlot.{cost-most}
 use Rattle.store.specs.Laws.Changes.{Writes, Headed, Changes, retag, fill-changes, alloc-changes, AllocChanges, erase-changes, redirect-changes}
 use Rattle.store.specs.Laws.Changes.{entry-changes, Relocates, relocate-changes}
@@ -103,6 +103,10 @@ slot-of p k h = omega arith
 back-read : (i : ℕ) (xs : List ℕ) → i < 256 ^ 8 → be (take 8 (toBE 8 i ++ xs)) ≡ i
 back-read i xs h = be-toBE 8 h
 
+-- neither 0, nor one of the two refusals that a sound segment does not give
+abbrev pub fine : ℕ → Bool
+fine a = not (eqb a DONE || eqb a DAMAGED || eqb a STALE)
+
 -- what is known of what is seen of a sound segment, and of its inventory
 pub record Seen (u : SegView) (v : List ℕ) : Type 0 where
   pub sounds : (p : ℕ) → Sound (u .page p)
@@ -112,19 +116,20 @@ pub record Seen (u : SegView) (v : List ℕ) : Type 0 where
   pub truth : Truth (classes u) (u .pages) v
 
 module _ (u : SegView) (v : List ℕ) (seen : Seen u v) where
-  pub refusal : (w : Read) (a : ℕ) → a ≢ 0 → a ≢ 4 → a ≢ 8 → Stays u v w (refuse v a)
-  refusal w a z f g = record {
+  -- a refusal that a sound segment may give
+  pub refusal : (w : Read) (a : ℕ) → fine a ≡ true → Stays u v w (refuse v a)
+  refusal w a f = record {
     steps = tt;
-    pairs = (seen .pairs);
-    own = λ e. absurd (z e);
+    pairs = seen .pairs;
+    own = λ e. never f (ap fine e);
     others = λ j l n r. (refl, refl);
-    plain = λ e. absurd (z e);
+    plain = λ e. never f (ap fine e);
     rows = λ j l n. refl;
-    below = λ e. absurd (z e);
-    truth = (seen .truth);
+    below = λ e. never f (ap fine e);
+    truth = seen .truth;
     long = refl;
-    whole = f;
-    current = g;
+    whole = λ e. never f (ap fine e);
+    current = λ e. never f (ap fine e);
   }
 
   -- a plan that is carried out: steps that are right, an inventory that is true, and what they make of the ids
@@ -319,11 +324,11 @@ module _ (u : SegView) (v : List ℕ) (seen : Seen u v) where
   unfolding insertPlan
   insert-stays bs =
       by-test (Stays u v (wrote bs)) (ltb 16364 (length bs)) (refuse v 3) (inserted u v bs (find foundIn u v (length bs) (λ p. false)))
-      (λ e. refusal (wrote bs) 3 (λ x. omega arith) (λ x. omega arith) (λ x. omega arith))
+      (λ e. refusal (wrote bs) 3 refl)
       (λ e. go (find foundIn u v (length bs) (λ p. false)) (find-fits (length bs) (λ p. false) (λ q x. let z : _≡_ {A = ℕ} 0 1 = cc in absurd (omega arith))))
     where
       go : (f : Found) → FoundFits (length bs) (λ p. false) f → Stays u v (wrote bs) (inserted u v bs f)
-      go (nowhere a) o = refusal (wrote bs) a (λ x. omega arith) (λ x. omega arith) (λ x. omega arith)
+      go (nowhere a) o = refusal (wrote bs) a (ap fine o)
       go (found q j a) o =
           let c = fill-changes (u .page q) j (Ordinary 0 (length bs)) (zeros (length bs)) a (o .3) bs in
           one-step (wrote bs) (idOf q j) (subst (λ (p : ℕ). p < u .pages) (sym (page-of q j (o .3 .small))) (o .0)) q j (Ordinary 0 (length bs)) bs
@@ -392,7 +397,7 @@ module _ (u : SegView) (v : List ℕ) (seen : Seen u v) where
   unfolding erasePlan
   erase-stays i =
       by-sound-root (Stays u v (noRead 5)) u i (refuse v) (eraseBy u v i) (sound-test r (seen .sounds (pageNo i)))
-      (λ e. refusal (noRead 5) NOPAGE (λ x. omega arith) (λ x. omega arith) (λ x. omega arith)) (λ l. go l (r .at (slotNo i)) refl)
+      (λ e. refusal (noRead 5) NOPAGE refl) (λ l. go l (r .at (slotNo i)) refl)
     where
       r : View
       r = u .page (pageNo i)
@@ -402,7 +407,7 @@ module _ (u : SegView) (v : List ℕ) (seen : Seen u v) where
           one-step (noRead 5) i l (pageNo i) (slotNo i) Free [] (erase r (slotNo i)) l
           (erase-changes r (seen .sounds (pageNo i)) (slotNo i) (counted r (seen .sounds (pageNo i)) (slotNo i) (ap isFree e)) (ap isFree e)) i (id-of i)
           (pairs-one (u .pages) (tagOn u) (bytesOn u) (seen .pairs) i Free [] (noRead 5) (subst Plain (sym (ap tag e)) tt) tt refl)
-      go l Free e = refusal (noRead 5) 5 (λ x. omega arith) (λ x. omega arith) (λ x. omega arith)
+      go l Free e = refusal (noRead 5) 5 refl
       go l (Redirect t) e =
           by-test (Stays u v (noRead 5)) (not (pointsBack u i t)) (refuse v 4)
           (done i (on (pageNo i) (erase r (slotNo i)) ∷ on (pageNo t) (erase (u .page (pageNo t)) (slotNo t)) ∷ [])
@@ -414,7 +419,7 @@ module _ (u : SegView) (v : List ℕ) (seen : Seen u v) where
           (erase-changes r (seen .sounds (pageNo i)) (slotNo i) (root-counted i t l e) (root-taken i t l e)) i (id-of i)
           (pageNo t) (slotNo t) Free [] (erase (u .page (pageNo t)) (slotNo t)) (partner i t l e .0) (target-erased i t l e) (partner i t l e .1) t (id-of t)
           (pairs-home (u .pages) (tagOn u) (bytesOn u) (seen .pairs) i t l (ap tag e) Free [] (noRead 5) tt refl))
-      go l (Target o k) e = refusal (noRead 5) 6 (λ x. omega arith) (λ x. omega arith) (λ x. omega arith)
+      go l (Target o k) e = refusal (noRead 5) 6 refl
 
   -- ---- write and resize
 
@@ -434,7 +439,7 @@ module _ (u : SegView) (v : List ℕ) (seen : Seen u v) where
 
       forwarded-stays : Plain (tagOn u i) → (old : List ℕ) (f : Found) → FoundFits (size + 8) (λ p. eqb p (pageNo i)) f
           → Stays u v (wrote (new old)) (forwarded u v i size new old f)
-      forwarded-stays plain old (nowhere a) o = refusal (wrote (new old)) a (λ x. omega arith) (λ x. omega arith) (λ x. omega arith)
+      forwarded-stays plain old (nowhere a) o = refusal (wrote (new old)) a (ap fine o)
       forwarded-stays plain old (found q j a) o =
           let n : q ≢ pageNo i = eqb-false q (pageNo i) (o .1) in
           let h = o .3 .small in
@@ -464,7 +469,7 @@ module _ (u : SegView) (v : List ℕ) (seen : Seen u v) where
       module _ (t : ℕ) (here : slotOn u i ≡ Redirect t) where
         again-stays : (old : List ℕ) (f : Found) → FoundFits (size + 8) (λ p. eqb p (pageNo i) || eqb p (pageNo t)) f
             → Stays u v (wrote (new old)) (forwardedAgain u v i size new t old f)
-        again-stays old (nowhere a) o = refusal (wrote (new old)) a (λ x. omega arith) (λ x. omega arith) (λ x. omega arith)
+        again-stays old (nowhere a) o = refusal (wrote (new old)) a (ap fine o)
         again-stays old (found q j a) o =
             let n = or-false (eqb q (pageNo i)) (eqb q (pageNo t)) (o .1) in
             let ni : q ≢ pageNo i = eqb-false q (pageNo i) (n .0) in
@@ -523,9 +528,9 @@ module _ (u : SegView) (v : List ℕ) (seen : Seen u v) where
   unfolding storePlan
   store-stays i size new =
       by-test (Stays u v (wrote (new (oldBytes u i)))) (ltb 16364 size) (refuse v LONG) _
-      (λ d. refusal (wrote (new (oldBytes u i))) LONG (λ x. omega arith) (λ x. omega arith) (λ x. omega arith))
+      (λ d. refusal (wrote (new (oldBytes u i))) LONG refl)
       (λ d. by-sound-root (Stays u v (wrote (new (oldBytes u i)))) u i (refuse v) (storeBy foundIn u v i size new) (sound-test r (seen .sounds (pageNo i)))
-      (λ e. refusal (wrote (new (oldBytes u i))) NOPAGE (λ x. omega arith) (λ x. omega arith) (λ x. omega arith))
+      (λ e. refusal (wrote (new (oldBytes u i))) NOPAGE refl)
       (λ l. go l (r .at (slotNo i)) refl))
     where
       r : View
@@ -538,7 +543,7 @@ module _ (u : SegView) (v : List ℕ) (seen : Seen u v) where
           subst (λ (z : List ℕ). Stays u v (wrote (new z)) (storeBy foundIn u v i size new (Ordinary o k))) (sym b)
           (ordinary-stays i size new l y o k e (r .bytes (slotNo i)) (relocate r (slotNo i) size)
           (relocate-changes r (seen .sounds (pageNo i)) (slotNo i) (inside i size new l y) y size))
-      go l Free e = refusal (wrote (new (oldBytes u i))) 5 (λ x. omega arith) (λ x. omega arith) (λ x. omega arith)
+      go l Free e = refusal (wrote (new (oldBytes u i))) 5 refl
       go l (Redirect t) e =
           by-test (Stays u v (wrote (new (oldBytes u i)))) (not (pointsBack u i t)) (refuse v 4) (fromRedirect foundIn u v i size new t)
           (λ f. let y : not (pointsBack u i t) ≡ false = ap not (points-back i t l e) in let z : _≡_ {A = ℕ} 0 1 = cc in absurd (omega arith))
@@ -548,4 +553,4 @@ module _ (u : SegView) (v : List ℕ) (seen : Seen u v) where
           subst (λ (z : List ℕ). Stays u v (wrote (new z)) (fromRedirect foundIn u v i size new t)) (sym b)
           (home-stays i size new l y t e (drop 8 (u .page (pageNo t) .bytes (slotNo t))) (relocate r (slotNo i) size)
           (relocate-changes r (seen .sounds (pageNo i)) (slotNo i) (inside i size new l y) y size)))
-      go l (Target o k) e = refusal (wrote (new (oldBytes u i))) 6 (λ x. omega arith) (λ x. omega arith) (λ x. omega arith)
+      go l (Target o k) e = refusal (wrote (new (oldBytes u i))) 6 refl
