@@ -87,6 +87,18 @@ tag-root Free = (λ r. r, λ r. r)
 tag-root (Redirect t) = (λ r. r, λ r. r)
 tag-root (Target o l) = (λ r. r, λ r. r)
 
+pub root-looks : (B : ℕ → List ℕ) (i : ℕ) (x : Slot) → Root x → look B i x .answer ≡ 0
+root-looks B i (Ordinary o l) r = refl
+root-looks B i Free r = absurd r
+root-looks B i (Redirect t) r = refl
+root-looks B i (Target o l) r = absurd r
+
+pub look-whole : (B : ℕ → List ℕ) (i : ℕ) (x : Slot) → look B i x .answer ≢ 4
+look-whole B i (Ordinary o l) = λ e. omega arith
+look-whole B i Free = λ e. omega arith
+look-whole B i (Redirect t) = λ e. omega arith
+look-whole B i (Target o l) = λ e. omega arith
+
 -- an id that reads 0 and is not a target's own is a root's
 pub look-root : (B : ℕ → List ℕ) (i : ℕ) (x : Slot) → isTarget x ≡ false → look B i x .answer ≡ 0 → Root x
 look-root B i (Ordinary o l) f e = tt

@@ -1,17 +1,17 @@
 -- What is seen of a slot, as bytes of the segment; and what a read or a scan's step answers so.
-use Prim.Native.Nat.{ℕ, zero, suc, _+_, _-_, _*_, _≤_, _<_}
+use Prim.Native.Nat.{ℕ, _+_, _-_, _*_, _≤_, _<_}
 use mathlib.Core.Path.{_≡_, refl, sym, ap, subst, _∙_}
 use mathlib.Core.Bool.{true, cond}
 use mathlib.Core.List.{List}
 use native.Mathlib.Omega.{arith}
 use lib.ListN.{drop}
-use lib.Dec.{eqb, ltb}
+use lib.Dec.{eqb}
 use Rattle.store.specs.Numbers.{cut, pageNo, slotNo}
 use Rattle.store.specs.Slots.{off, len, isTarget}
 use Rattle.store.specs.Page.{View, view, fresh, liesWell, sound}
 use Rattle.store.specs.PageSteps.{initialised}
 use Rattle.store.specs.Segment.{segView, pageOf, pointsBack, Read, noRead, readBy, noPart, partOn, held, partBy}
-use Rattle.store.specs.Scan.{Scanned, without, overPage, recordAt, nextRecord, damagedAt, scanFrom}
+use Rattle.store.specs.Scan.{Scanned, recordAt}
 use Rattle.store.specs.Laws.Numbers.{cut-cut, cut-drop}
 use Rattle.store.specs.Laws.SoundPage.{in-page}
 use Rattle.store.specs.Laws.Segments.{length-page}
@@ -83,7 +83,7 @@ module _ (s : List ℕ) where
   abbrev pub Shown : Scanned → Type 0
   Shown d = held s (d .part) ≡ d .bytes
 
-  record-part : (p k : ℕ) → liesWell (segView s .page p) k ≡ true → Shown (recordAt (segView s .page p) p k)
+  pub record-part : (p k : ℕ) → liesWell (segView s .page p) k ≡ true → Shown (recordAt (segView s .page p) p k)
   record-part p k g = go (segView s .page p .at k) refl (in-page (segView s .page p) k g)
     where
       go : (x : Slot) → segView s .page p .at k ≡ x → off (segView s .page p .at k) + len (segView s .page p .at k) ≤ 16384
@@ -92,23 +92,3 @@ module _ (s : List ℕ) where
       go Free e h = rw e (sym (ap (λ (y : Slot). cut s (p * 16384 + off y) (len y)) e) ∙ seen-bytes s p k h)
       go (Redirect j) e h = rw e (sym (ap (λ (y : Slot). cut s (p * 16384 + off y) (len y)) e) ∙ seen-bytes s p k h)
       go (Target o l) e h = rw e (target-part s p k o l e (subst (λ (y : Slot). off y + len y ≤ 16384) e h))
-
-  pub from-part : (m p k : ℕ) → Shown (scanFrom m (segView s) p k)
-  from-part zero p k = refl
-  from-part (suc m) p k = go (from-part m (p + 1) 0)
-    where
-      v : View
-      v = segView s .page p
-
-      j : ℕ
-      j = nextRecord (v .slotCount - k) v k
-
-      go : Shown (scanFrom m (segView s) (p + 1) 0)
-          → Shown (cond (damagedAt v k) (without 4 overPage 0)
-          (cond (ltb j (v .slotCount)) (cond (liesWell v j) (recordAt v p j) (without 4 overPage 0)) (scanFrom m (segView s) (p + 1) 0)))
-      go ih =
-          by-test Shown (damagedAt v k) (without 4 overPage 0)
-          (cond (ltb j (v .slotCount)) (cond (liesWell v j) (recordAt v p j) (without 4 overPage 0))
-          (scanFrom m (segView s) (p + 1) 0)) (λ a. refl)
-          (λ a. by-test Shown (ltb j (v .slotCount)) (cond (liesWell v j) (recordAt v p j) (without 4 overPage 0)) (scanFrom m (segView s) (p + 1) 0)
-          (λ b. by-test Shown (liesWell v j) (recordAt v p j) (without 4 overPage 0) (λ g. record-part p j g) (λ g. refl)) (λ b. ih))

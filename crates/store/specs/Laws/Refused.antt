@@ -1,13 +1,14 @@
 -- For all bytes, damaged ones too: a plan that is refused has no step and the inventory as it was, its answer is one of 0 to 8, and one that is
 -- carried out has the id that it was lent.
 use Prim.Native.Nat.{ℕ, _+_, _≤_, _<_}
-use mathlib.Core.Path.{_≡_, refl}
+use mathlib.Core.Path.{_≡_, refl, ap}
 use mathlib.Core.Bool.{Bool, true, false, cond, not, _&&_, _||_}
 use mathlib.Core.List.{List, []}
 use mathlib.Core.Logic.{_≢_}
 use native.Mathlib.Omega.{arith}
 use lib.ListN.{length}
-use lib.Dec.{eqb, ltb}
+use lib.Dec.{eqb, ltb, leb}
+use borrow.Author.Tests.{leb-true}
 use Rattle.store.specs.Numbers.{pageNo, slotNo}
 use Rattle.store.specs.Page.{sound}
 use Rattle.store.specs.PageSteps.{Alloc, noRoom, got, allocate, Relocated, refused, moved, relocate}
@@ -18,6 +19,8 @@ use Rattle.store.specs.Segment.{found, taken, findOn, find, inserted, in
 use Rattle.store.specs.Segment.{atHome, storeBy, storePlan, eraseBy, erasePlan}
 use Rattle.store.specs.Calls.{Call, insert, allocate as allocateCall, write, resize, erase}
 use Rattle.store.specs.SoundSegment.{slotOn, Root}
+use Rattle.store.specs.Laws.Cases.{never}
+use Rattle.store.specs.Laws.SoundPage.{and-both}
 use Rattle.store.specs.Laws.Roots.{by-root}
 use Rattle.store.specs.Laws.Calls.{by-test}
 use Rattle.store.specs.Laws.Segments.{planned}
@@ -29,6 +32,10 @@ use Rattle.store.specs.declared.Slot.the-variants.{Ordinary, Free, Redir
 
 -- ---- what holds of every plan
 
+-- the numbers of the refusals
+abbrev pub refusalNo : ℕ → Bool
+refusalNo a = ltb 0 a && leb a 8
+
 -- P is of the id that is answered
 pub record RefusedOrDone (v : List ℕ) (P : ℕ → Type 0) (o : Out) : Type 0 where
   pub keeps : o .answer ≢ 0 → (o .steps ≡ []) × (o .inv ≡ v)
@@ -36,24 +43,24 @@ pub record RefusedOrDone (v : List ℕ) (P : ℕ → Type 0) (o : Out) : Type 0 
   pub id : o .answer ≡ 0 → P (o .id)
 
 module _ (v : List ℕ) (P : ℕ → Type 0) where
-  refusal : (a : ℕ) → 0 < a → a ≤ 8 → RefusedOrDone v P (refuse v a)
-  refusal a l h = record { keeps = λ n. (refl, refl); most = h; id = λ e. absurd (omega arith) }
+  refusal : (a : ℕ) → refusalNo a ≡ true → RefusedOrDone v P (refuse v a)
+  refusal a h = record { keeps = λ n. (refl, refl); most = leb-true a 8 (and-both (ltb 0 a) (leb a 8) h .1); id = λ e. never h (ap refusalNo e) }
 
   is-done : (i : ℕ) (es : List OnPage) (w : List ℕ) → P i → RefusedOrDone v P (done i es w)
   is-done i es w p = record { keeps = λ n. absurd (n refl); most = omega arith; id = λ e. p }
 
-  refuse-if : (b : Bool) (a : ℕ) (o : Out) → 0 < a → a ≤ 8 → RefusedOrDone v P o → RefusedOrDone v P (refuseIf b v a o)
-  refuse-if true a o l h k = refusal a l h
-  refuse-if false a o l h k = k
+  refuse-if : (b : Bool) (a : ℕ) (o : Out) → refusalNo a ≡ true → RefusedOrDone v P o → RefusedOrDone v P (refuseIf b v a o)
+  refuse-if true a o h k = refusal a h
+  refuse-if false a o h k = k
 
 -- ---- a place
 
 abbrev NumberMost : Found → Type 0
-NumberMost (nowhere a) = (0 < a) × (a ≤ 8)
+NumberMost (nowhere a) = refusalNo a ≡ true
 NumberMost (found p k a) = Unit {0}
 
 taken-most : (p : ℕ) (a : Alloc) → NumberMost (taken p a)
-taken-most p noRoom = (omega arith, omega arith)
+taken-most p noRoom = refl
 taken-most p (got k a) = tt
 
 find-most : (u : SegView) (v : List ℕ) (m : ℕ) (ex : ℕ → Bool) → NumberMost (find foundIn u v m ex)
@@ -61,11 +68,11 @@ unfolding find
 find-most u v m ex = go (foundIn v (u .pages) (m + 8))
   where
     go : (n : Named) → NumberMost (findOn u m ex n)
-    go Full = (omega arith, omega arith)
+    go Full = refl
     go (At p) =
         by-test NumberMost (not (sound (u .page p))) (nowhere 4) (cond (ex p) (nowhere 8) (taken p (allocate (u .page p) m)))
-        (λ e. (omega arith, omega arith))
-        (λ e. by-test NumberMost (ex p) (nowhere 8) (taken p (allocate (u .page p) m)) (λ x. (omega arith, omega arith))
+        (λ e. refl)
+        (λ e. by-test NumberMost (ex p) (nowhere 8) (taken p (allocate (u .page p) m)) (λ x. refl)
         (λ x. taken-most p (allocate (u .page p) m)))
 
 -- ---- the plans
@@ -76,18 +83,18 @@ OwnRoot u i x j = (j ≡ i) × (pageNo i < u .pages) × Root x
 
 module _ (u : SegView) (v : List ℕ) where
   inserted-keeps : (bs : List ℕ) (f : Found) → NumberMost f → RefusedOrDone v (λ j. Unit {0}) (inserted u v bs f)
-  inserted-keeps bs (nowhere a) h = refusal v _ a (h .0) (h .1)
+  inserted-keeps bs (nowhere a) h = refusal v _ a h
   inserted-keeps bs (found p k a) h = is-done v _ _ _ _ tt
 
   insert-plan : (bs : List ℕ) → RefusedOrDone v (λ j. Unit {0}) (insertPlan foundIn u v bs)
   unfolding insertPlan
-  insert-plan bs = refuse-if v _ (ltb 16364 (length bs)) LONG _ (omega arith) (omega arith)
+  insert-plan bs = refuse-if v _ (ltb 16364 (length bs)) LONG _ refl
       (inserted-keeps bs (find foundIn u v (length bs) (λ p. false)) (find-most u v (length bs) (λ p. false)))
 
   module _ (i size : ℕ) (new : List ℕ → List ℕ) where
     module _ (P : ℕ → Type 0) (own : P i) where
       forwarded-keeps : (old : List ℕ) (f : Found) → NumberMost f → RefusedOrDone v P (forwarded u v i size new old f)
-      forwarded-keeps old (nowhere a) h = refusal v P a (h .0) (h .1)
+      forwarded-keeps old (nowhere a) h = refusal v P a h
       forwarded-keeps old (found q j a) h = is-done v P _ _ _ own
 
       ordinary-keeps : (old : List ℕ) (r : Relocated) → RefusedOrDone v P (fromOrdinary foundIn u v i size new old r)
@@ -96,7 +103,7 @@ module _ (u : SegView) (v : List ℕ) where
           forwarded-keeps old (find foundIn u v (size + 8) ex) (find-most u v (size + 8) ex)
 
       again-keeps : (t : ℕ) (old : List ℕ) (f : Found) → NumberMost f → RefusedOrDone v P (forwardedAgain u v i size new t old f)
-      again-keeps t old (nowhere a) h = refusal v P a (h .0) (h .1)
+      again-keeps t old (nowhere a) h = refusal v P a h
       again-keeps t old (found q j a) h = is-done v P _ _ _ own
 
       target-keeps : (t : ℕ) (old : List ℕ) (r : Relocated) → RefusedOrDone v P (atTarget foundIn u v i size new t old r)
@@ -110,30 +117,30 @@ module _ (u : SegView) (v : List ℕ) where
 
     by-slot : pageNo i < u .pages → (x : Slot) → RefusedOrDone v (OwnRoot u i x) (storeBy foundIn u v i size new x)
     by-slot l (Ordinary o k) = ordinary-keeps _ (refl, l, tt) _ (relocate (u .page (pageNo i)) (slotNo i) size)
-    by-slot l Free = refusal v _ NONE (omega arith) (omega arith)
+    by-slot l Free = refusal v _ NONE refl
     by-slot l (Redirect t) =
-        refuse-if v _ (not (pointsBack u i t)) DAMAGED _ (omega arith) (omega arith)
+        refuse-if v _ (not (pointsBack u i t)) DAMAGED _ refl
         (home-keeps _ (refl, l, tt) t _ (relocate (u .page (pageNo i)) (slotNo i) size))
-    by-slot l (Target o k) = refusal v _ FORWARDED (omega arith) (omega arith)
+    by-slot l (Target o k) = refusal v _ FORWARDED refl
 
     store-plan : RefusedOrDone v (OwnRoot u i (slotOn u i)) (storePlan foundIn u v i size new)
     unfolding storePlan
     store-plan =
-        refuse-if v _ (ltb 16364 size) LONG _ (omega arith) (omega arith)
+        refuse-if v _ (ltb 16364 size) LONG _ refl
         (by-root (RefusedOrDone v (OwnRoot u i (slotOn u i))) u i (refuse v) (storeBy foundIn u v i size new)
-        (λ e. refusal v _ NOPAGE (omega arith) (omega arith)) (λ e f. refusal v _ DAMAGED (omega arith) (omega arith)) (λ e f. by-slot e (slotOn u i)))
+        (λ e. refusal v _ NOPAGE refl) (λ e f. refusal v _ DAMAGED refl) (λ e f. by-slot e (slotOn u i)))
 
   erase-by : (i : ℕ) → pageNo i < u .pages → (x : Slot) → RefusedOrDone v (OwnRoot u i x) (eraseBy u v i x)
   erase-by i l (Ordinary o k) = is-done v _ _ _ _ (refl, l, tt)
-  erase-by i l Free = refusal v _ NONE (omega arith) (omega arith)
-  erase-by i l (Redirect t) = refuse-if v _ (not (pointsBack u i t)) DAMAGED _ (omega arith) (omega arith) (is-done v _ _ _ _ (refl, l, tt))
-  erase-by i l (Target o k) = refusal v _ FORWARDED (omega arith) (omega arith)
+  erase-by i l Free = refusal v _ NONE refl
+  erase-by i l (Redirect t) = refuse-if v _ (not (pointsBack u i t)) DAMAGED _ refl (is-done v _ _ _ _ (refl, l, tt))
+  erase-by i l (Target o k) = refusal v _ FORWARDED refl
 
   erase-plan : (i : ℕ) → RefusedOrDone v (OwnRoot u i (slotOn u i)) (erasePlan u v i)
   unfolding erasePlan
   erase-plan i =
-      by-root (RefusedOrDone v (OwnRoot u i (slotOn u i))) u i (refuse v) (eraseBy u v i) (λ e. refusal v _ NOPAGE (omega arith) (omega arith))
-      (λ e f. refusal v _ DAMAGED (omega arith) (omega arith)) (λ e f. erase-by i e (slotOn u i))
+      by-root (RefusedOrDone v (OwnRoot u i (slotOn u i))) u i (refuse v) (eraseBy u v i) (λ e. refusal v _ NOPAGE refl)
+      (λ e f. refusal v _ DAMAGED refl) (λ e f. erase-by i e (slotOn u i))
 
 -- what is known of the id that a call answers
 abbrev pub AnswersId : SegView → Call → ℕ → Type 0
@@ -145,7 +152,7 @@ AnswersId u (erase i) j = OwnRoot u i (slotOn u i) j
 
 call-plan : (u : SegView) (v : List ℕ) (c : Call) → RefusedOrDone v (AnswersId u c) (planOf c v u)
 call-plan u v (insert bs) = insert-plan u v bs
-call-plan u v (allocateCall n) = refuse-if v _ (ltb 16364 n) LONG _ (omega arith) (omega arith) (insert-plan u v _)
+call-plan u v (allocateCall n) = refuse-if v _ (ltb 16364 n) LONG _ refl (insert-plan u v _)
 call-plan u v (write i bs) = store-plan u v i _ _
 call-plan u v (resize i n) = store-plan u v i _ _
 call-plan u v (erase i) = erase-plan u v i
@@ -154,4 +161,4 @@ call-plan u v (erase i) = erase-plan u v i
 
 module _ (c : Call) (s v : List ℕ) where
   pub tested : RefusedOrDone v (AnswersId (segView s) c) (planned (planOf c v) v s)
-  tested = refuse-if v _ (not (sizeOk s && invOk v)) SIZE _ (omega arith) (omega arith) (call-plan (segView s) v c)
+  tested = refuse-if v _ (not (sizeOk s && invOk v)) SIZE _ refl (call-plan (segView s) v c)

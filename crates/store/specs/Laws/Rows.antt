@@ -16,25 +16,31 @@ use Rattle.store.specs.Calls.{Call, called}
 use Rattle.store.specs.SoundSegment.{slotOn, bytesOn, Root, Rooted, SoundSegment}
 use Rattle.store.specs.Laws.Pairs.{tagOn, look, tag-root, look-root, row-root}
 use Rattle.store.specs.Laws.Stays.{Stays, points-back}
-use Rattle.store.specs.Laws.SoundSegment.{Seen, seen-sound, seen-pages, sized, stays-right, after-seen, page-count, Staying, rowOf, call-staying}
+use Rattle.store.specs.Laws.SoundSegment.{seen-sound, seen-pages, sized, stays-right, after-seen, page-count, Staying, rowOf, call-staying}
 use Rattle.store.specs.declared.Slot.{Slot}
 use Rattle.store.specs.declared.Slot.the-variants.{Ordinary, Free, Redirect, Target}
 
 -- ---- a read of a sound segment
 
 module _ (s v : List ℕ) (h : SoundSegment s v) where
-  pub read-look : (i : ℕ) → pageNo i < length s / 16384 → readStep s i ≡ look (bytesOn (segView s)) i (tagOn (segView s) i)
+  -- by its slot
+  pub read-by : (i : ℕ) → pageNo i < segView s .pages → readStep s i ≡ readBy (segView s) i (slotOn (segView s) i)
   unfolding readStep readPlan
-  read-look i l =
-      let e = seen-sound s v h in
-      let m : pageNo i < segView s .pages = subst (λ (n : ℕ). pageNo i < n) (sym (seen-pages s)) l in
-      rw (h .whole, root-entry (segView s) i m (sound-test (segView s .page (pageNo i)) (e .sounds (pageNo i)))) (go e m (slotOn (segView s) i) refl)
+  read-by i l = rw (h .whole, root-entry (segView s) i l (sound-test (segView s .page (pageNo i)) (seen-sound s v h .sounds (pageNo i))))
+
+  -- a redirect leads to its target
+  pub by-look : (i : ℕ) → pageNo i < segView s .pages → readBy (segView s) i (slotOn (segView s) i) ≡ look (bytesOn (segView s)) i (tagOn (segView s) i)
+  by-look i l = go (slotOn (segView s) i) refl
     where
-      go : Seen s v → pageNo i < segView s .pages → (x : Slot) → slotOn (segView s) i ≡ x → readBy (segView s) i x ≡ look (bytesOn (segView s)) i (tag x)
-      go e m (Ordinary o k) q = refl
-      go e m Free q = refl
-      go e m (Redirect t) q = rw (points-back (segView s) (e .sounds) (e .few) v (e .one) (e .pairs) (e .truth) i t m q)
-      go e m (Target o k) q = refl
+      go : (x : Slot) → slotOn (segView s) i ≡ x → readBy (segView s) i x ≡ look (bytesOn (segView s)) i (tag x)
+      go (Ordinary o k) q = refl
+      go Free q = refl
+      go (Redirect t) q =
+          rw (points-back (segView s) v (seen-sound s v h) i t l q)
+      go (Target o k) q = refl
+
+  pub read-look : (i : ℕ) → pageNo i < length s / 16384 → readStep s i ≡ look (bytesOn (segView s)) i (tagOn (segView s) i)
+  read-look i l = let m : pageNo i < segView s .pages = subst (λ (n : ℕ). pageNo i < n) (sym (seen-pages s)) l in read-by i m ∙ by-look i m
 
 -- ---- once over the plan
 

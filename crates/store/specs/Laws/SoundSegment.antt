@@ -1,35 +1,30 @@
 -- A sound segment stays sound under each plan, and from one no plan answers 4 or 8.
-use Prim.Native.Nat.{ℕ, zero, suc, _+_, _-_, _/_, _%_, _≤_, _<_}
+use Prim.Native.Nat.{ℕ, _/_, _%_, _≤_, _<_}
 use mathlib.Core.Path.{_≡_, refl, sym, ap, _∙_, subst}
-use mathlib.Core.Bool.{Bool, true, false, cond, not, _&&_}
+use mathlib.Core.Bool.{Bool, true, false, not, _&&_}
 use mathlib.Core.List.{List, [], _∷_}
-use mathlib.Core.Logic.{_≢_}
 use native.Mathlib.Omega.{arith}
 use native.Mathlib.Decide.{decLt}
 use lib.ListN.{length, length-take, length-drop}
 use lib.Dec.{eqb, ltb, leb}
 use borrow.Author.Tests.{leb-true, le-leb, eqb-true}
-use Rattle.store.specs.Numbers.{zeros, fit, pageNo, slotNo}
-use Rattle.store.specs.Page.{View, view, fresh, countFits, soundTests, passes, sound, liesWell}
+use Rattle.store.specs.Numbers.{zeros, fit}
+use Rattle.store.specs.Page.{View, view, fresh, countFits, soundTests, passes, sound}
 use Rattle.store.specs.PageSteps.{initialised, opened, plan}
 use Rattle.store.specs.Inventory.{Truth}
 use Rattle.store.specs.Inventory.{foundIn}
 use Rattle.store.specs.Segment.{SegView, segView, pageOf, sizeOk, Out, carried, refuse, insertPlan, Read, noRead}
-use Rattle.store.specs.Segment.{readBy, readPlan}
 use Rattle.store.specs.Laws.Cases.{or-in}
-use Rattle.store.specs.Laws.Roots.{by-sound-root}
 use Rattle.store.specs.Laws.Views.{Sound}
-use Rattle.store.specs.Laws.SoundPage.{and-both, sound-init, sound-opened, sound-test, good-in}
-use Rattle.store.specs.Scan.{Scanned, without, overPage, recordAt, nextRecord, damagedAt, scanFrom}
+use Rattle.store.specs.Laws.SoundPage.{and-both, sound-init, sound-opened, sound-test}
+use Rattle.store.specs.Scan.{damagedAt}
 use Rattle.store.specs.Laws.Segments.{AllExact, AllSound, length-page, settled, carried-seen, settled-sound}
 use Rattle.store.specs.Laws.Calls.{by-test}
 use Rattle.store.specs.Laws.Plans.{length-carried, planOf}
 use Rattle.store.specs.Calls.{Call, insert, allocate, write, resize, erase}
 use Rattle.store.specs.SoundSegment.{bytesOn, classes, SoundSegment}
 use Rattle.store.specs.Laws.Pairs.{Pairs, tagOn, paired-pairs, pairs-paired}
-use Rattle.store.specs.Laws.Stays.{Stays, wrote, oldBytes, refusal, insert-stays, store-stays, erase-stays, points-back}
-use Rattle.store.specs.declared.Slot.{Slot}
-use Rattle.store.specs.declared.Slot.the-variants.{Ordinary, Free, Redirect, Target}
+use Rattle.store.specs.Laws.Stays.{Stays, Seen, wrote, oldBytes, refusal, insert-stays, store-stays, erase-stays}
 
 -- ---- what a sound segment gives to the plans
 
@@ -41,13 +36,6 @@ page-past s p h w = nil (pageOf s p) (simp (length-take, length-drop) (omega ari
     nil [] e = refl
     nil (x ∷ l) e = absurd (omega arith)
 
-pub record Seen (s v : List ℕ) : Type 0 where
-  pub sounds : (p : ℕ) → Sound (segView s .page p)
-  pub few : segView s .pages ≤ 32527
-  pub one : length v ≡ 16384
-  pub pairs : Pairs (segView s .pages) (tagOn (segView s)) (bytesOn (segView s))
-  pub truth : Truth (classes (segView s)) (segView s .pages) v
-
 pub record Sized (s : List ℕ) : Type 0 where
   pub whole : length s % 16384 ≡ 0
   pub few : length s / 16384 ≤ 32527
@@ -57,7 +45,7 @@ sized s e =
     let b = and-both (eqb (length s % 16384) 0) (leb (length s / 16384) 32527) e in
     record { whole = eqb-true (length s % 16384) 0 (b .0); few = leb-true (length s / 16384) 32527 (b .1) }
 
-pub seen-sound : (s v : List ℕ) → SoundSegment s v → Seen s v
+pub seen-sound : (s v : List ℕ) → SoundSegment s v → Seen (segView s) v
 unfolding segView view
 seen-sound s v h =
     let z = sized s (h .whole) in
@@ -124,12 +112,12 @@ module _ (s v : List ℕ) (h : SoundSegment s v) (o : Out) (x : AllExact s (o .s
 
 -- a plan that stays, for every sound segment
 abbrev pub Staying : (SegView → Out) → (SegView → Read) → List ℕ → Type 0
-Staying plan w v = (s : List ℕ) → Seen s v → Stays (segView s) v (w (segView s)) (plan (segView s))
+Staying plan w v = (s : List ℕ) → Seen (segView s) v → Stays (segView s) v (w (segView s)) (plan (segView s))
 
 -- ---- the five writing calls
 
-insert-keeps : (s v bs : List ℕ) → Seen s v → Stays (segView s) v (wrote bs) (insertPlan foundIn (segView s) v bs)
-insert-keeps s v bs e = insert-stays (segView s) (e .sounds) (e .few) v (e .one) (e .pairs) (e .truth) bs
+insert-keeps : (s v bs : List ℕ) → Seen (segView s) v → Stays (segView s) v (wrote bs) (insertPlan foundIn (segView s) v bs)
+insert-keeps s v bs e = insert-stays (segView s) v e bs
 
 -- what the answer's id reads as, after a call that is carried out
 abbrev pub rowOf : Call → SegView → Read
@@ -143,54 +131,16 @@ pub call-staying : (c : Call) (v : List ℕ) → Staying (planOf c v) (rowOf c) 
 call-staying (insert bs) v z e = insert-keeps z v bs e
 call-staying (allocate n) v z e =
     by-test (Stays (segView z) v (wrote (zeros n))) (ltb 16364 n) (refuse v 3) (insertPlan foundIn (segView z) v _)
-    (λ f. refusal (segView z) (e .sounds) (e .few) v (e .one) (e .pairs) (e .truth) (wrote (zeros n)) 3 (λ x. omega arith) (λ x. omega arith)
-    (λ x. omega arith))
+    (λ f. refusal (segView z) v e (wrote (zeros n)) 3 refl)
     (λ f. insert-keeps z v _ e)
-call-staying (write i bs) v z e = store-stays (segView z) (e .sounds) (e .few) v (e .one) (e .pairs) (e .truth) i _ _
-call-staying (resize i n) v z e = store-stays (segView z) (e .sounds) (e .few) v (e .one) (e .pairs) (e .truth) i _ _
-call-staying (erase i) v z e = erase-stays (segView z) (e .sounds) (e .few) v (e .one) (e .pairs) (e .truth) i
+call-staying (write i bs) v z e = store-stays (segView z) v e i _ _
+call-staying (resize i n) v z e = store-stays (segView z) v e i _ _
+call-staying (erase i) v z e = erase-stays (segView z) v e i
 
--- ---- reads and scans
+-- ---- scans
 
 -- on a sound page no position is damaged
-undamaged : (w : View) → Sound w → (k : ℕ) → damagedAt w k ≡ false
+pub undamaged : (w : View) → Sound w → (k : ℕ) → damagedAt w k ≡ false
 undamaged w t k =
     by-test (λ (b : Bool). b ≡ false) (eqb k 0) (not (sound w)) (not (countFits w)) (λ e. ap not (sound-test w t))
     (λ e. ap not (le-leb (w .slotCount) 2046 (t .few)))
-
-module _ (s v : List ℕ) (h : SoundSegment s v) where
-  pub read-whole : (i : ℕ) → readPlan (segView s) i .answer ≢ 4
-  unfolding readPlan
-  read-whole i =
-      let e = seen-sound s v h in
-      let r : View = segView s .page (pageNo i) in
-      by-sound-root (λ (d : Read). d .answer ≢ 4) (segView s) i noRead (readBy (segView s) i) (sound-test r (e .sounds (pageNo i)))
-      (λ l x. omega arith) (λ l. go e l (r .at (slotNo i)) refl)
-    where
-      go : Seen s v → pageNo i < segView s .pages → (x : Slot) → segView s .page (pageNo i) .at (slotNo i) ≡ x → readBy (segView s) i x .answer ≢ 4
-      go e l (Ordinary o k) q = λ x. omega arith
-      go e l Free q = λ x. omega arith
-      go e l (Redirect t) q = rw (points-back (segView s) (e .sounds) (e .few) v (e .one) (e .pairs) (e .truth) i t l q) (λ x. omega arith)
-      go e l (Target o k) q = λ x. omega arith
-
-  pub scan-whole : (m p k : ℕ) → scanFrom m (segView s) p k .answer ≢ 4
-  scan-whole zero p k = λ x. omega arith
-  scan-whole (suc m) p k = go (scan-whole m (p + 1) 0)
-    where
-      w : View
-      w = segView s .page p
-
-      j : ℕ
-      j = nextRecord (w .slotCount - k) w k
-
-      record-whole : recordAt w p j .answer ≢ 4
-      record-whole = λ x. omega arith
-
-      go : scanFrom m (segView s) (p + 1) 0 .answer ≢ 4
-          → cond (damagedAt w k) (without 4 overPage 0)
-          (cond (ltb j (w .slotCount)) (cond (liesWell w j) (recordAt w p j) (without 4 overPage 0)) (scanFrom m (segView s) (p + 1) 0)) .answer ≢ 4
-      go ih =
-          let t = seen-sound s v h .sounds p in
-          rw (undamaged w t k, good-in w t j)
-          (by-test (λ (d : Scanned). d .answer ≢ 4) (ltb j (w .slotCount)) (recordAt w p j) (scanFrom m (segView s) (p + 1) 0)
-          (λ a. record-whole) (λ a. ih))

@@ -18,7 +18,7 @@ use Rattle.store.specs.Page.{View, sound}
 use Rattle.store.specs.PageSteps.{move, Plan, withSlot, Alloc, noRoom, got, eraseForRedirect, Relocated, refused, moved, relocate, filled, plan}
 use Rattle.store.specs.PageSteps.{allocate, erase}
 use Rattle.store.specs.Inventory.{classOf, entryFor, Truth, update, foundIn}
-use Rattle.store.specs.Refusals.{NOPAGE, LONG}
+use Rattle.store.specs.Refusals.{DONE, NOPAGE, LONG, DAMAGED, STALE}
 use Rattle.store.specs.Segment.{SegView, OnPage, on, Out, done, refuse, Found, nowhere, found, taken, findOn, needFor, find, inserted}
 use Rattle.store.specs.Segment.{insertPlan, pointsBack, targeted, forwarded, fromOrdinary, forwardedAgain, atTarget, atHome, fromRedirect}
 use Rattle.store.specs.Segment.{storeBy, storePlan, eraseBy, erasePlan, Read, noRead}
@@ -29,7 +29,7 @@ use Rattle.store.specs.Laws.Views.{Sound}
 use Rattle.store.specs.Laws.SoundPage.{sound-test}
 use Rattle.store.specs.Laws.Segments.{settledOn, settled}
 use Rattle.store.specs.Laws.Calls.{by-test, target-taken, named-tells}
-use Rattle.store.specs.Laws.Cases.{or-true, or-false}
+use Rattle.store.specs.Laws.Cases.{never, or-true, or-false}
 use Rattle.store.specs.Laws.OneSlot.{cost-most}
 use Rattle.store.specs.Laws.Changes.{Writes, Headed, Changes, retag, fill-changes, alloc-changes, AllocChanges, erase-changes, redirect-changes}
 use Rattle.store.specs.Laws.Changes.{entry-changes, Relocates, relocate-changes}
@@ -103,21 +103,33 @@ slot-of p k h = omega arith
 back-read : (i : ℕ) (xs : List ℕ) → i < 256 ^ 8 → be (take 8 (toBE 8 i ++ xs)) ≡ i
 back-read i xs h = be-toBE 8 h
 
-module _ (u : SegView) (sounds : (p : ℕ) → Sound (u .page p)) (few : u .pages ≤ 32527) (v : List ℕ) (one : length v ≡ 16384)
-    (pairs : Pairs (u .pages) (tagOn u) (bytesOn u)) (truth : Truth (classes u) (u .pages) v) where
-  pub refusal : (w : Read) (a : ℕ) → a ≢ 0 → a ≢ 4 → a ≢ 8 → Stays u v w (refuse v a)
-  refusal w a z f g = record {
+-- neither 0, nor one of the two refusals that a sound segment does not give
+abbrev pub fine : ℕ → Bool
+fine a = not (eqb a DONE || eqb a DAMAGED || eqb a STALE)
+
+-- what is known of what is seen of a sound segment, and of its inventory
+pub record Seen (u : SegView) (v : List ℕ) : Type 0 where
+  pub sounds : (p : ℕ) → Sound (u .page p)
+  pub few : u .pages ≤ 32527
+  pub one : length v ≡ 16384
+  pub pairs : Pairs (u .pages) (tagOn u) (bytesOn u)
+  pub truth : Truth (classes u) (u .pages) v
+
+module _ (u : SegView) (v : List ℕ) (seen : Seen u v) where
+  -- a refusal that a sound segment may give
+  pub refusal : (w : Read) (a : ℕ) → fine a ≡ true → Stays u v w (refuse v a)
+  refusal w a f = record {
     steps = tt;
-    pairs = pairs;
-    own = λ e. absurd (z e);
+    pairs = seen .pairs;
+    own = λ e. never f (ap fine e);
     others = λ j l n r. (refl, refl);
-    plain = λ e. absurd (z e);
+    plain = λ e. never f (ap fine e);
     rows = λ j l n. refl;
-    below = λ e. absurd (z e);
-    truth = truth;
+    below = λ e. never f (ap fine e);
+    truth = seen .truth;
     long = refl;
-    whole = f;
-    current = g;
+    whole = λ e. never f (ap fine e);
+    current = λ e. never f (ap fine e);
   }
 
   -- a plan that is carried out: steps that are right, an inventory that is true, and what they make of the ids
@@ -145,7 +157,7 @@ module _ (u : SegView) (sounds : (p : ℕ) → Sound (u .page p)) (few : u .page
     truth1 : Truth (classes (settledOn (on p a) u)) (u .pages) (update v (u .pages) p (a .after .freeSpace))
     truth1 =
         truth-by _ (classes (settledOn (on p a) u)) (u .pages) _ (sym (classes-step u p a below (c .used)))
-        (update-true (classes u) (u .pages) few v one (classes-bounded u) truth p (a .after .freeSpace) below)
+        (update-true (classes u) (u .pages) (seen .few) v (seen .one) (classes-bounded u) (seen .truth) p (a .after .freeSpace) below)
 
     one-step : Moves (u .pages) (tagOn u) (bytesOn u) (upd (tagOn u) d x) (upd (bytesOn u) d bs) i w
         → Stays u v w (done i (on p a ∷ []) (update v (u .pages) p (a .after .freeSpace)))
@@ -176,16 +188,16 @@ module _ (u : SegView) (sounds : (p : ℕ) → Sound (u .page p)) (few : u .page
       inv-two : (f : ℕ → ℕ) → f ≡ classes u → (w : List ℕ) → length w ≡ 16384 → Truth f (u .pages) w → (r s : ℕ)
           → Truth (upd (upd (classes u) p (classOf (16372 - r))) q (classOf (16372 - s))) (u .pages) (update (update w (u .pages) p r) (u .pages) q s)
       inv-two f e w o t r s =
-          update-true (upd (classes u) p (classOf (16372 - r))) (u .pages) few (update w (u .pages) p r) (length-update w (u .pages) p r ∙ o)
+          update-true (upd (classes u) p (classOf (16372 - r))) (u .pages) (seen .few) (update w (u .pages) p r) (length-update w (u .pages) p r ∙ o)
           (changed-bounded (classes u) p (16372 - r) (classes-bounded u))
-          (update-true (classes u) (u .pages) few w o (classes-bounded u) (truth-by f (classes u) (u .pages) w e t) p r below) q s below′
+          (update-true (classes u) (u .pages) (seen .few) w o (classes-bounded u) (truth-by f (classes u) (u .pages) w e t) p r below) q s below′
 
       two-steps : Moves (u .pages) (tagOn u) (bytesOn u) (upd (upd (tagOn u) d x) d′ y) (upd (upd (bytesOn u) d bs) d′ cs) i w
           → Stays u v w (done i (on p a ∷ on q b ∷ []) (update (update v (u .pages) p (a .after .freeSpace)) (u .pages) q (b .after .freeSpace)))
       two-steps h =
           carried-out w i at-id (on p a ∷ on q b ∷ []) _ steps2
           (truth-by _ (classes (settledOn (on q b) (settledOn (on p a) u))) (u .pages) _ (sym classes2)
-          (inv-two (classes u) refl v one truth (a .after .freeSpace) (b .after .freeSpace)))
+          (inv-two (classes u) refl v (seen .one) (seen .truth) (a .after .freeSpace) (b .after .freeSpace)))
           (length-update (update v (u .pages) p (a .after .freeSpace)) (u .pages) q (b .after .freeSpace)
           ∙ length-update v (u .pages) p (a .after .freeSpace))
           (moves-by (u .pages) (tagOn u) (bytesOn u) _ _ _ _ i w tags2 bytes2 h)
@@ -197,10 +209,11 @@ module _ (u : SegView) (sounds : (p : ℕ) → Sound (u .page p)) (few : u .page
           carried-out w i at-id (on p a ∷ on q b ∷ []) _ steps2
           (truth-by _ (classes (settledOn (on q b) (settledOn (on p a) u))) (u .pages) _
           (sym (classes2 ∙ changed-swap (classes u) p q (classOf (16372 - a .after .freeSpace)) (classOf (16372 - b .after .freeSpace)) n))
-          (update-true (upd (classes u) q (classOf (16372 - b .after .freeSpace))) (u .pages) few (update v (u .pages) q (b .after .freeSpace))
-          (length-update v (u .pages) q (b .after .freeSpace) ∙ one)
+          (update-true (upd (classes u) q (classOf (16372 - b .after .freeSpace))) (u .pages) (seen .few) (update v (u .pages) q (b .after .freeSpace))
+          (length-update v (u .pages) q (b .after .freeSpace) ∙ (seen .one))
           (changed-bounded (classes u) q (16372 - b .after .freeSpace) (classes-bounded u))
-          (update-true (classes u) (u .pages) few v one (classes-bounded u) truth q (b .after .freeSpace) below′) p (a .after .freeSpace) below))
+          (update-true (classes u) (u .pages) (seen .few) v (seen .one) (classes-bounded u)
+          (seen .truth) q (b .after .freeSpace) below′) p (a .after .freeSpace) below))
           (length-update (update v (u .pages) q (b .after .freeSpace)) (u .pages) p (a .after .freeSpace)
           ∙ length-update v (u .pages) q (b .after .freeSpace))
           (moves-by (u .pages) (tagOn u) (bytesOn u) _ _ _ _ i w tags2 bytes2 h)
@@ -230,10 +243,11 @@ module _ (u : SegView) (sounds : (p : ℕ) → Sound (u .page p)) (few : u .page
             bytes-step u2 r m z ds g last d″ is″ ∙ ap (λ (B : ℕ → List ℕ). upd B d″ ds) bytes2 in
             carried-out w i at-id (on p a ∷ on q b ∷ on r g ∷ []) _ (steps2 .0, (steps2 .1 .0, (step-ok (u2 .page r) m z ds g last, tt)))
             (truth-by _ (classes (settledOn (on r g) u2)) (u .pages) _ (sym cl)
-            (update-true (upd (classes u) q (classOf (16372 - b .after .freeSpace))) (u .pages) few
-            (update v (u .pages) q (b .after .freeSpace)) (length-update v (u .pages) q (b .after .freeSpace) ∙ one)
+            (update-true (upd (classes u) q (classOf (16372 - b .after .freeSpace))) (u .pages) (seen .few)
+            (update v (u .pages) q (b .after .freeSpace)) (length-update v (u .pages) q (b .after .freeSpace) ∙ (seen .one))
             (changed-bounded (classes u) q (16372 - b .after .freeSpace) (classes-bounded u))
-            (update-true (classes u) (u .pages) few v one (classes-bounded u) truth q (b .after .freeSpace) below′) r (g .after .freeSpace) below″))
+            (update-true (classes u) (u .pages) (seen .few) v (seen .one) (classes-bounded u)
+            (seen .truth) q (b .after .freeSpace) below′) r (g .after .freeSpace) below″))
             (length-update (update v (u .pages) q (b .after .freeSpace)) (u .pages) r (g .after .freeSpace)
             ∙ length-update v (u .pages) q (b .after .freeSpace))
             (moves-by (u .pages) (tagOn u) (bytesOn u) _ _ _ _ i w tg bt h)
@@ -254,7 +268,7 @@ module _ (u : SegView) (sounds : (p : ℕ) → Sound (u .page p)) (few : u .page
       go : Dec (u .page p .slotCount ≡ 0) → Dec (need < u .page p .freeSpace)
           → (need ≤ u .page p .freeSpace) × (0 < u .page p .slotCount → need < u .page p .freeSpace)
       go (yes e) d =
-          let t : u .page p .freeSpace + 8 * 0 + sum 0 (λ j. len (u .page p .at j)) ≡ 16372 = rw e at (sounds p .sums) in
+          let t : u .page p .freeSpace + 8 * 0 + sum 0 (λ j. len (u .page p .at j)) ≡ 16372 = rw e at (seen .sounds p .sums) in
           (omega arith, λ q. absurd (omega arith))
       go (no e) (yes d) = (omega arith, λ q. d)
       go (no e) (no d) =
@@ -268,7 +282,7 @@ module _ (u : SegView) (sounds : (p : ℕ) → Sound (u .page p)) (few : u .page
       go Full e = tt
       go (At p) e =
           let n = named-tells v (u .pages) need p e in
-          let low = truth .entries (entryFor need) (omega (arith, class-top (16372 - need), class-low (16372 - need))) in
+          let low = (seen .truth) .entries (entryFor need) (omega (arith, class-top (16372 - need), class-low (16372 - need))) in
           let y = roomy-page p need (n .most) (n .below) (subst (λ (q : ℕ). classes u q ≤ entryFor need) (n .entry)
           (low .here (subst (λ (q : ℕ). q < u .pages) (sym (n .entry)) (n .below)))) in
           (n .below, y .0, y .1)
@@ -283,7 +297,7 @@ module _ (u : SegView) (sounds : (p : ℕ) → Sound (u .page p)) (few : u .page
   unfolding find
   find-fits m ex out = go (foundIn v (u .pages) (needFor m)) (named-roomy (needFor m))
     where
-      placed-in : (p : ℕ) → p < u .pages → ex p ≡ false → needFor m ≤ u .page p .freeSpace → (a : Alloc) → AllocChanges (u .page p) (sounds p) m a
+      placed-in : (p : ℕ) → p < u .pages → ex p ≡ false → needFor m ≤ u .page p .freeSpace → (a : Alloc) → AllocChanges (u .page p) (seen .sounds p) m a
           → FoundFits m ex (taken p a)
       placed-in p l x r noRoom h = absurd (omega (arith, cost-most (u .page p) m .0))
       placed-in p l x r (got k a) h = (l, x, h .0, h .1, h .2)
@@ -292,11 +306,11 @@ module _ (u : SegView) (sounds : (p : ℕ) → Sound (u .page p)) (few : u .page
       go Full h = refl
       go (At p) h =
           by-test (FoundFits m ex) (not (sound (u .page p))) (nowhere 4) (cond (ex p) (nowhere 8) (taken p (allocate (u .page p) m)))
-          (λ e. let y = sound-test (u .page p) (sounds p) in let f : not (sound (u .page p)) ≡ false = ap not y in let z : _≡_ {A = ℕ} 0 1 = cc in
+          (λ e. let y = sound-test (u .page p) (seen .sounds p) in let f : not (sound (u .page p)) ≡ false = ap not y in let z : _≡_ {A = ℕ} 0 1 = cc in
           absurd (omega arith))
           (λ e. by-test (FoundFits m ex) (ex p) (nowhere 8) (taken p (allocate (u .page p) m))
           (λ x. absurd (omega (arith, out p x .1, h .2 (out p x .0))))
-          (λ x. placed-in p (h .0) x (h .1) (allocate (u .page p) m) (alloc-changes (u .page p) (sounds p) m)))
+          (λ x. placed-in p (h .0) x (h .1) (allocate (u .page p) m) (alloc-changes (u .page p) (seen .sounds p) m)))
 
   free-slot : (q j : ℕ) → j < 65536 → u .page q .at j ≡ Free → slotOn u (idOf q j) ≡ Free
   free-slot q j l e = (λ i. u .page (page-of q j l i) .at (slot-of q j l i)) ∙ e
@@ -310,16 +324,16 @@ module _ (u : SegView) (sounds : (p : ℕ) → Sound (u .page p)) (few : u .page
   unfolding insertPlan
   insert-stays bs =
       by-test (Stays u v (wrote bs)) (ltb 16364 (length bs)) (refuse v 3) (inserted u v bs (find foundIn u v (length bs) (λ p. false)))
-      (λ e. refusal (wrote bs) 3 (λ x. omega arith) (λ x. omega arith) (λ x. omega arith))
+      (λ e. refusal (wrote bs) 3 refl)
       (λ e. go (find foundIn u v (length bs) (λ p. false)) (find-fits (length bs) (λ p. false) (λ q x. let z : _≡_ {A = ℕ} 0 1 = cc in absurd (omega arith))))
     where
       go : (f : Found) → FoundFits (length bs) (λ p. false) f → Stays u v (wrote bs) (inserted u v bs f)
-      go (nowhere a) o = refusal (wrote bs) a (λ x. omega arith) (λ x. omega arith) (λ x. omega arith)
+      go (nowhere a) o = refusal (wrote bs) a (ap fine o)
       go (found q j a) o =
           let c = fill-changes (u .page q) j (Ordinary 0 (length bs)) (zeros (length bs)) a (o .3) bs in
           one-step (wrote bs) (idOf q j) (subst (λ (p : ℕ). p < u .pages) (sym (page-of q j (o .3 .small))) (o .0)) q j (Ordinary 0 (length bs)) bs
           (filled a j bs) (o .0) c (idOf q j) refl
-          (pairs-one (u .pages) (tagOn u) (bytesOn u) pairs (idOf q j) (Ordinary 0 (length bs)) bs (wrote bs)
+          (pairs-one (u .pages) (tagOn u) (bytesOn u) (seen .pairs) (idOf q j) (Ordinary 0 (length bs)) bs (wrote bs)
           (subst Plain (sym (free-tag q j (o .3 .small) (o .2))) tt) tt refl)
 
   -- an id that is handed out was free
@@ -338,7 +352,7 @@ module _ (u : SegView) (sounds : (p : ℕ) → Sound (u .page p)) (few : u .page
 
   module _ (i t : ℕ) (below : pageNo i < u .pages) (here : slotOn u i ≡ Redirect t) where
     partner : PairOk (u .pages) (tagOn u) (bytesOn u) i (Redirect t)
-    partner = subst (PairOk (u .pages) (tagOn u) (bytesOn u) i) (ap tag here) (pairs i below)
+    partner = subst (PairOk (u .pages) (tagOn u) (bytesOn u) i) (ap tag here) ((seen .pairs) i below)
 
     is-target : isTarget (slotOn u t) ≡ true
     is-target = sym (tag-target (slotOn u t)) ∙ partner .2
@@ -348,7 +362,7 @@ module _ (u : SegView) (sounds : (p : ℕ) → Sound (u .page p)) (few : u .page
         rw (
           lt-ltb (pageNo t) (u .pages) (partner .0),
           ne-eqb (pageNo t) (pageNo i) (partner .1),
-          sound-test (u .page (pageNo t)) (sounds (pageNo t)),
+          sound-test (u .page (pageNo t)) (seen .sounds (pageNo t)),
           is-target,
           eq-eqb (be (take 8 (u .page (pageNo t) .bytes (slotNo t)))) i (partner .3),
         )
@@ -357,16 +371,16 @@ module _ (u : SegView) (sounds : (p : ℕ) → Sound (u .page p)) (few : u .page
     target-used = target-taken (slotOn u t) is-target
 
     target-counted : slotNo t < u .page (pageNo t) .slotCount
-    target-counted = counted (u .page (pageNo t)) (sounds (pageNo t)) (slotNo t) target-used
+    target-counted = counted (u .page (pageNo t)) (seen .sounds (pageNo t)) (slotNo t) target-used
 
     root-taken : isFree (slotOn u i) ≡ false
     root-taken = ap isFree here
 
     root-counted : slotNo i < u .page (pageNo i) .slotCount
-    root-counted = counted (u .page (pageNo i)) (sounds (pageNo i)) (slotNo i) root-taken
+    root-counted = counted (u .page (pageNo i)) (seen .sounds (pageNo i)) (slotNo i) root-taken
 
     target-erased : Changes (u .page (pageNo t)) (slotNo t) Free [] (erase (u .page (pageNo t)) (slotNo t))
-    target-erased = erase-changes (u .page (pageNo t)) (sounds (pageNo t)) (slotNo t) target-counted target-used
+    target-erased = erase-changes (u .page (pageNo t)) (seen .sounds (pageNo t)) (slotNo t) target-counted target-used
 
     placed-target : (m : ℕ) → placed (slotOn u t) 0 m ≡ Target 0 m
     placed-target m = go (slotOn u t) is-target
@@ -382,8 +396,8 @@ module _ (u : SegView) (sounds : (p : ℕ) → Sound (u .page p)) (few : u .page
   pub erase-stays : (i : ℕ) → Stays u v (noRead 5) (erasePlan u v i)
   unfolding erasePlan
   erase-stays i =
-      by-sound-root (Stays u v (noRead 5)) u i (refuse v) (eraseBy u v i) (sound-test r (sounds (pageNo i)))
-      (λ e. refusal (noRead 5) NOPAGE (λ x. omega arith) (λ x. omega arith) (λ x. omega arith)) (λ l. go l (r .at (slotNo i)) refl)
+      by-sound-root (Stays u v (noRead 5)) u i (refuse v) (eraseBy u v i) (sound-test r (seen .sounds (pageNo i)))
+      (λ e. refusal (noRead 5) NOPAGE refl) (λ l. go l (r .at (slotNo i)) refl)
     where
       r : View
       r = u .page (pageNo i)
@@ -391,9 +405,9 @@ module _ (u : SegView) (sounds : (p : ℕ) → Sound (u .page p)) (few : u .page
       go : pageNo i < u .pages → (x : Slot) → r .at (slotNo i) ≡ x → Stays u v (noRead 5) (eraseBy u v i x)
       go l (Ordinary o k) e =
           one-step (noRead 5) i l (pageNo i) (slotNo i) Free [] (erase r (slotNo i)) l
-          (erase-changes r (sounds (pageNo i)) (slotNo i) (counted r (sounds (pageNo i)) (slotNo i) (ap isFree e)) (ap isFree e)) i (id-of i)
-          (pairs-one (u .pages) (tagOn u) (bytesOn u) pairs i Free [] (noRead 5) (subst Plain (sym (ap tag e)) tt) tt refl)
-      go l Free e = refusal (noRead 5) 5 (λ x. omega arith) (λ x. omega arith) (λ x. omega arith)
+          (erase-changes r (seen .sounds (pageNo i)) (slotNo i) (counted r (seen .sounds (pageNo i)) (slotNo i) (ap isFree e)) (ap isFree e)) i (id-of i)
+          (pairs-one (u .pages) (tagOn u) (bytesOn u) (seen .pairs) i Free [] (noRead 5) (subst Plain (sym (ap tag e)) tt) tt refl)
+      go l Free e = refusal (noRead 5) 5 refl
       go l (Redirect t) e =
           by-test (Stays u v (noRead 5)) (not (pointsBack u i t)) (refuse v 4)
           (done i (on (pageNo i) (erase r (slotNo i)) ∷ on (pageNo t) (erase (u .page (pageNo t)) (slotNo t)) ∷ [])
@@ -402,10 +416,10 @@ module _ (u : SegView) (sounds : (p : ℕ) → Sound (u .page p)) (few : u .page
           (λ f. let y : not (pointsBack u i t) ≡ false = ap not (points-back i t l e) in let z : _≡_ {A = ℕ} 0 1 = cc in absurd (omega arith))
           (λ f.
           two-swapped (noRead 5) i l (pageNo i) (slotNo i) Free [] (erase r (slotNo i)) l
-          (erase-changes r (sounds (pageNo i)) (slotNo i) (root-counted i t l e) (root-taken i t l e)) i (id-of i)
+          (erase-changes r (seen .sounds (pageNo i)) (slotNo i) (root-counted i t l e) (root-taken i t l e)) i (id-of i)
           (pageNo t) (slotNo t) Free [] (erase (u .page (pageNo t)) (slotNo t)) (partner i t l e .0) (target-erased i t l e) (partner i t l e .1) t (id-of t)
-          (pairs-home (u .pages) (tagOn u) (bytesOn u) pairs i t l (ap tag e) Free [] (noRead 5) tt refl))
-      go l (Target o k) e = refusal (noRead 5) 6 (λ x. omega arith) (λ x. omega arith) (λ x. omega arith)
+          (pairs-home (u .pages) (tagOn u) (bytesOn u) (seen .pairs) i t l (ap tag e) Free [] (noRead 5) tt refl))
+      go l (Target o k) e = refusal (noRead 5) 6 refl
 
   -- ---- write and resize
 
@@ -421,29 +435,29 @@ module _ (u : SegView) (sounds : (p : ℕ) → Sound (u .page p)) (few : u .page
 
     module _ (taken : isFree (slotOn u i) ≡ false) where
       inside : slotNo i < u .page (pageNo i) .slotCount
-      inside = counted (u .page (pageNo i)) (sounds (pageNo i)) (slotNo i) taken
+      inside = counted (u .page (pageNo i)) (seen .sounds (pageNo i)) (slotNo i) taken
 
       forwarded-stays : Plain (tagOn u i) → (old : List ℕ) (f : Found) → FoundFits (size + 8) (λ p. eqb p (pageNo i)) f
           → Stays u v (wrote (new old)) (forwarded u v i size new old f)
-      forwarded-stays plain old (nowhere a) o = refusal (wrote (new old)) a (λ x. omega arith) (λ x. omega arith) (λ x. omega arith)
+      forwarded-stays plain old (nowhere a) o = refusal (wrote (new old)) a (ap fine o)
       forwarded-stays plain old (found q j a) o =
           let n : q ≢ pageNo i = eqb-false q (pageNo i) (o .1) in
           let h = o .3 .small in
           two-steps (wrote (new old)) i below (pageNo i) (slotNo i) (Redirect (idOf q j)) [] (eraseForRedirect (u .page (pageNo i)) (slotNo i) (idOf q j)) below
-          (redirect-changes (u .page (pageNo i)) (sounds (pageNo i)) (slotNo i) inside taken (idOf q j)) i (id-of i)
+          (redirect-changes (u .page (pageNo i)) (seen .sounds (pageNo i)) (slotNo i) inside taken (idOf q j)) i (id-of i)
           q j (Target 0 (len (a .after .at j))) (toBE 8 i ++ new old) (targeted u v i size new j a old) (o .0)
           (target-new old q j a (size + 8) (o .3)) n (idOf q j) refl
-          (pairs-forward (u .pages) (tagOn u) (bytesOn u) pairs i (idOf q j) (len (a .after .at j)) (toBE 8 i ++ new old) below
+          (pairs-forward (u .pages) (tagOn u) (bytesOn u) (seen .pairs) i (idOf q j) (len (a .after .at j)) (toBE 8 i ++ new old) below
           (subst (λ (p : ℕ). p < u .pages) (sym (page-of q j h)) (o .0))
           (λ e. n (sym (page-of q j h) ∙ e)) plain (free-tag q j h (o .2)) (back-read i (new old) small-id))
 
       ordinary-stays : (o l : ℕ) → slotOn u i ≡ Ordinary o l → (old : List ℕ) (r : Relocated)
-          → Relocates (u .page (pageNo i)) (sounds (pageNo i)) (slotNo i) inside taken size r
+          → Relocates (u .page (pageNo i)) (seen .sounds (pageNo i)) (slotNo i) inside taken size r
           → Stays u v (wrote (new old)) (fromOrdinary foundIn u v i size new old r)
       ordinary-stays o l e old (moved a) m =
           one-step (wrote (new old)) i below (pageNo i) (slotNo i) (placed (slotOn u i) 0 size) (new old) (filled a (slotNo i) (new old)) below
           (m (new old)) i (id-of i)
-          (pairs-one (u .pages) (tagOn u) (bytesOn u) pairs i (placed (slotOn u i) 0 size) (new old) (wrote (new old))
+          (pairs-one (u .pages) (tagOn u) (bytesOn u) (seen .pairs) i (placed (slotOn u i) 0 size) (new old) (wrote (new old))
           (subst Plain (sym (ap tag e)) tt) (subst Plain (sym (ap (λ (x : Slot). placed x 0 size) e)) tt)
           (ap (λ (x : Slot). look (λ m. new old) i (placed x 0 size)) e))
       ordinary-stays o l e old refused m =
@@ -455,7 +469,7 @@ module _ (u : SegView) (sounds : (p : ℕ) → Sound (u .page p)) (few : u .page
       module _ (t : ℕ) (here : slotOn u i ≡ Redirect t) where
         again-stays : (old : List ℕ) (f : Found) → FoundFits (size + 8) (λ p. eqb p (pageNo i) || eqb p (pageNo t)) f
             → Stays u v (wrote (new old)) (forwardedAgain u v i size new t old f)
-        again-stays old (nowhere a) o = refusal (wrote (new old)) a (λ x. omega arith) (λ x. omega arith) (λ x. omega arith)
+        again-stays old (nowhere a) o = refusal (wrote (new old)) a (ap fine o)
         again-stays old (found q j a) o =
             let n = or-false (eqb q (pageNo i)) (eqb q (pageNo t)) (o .1) in
             let ni : q ≢ pageNo i = eqb-false q (pageNo i) (n .0) in
@@ -464,27 +478,27 @@ module _ (u : SegView) (sounds : (p : ℕ) → Sound (u .page p)) (few : u .page
             let r : View = u .page (pageNo i) in
             three-steps (wrote (new old)) i below (pageNo i) (slotNo i) (Redirect (idOf q j)) []
             (plan (move (slotNo i) (withSlot r (slotNo i) (Redirect (idOf q j)) []) ∷ []) (withSlot r (slotNo i) (Redirect (idOf q j)) [])) below
-            (entry-changes r (sounds (pageNo i)) (slotNo i) inside taken (Redirect (idOf q j)) []
+            (entry-changes r (seen .sounds (pageNo i)) (slotNo i) inside taken (Redirect (idOf q j)) []
             (move (slotNo i) (withSlot r (slotNo i) (Redirect (idOf q j)) []))) i (id-of i)
             (pageNo t) (slotNo t) Free [] (erase (u .page (pageNo t)) (slotNo t)) (partner i t below here .0) (target-erased i t below here)
             (partner i t below here .1) t (id-of t)
             (omega (arith, inside)) refl
             q j (Target 0 (len (a .after .at j))) (toBE 8 i ++ new old) (targeted u v i size new j a old) (o .0)
             (target-new old q j a (size + 8) (o .3)) ni nt (idOf q j) refl
-            (pairs-again (u .pages) (tagOn u) (bytesOn u) pairs i t below (ap tag here) (idOf q j) (len (a .after .at j)) (toBE 8 i ++ new old)
+            (pairs-again (u .pages) (tagOn u) (bytesOn u) (seen .pairs) i t below (ap tag here) (idOf q j) (len (a .after .at j)) (toBE 8 i ++ new old)
             (subst (λ (p : ℕ). p < u .pages) (sym (page-of q j h)) (o .0)) (λ e. ni (sym (page-of q j h) ∙ e))
             (λ e. nt (sym (page-of q j h) ∙ ap pageNo e)) (free-tag q j h (o .2))
             (back-read i (new old) small-id))
 
         at-target-stays : (old : List ℕ) → u .page (pageNo i) .freeSpace < size → (r : Relocated)
-            → Relocates (u .page (pageNo t)) (sounds (pageNo t)) (slotNo t) (target-counted i t below here) (target-used i t below here) (size + 8) r
+            → Relocates (u .page (pageNo t)) (seen .sounds (pageNo t)) (slotNo t) (target-counted i t below here) (target-used i t below here) (size + 8) r
             → Stays u v (wrote (new old)) (atTarget foundIn u v i size new t old r)
         at-target-stays old short (moved a) m =
             let bs : List ℕ = toBE 8 i ++ new old in
             one-step (wrote (new old)) i below (pageNo t) (slotNo t) (Target 0 (size + 8)) bs (filled a (slotNo t) bs) (partner i t below here .0)
             (subst (λ (x : Slot). Changes (u .page (pageNo t)) (slotNo t) x bs (filled a (slotNo t) bs)) (placed-target i t below here (size + 8))
             (m bs)) t (id-of t)
-            (pairs-target (u .pages) (tagOn u) (bytesOn u) pairs i t below (ap tag here) (size + 8) bs (back-read i (new old) small-id))
+            (pairs-target (u .pages) (tagOn u) (bytesOn u) (seen .pairs) i t below (ap tag here) (size + 8) bs (back-read i (new old) small-id))
         at-target-stays old short refused m =
             again-stays old (find foundIn u v (size + 8) (λ p. eqb p (pageNo i) || eqb p (pageNo t)))
             (find-fits (size + 8) (λ p. eqb p (pageNo i) || eqb p (pageNo t))
@@ -496,27 +510,27 @@ module _ (u : SegView) (sounds : (p : ℕ) → Sound (u .page p)) (few : u .page
             (omega (arith, target-counted i t below here), omega arith))
             (or-true (eqb q (pageNo i)) (eqb q (pageNo t)) x)))
 
-        home-stays : (old : List ℕ) (r : Relocated) → Relocates (u .page (pageNo i)) (sounds (pageNo i)) (slotNo i) inside taken size r
+        home-stays : (old : List ℕ) (r : Relocated) → Relocates (u .page (pageNo i)) (seen .sounds (pageNo i)) (slotNo i) inside taken size r
             → Stays u v (wrote (new old)) (atHome foundIn u v i size new t old r)
         home-stays old (moved a) m =
             two-steps (wrote (new old)) i below (pageNo i) (slotNo i) (placed (slotOn u i) 0 size) (new old) (filled a (slotNo i) (new old)) below
             (m (new old)) i (id-of i)
             (pageNo t) (slotNo t) Free [] (erase (u .page (pageNo t)) (slotNo t)) (partner i t below here .0) (target-erased i t below here)
             (partner i t below here .1) t (id-of t)
-            (pairs-home (u .pages) (tagOn u) (bytesOn u) pairs i t below (ap tag here) (placed (slotOn u i) 0 size) (new old) (wrote (new old))
+            (pairs-home (u .pages) (tagOn u) (bytesOn u) (seen .pairs) i t below (ap tag here) (placed (slotOn u i) 0 size) (new old) (wrote (new old))
             (subst Plain (sym (ap (λ (x : Slot). placed x 0 size) here)) tt)
             (ap (λ (x : Slot). look (λ m. new old) i (placed x 0 size)) here))
         home-stays old refused m =
             at-target-stays old m (relocate (u .page (pageNo t)) (slotNo t) (size + 8))
-            (relocate-changes (u .page (pageNo t)) (sounds (pageNo t)) (slotNo t) (target-counted i t below here) (target-used i t below here) (size + 8))
+            (relocate-changes (u .page (pageNo t)) (seen .sounds (pageNo t)) (slotNo t) (target-counted i t below here) (target-used i t below here) (size + 8))
 
   pub store-stays : (i size : ℕ) (new : List ℕ → List ℕ) → Stays u v (wrote (new (oldBytes u i))) (storePlan foundIn u v i size new)
   unfolding storePlan
   store-stays i size new =
       by-test (Stays u v (wrote (new (oldBytes u i)))) (ltb 16364 size) (refuse v LONG) _
-      (λ d. refusal (wrote (new (oldBytes u i))) LONG (λ x. omega arith) (λ x. omega arith) (λ x. omega arith))
-      (λ d. by-sound-root (Stays u v (wrote (new (oldBytes u i)))) u i (refuse v) (storeBy foundIn u v i size new) (sound-test r (sounds (pageNo i)))
-      (λ e. refusal (wrote (new (oldBytes u i))) NOPAGE (λ x. omega arith) (λ x. omega arith) (λ x. omega arith))
+      (λ d. refusal (wrote (new (oldBytes u i))) LONG refl)
+      (λ d. by-sound-root (Stays u v (wrote (new (oldBytes u i)))) u i (refuse v) (storeBy foundIn u v i size new) (sound-test r (seen .sounds (pageNo i)))
+      (λ e. refusal (wrote (new (oldBytes u i))) NOPAGE refl)
       (λ l. go l (r .at (slotNo i)) refl))
     where
       r : View
@@ -528,8 +542,8 @@ module _ (u : SegView) (sounds : (p : ℕ) → Sound (u .page p)) (few : u .page
           let b : oldBytes u i ≡ r .bytes (slotNo i) = ap (λ (x : Slot). look (bytesOn u) i (tag x) .bytes) e in
           subst (λ (z : List ℕ). Stays u v (wrote (new z)) (storeBy foundIn u v i size new (Ordinary o k))) (sym b)
           (ordinary-stays i size new l y o k e (r .bytes (slotNo i)) (relocate r (slotNo i) size)
-          (relocate-changes r (sounds (pageNo i)) (slotNo i) (inside i size new l y) y size))
-      go l Free e = refusal (wrote (new (oldBytes u i))) 5 (λ x. omega arith) (λ x. omega arith) (λ x. omega arith)
+          (relocate-changes r (seen .sounds (pageNo i)) (slotNo i) (inside i size new l y) y size))
+      go l Free e = refusal (wrote (new (oldBytes u i))) 5 refl
       go l (Redirect t) e =
           by-test (Stays u v (wrote (new (oldBytes u i)))) (not (pointsBack u i t)) (refuse v 4) (fromRedirect foundIn u v i size new t)
           (λ f. let y : not (pointsBack u i t) ≡ false = ap not (points-back i t l e) in let z : _≡_ {A = ℕ} 0 1 = cc in absurd (omega arith))
@@ -538,5 +552,5 @@ module _ (u : SegView) (sounds : (p : ℕ) → Sound (u .page p)) (few : u .page
           let b : oldBytes u i ≡ drop 8 (u .page (pageNo t) .bytes (slotNo t)) = ap (λ (x : Slot). look (bytesOn u) i (tag x) .bytes) e in
           subst (λ (z : List ℕ). Stays u v (wrote (new z)) (fromRedirect foundIn u v i size new t)) (sym b)
           (home-stays i size new l y t e (drop 8 (u .page (pageNo t) .bytes (slotNo t))) (relocate r (slotNo i) size)
-          (relocate-changes r (sounds (pageNo i)) (slotNo i) (inside i size new l y) y size)))
-      go l (Target o k) e = refusal (wrote (new (oldBytes u i))) 6 (λ x. omega arith) (λ x. omega arith) (λ x. omega arith)
+          (relocate-changes r (seen .sounds (pageNo i)) (slotNo i) (inside i size new l y) y size)))
+      go l (Target o k) e = refusal (wrote (new (oldBytes u i))) 6 refl

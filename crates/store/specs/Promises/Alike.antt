@@ -48,16 +48,16 @@ call-alike c s t v h l =
     }
 
 -- reads, the places of what they read, and scans
-locate-same : (s t v : List ℕ) → AlikeByKind s t → (i : ℕ) → locateStep s i ≡ locateStep t i
+locate-same : (s t : List ℕ) → AlikeByKind s t → (i : ℕ) → locateStep s i ≡ locateStep t i
 unfolding locateStep
-locate-same s t v a i =
-    let r = read-same s t v a i in
+locate-same s t a i =
+    let r = read-same s t a i in
     λ x. record { answer = r x .answer; part = cond (eqb (r x .answer) 0) (partBy (a .seen x) i (a .seen x .page (pageNo i) .at (slotNo i))) noPart }
 
 pub read-alike : (s t v : List ℕ) → SoundSegment s v → Alike s t → AlikeToRead s t
 read-alike s t v h l =
     let a = alike-seen s t (sized s (h .whole)) l in
-    record { alike = l; reads = λ i. read-same s t v a i; places = λ i. locate-same s t v a i; scans = λ p k. scan-same s t v a p k }
+    record { alike = l; reads = λ i. read-same s t a i; places = λ i. locate-same s t a i; scans = λ p k. scan-same s t a p k }
 
 -- any sequence of calls, and every read and scan between them
 pub demand-3 : (cs : List Call) (s t v w : List ℕ) → SoundSegment s v → Alike s t → v ≡ w → AllSame AlikeToRead (results cs s v) (results cs t w)

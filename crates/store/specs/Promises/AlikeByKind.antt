@@ -31,7 +31,7 @@ same plan x s t v a =
 pub same-call : (c : Call) (s t v : List ℕ) → AlikeByKind s t → Same AlikeByKind (called c s v) (called c t v)
 same-call c s t v a = rw (called-plan c s v, called-plan c t v) (same (planOf c v) (call-exacting c v) s t v a)
 
-module _ (s t v : List ℕ) (alike : AlikeByKind s t) where
+module _ (s t : List ℕ) (alike : AlikeByKind s t) where
   -- reads and scans are equal outright
   pub read-same : (i : ℕ) → readStep s i ≡ readStep t i
   unfolding readStep

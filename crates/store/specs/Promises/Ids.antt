@@ -1,19 +1,29 @@
 -- Which id a call answers, and which ids are in use. An id is in use (`Rooted`) if its slot is ordinary or a redirect: a target's own id comes
 -- and goes with its target, and stands for nothing.
-use Prim.Native.Nat.{ℕ}
-use mathlib.Core.Path.{_≡_, refl, sym, _∙_, subst}
+use Prim.Native.Nat.{ℕ, _/_, _<_}
+use mathlib.Core.Path.{_≡_, refl, sym, ap, _∙_, subst}
 use mathlib.Core.List.{List, [], _∷_}
+use mathlib.Core.Bool.{true}
 use mathlib.Core.Logic.{_⊎_, inl, inr, _≢_}
-use Rattle.store.specs.Segment.{segView, Result, result}
+use native.Mathlib.Omega.{arith}
+use lib.ListN.{length}
+use Rattle.store.specs.Numbers.{pageNo}
+use Rattle.store.specs.Slots.{isTarget}
+use Rattle.store.specs.Refusals.{NONE}
+use Rattle.store.specs.Segment.{segView, Result, result, Read, noRead, readStep}
 use Rattle.store.specs.Calls.{Call, insert, allocate, write, resize, erase, called, results, Each, Makes, OfId}
-use Rattle.store.specs.SoundSegment.{slotOn, Root, Rooted, SoundSegment}
+use Rattle.store.specs.SoundSegment.{slotOn, bytesOn, Root, Rooted, SoundSegment}
+use Rattle.store.specs.Laws.Slots.{tag}
+use Rattle.store.specs.Laws.Pairs.{tagOn, look, tag-root, root-looks}
 use Rattle.store.specs.Laws.Plans.{called-plan}
 use Rattle.store.specs.Laws.Refused.{OwnRoot, AnswersId, tested}
 use Rattle.store.specs.Laws.SoundSegment.{seen-sound}
 use Rattle.store.specs.Laws.Unused.{plan-unused}
-use Rattle.store.specs.Laws.Rows.{call-rows}
+use Rattle.store.specs.Laws.Rows.{read-look, call-rows}
+use Rattle.store.specs.Promises.Refused.{length-kept}
 use Rattle.store.specs.Promises.Sound.{call-right}
-use Rattle.store.specs.declared.Slot.the-variants.{Free}
+use Rattle.store.specs.declared.Slot.{Slot}
+use Rattle.store.specs.declared.Slot.the-variants.{Ordinary, Free, Redirect, Target}
 
 -- a call makes a record, or is of an id
 which : (c : Call) → Makes c ⊎ ((i : ℕ) × OfId i c)
@@ -63,6 +73,31 @@ module _ (c : Call) (s v : List ℕ) where
         go : called c s v .answer ≡ 0 → Makes c ⊎ ((k : ℕ) × OfId k c) → j ≢ called c s v .id
         go a (inl m) = new m a
         go a (inr k) = λ e. let o = id-own (k .0) (k .1) a in n (subst (Rooted s) (sym (e ∙ o .0)) (o .1))
+
+-- what an id that is not in use reads as, on a page of the segment: 5, unless it is a target's own
+pub unused-reads : (s v : List ℕ) → SoundSegment s v → (j : ℕ) → pageNo j < length s / 16384 → (Rooted s j → ⊥)
+    → (readStep s j ≡ noRead NONE) ⊎ (isTarget (slotOn (segView s) j) ≡ true)
+unused-reads s v h j l n = go (slotOn (segView s) j) refl
+  where
+    go : (x : Slot) → slotOn (segView s) j ≡ x → (readStep s j ≡ noRead NONE) ⊎ (isTarget (slotOn (segView s) j) ≡ true)
+    go (Ordinary o k) e = absurd (n (record { below = l; root = subst Root (sym e) tt }))
+    go Free e = inl (read-look s v h j l ∙ ap (λ (x : Slot). look (bytesOn (segView s)) j (tag x)) e)
+    go (Redirect t) e = absurd (n (record { below = l; root = subst Root (sym e) tt }))
+    go (Target o k) e = inr (ap isTarget e)
+
+-- so an id that reads 5 and that the call does not hand out reads 5 afterwards, unless it has become a target's own
+pub none-stays : (c : Call) (s v : List ℕ) → SoundSegment s v → (j : ℕ) → pageNo j < length s / 16384 → readStep s j ≡ noRead NONE
+    → (Makes c → called c s v .answer ≡ 0 → j ≢ called c s v .id)
+    → (readStep (called c s v .seg) j ≡ noRead NONE) ⊎ (isTarget (slotOn (segView (called c s v .seg)) j) ≡ true)
+none-stays c s v h j l e new =
+    unused-reads (called c s v .seg) (called c s v .inv) (call-right c s v h .sound) j
+    (subst (λ (n : ℕ). pageNo j < n / 16384) (sym (length-kept c s v)) l) (unused-stays c s v h j (λ x. go (x .root)) new)
+  where
+    go : Root (slotOn (segView s) j) → ⊥
+    go r =
+        let z = ap (λ (d : Read). d .answer) (sym e ∙ read-look s v h j l) in
+        let a = root-looks (bytesOn (segView s)) j (tagOn (segView s) j) (tag-root (slotOn (segView s) j) .0 r) in
+        absurd (omega arith)
 
 -- over any sequence of calls, of which none answers it
 pub unused-throughout : (cs : List Call) (s v : List ℕ) → SoundSegment s v → (j : ℕ) → (Rooted s j → ⊥)

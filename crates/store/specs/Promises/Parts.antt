@@ -1,15 +1,14 @@
 -- The part of the lent segment that a read or a scan's step answers has the record's bytes: for all bytes, damaged ones too.
-use Prim.Native.Nat.{ℕ, _-_}
+use Prim.Native.Nat.{ℕ}
 use mathlib.Core.Path.{_≡_, refl}
-use mathlib.Core.Bool.{cond}
 use mathlib.Core.List.{List}
-use lib.Dec.{ltb}
 use Rattle.store.specs.Numbers.{pageNo, slotNo}
 use Rattle.store.specs.Segment.{segView, sizeOk, noRead, readBy, readPlan, readStep, held, locateStep}
-use Rattle.store.specs.Scan.{without, overPage, scanPlan, scanStep}
+use Rattle.store.specs.Scan.{scanStep}
 use Rattle.store.specs.Laws.Roots.{by-root}
 use Rattle.store.specs.Laws.Calls.{by-test}
-use Rattle.store.specs.Laws.Parts.{Holds, high, slot-holds, Shown, from-part}
+use Rattle.store.specs.Laws.Parts.{Holds, high, slot-holds, Shown, record-part}
+use Rattle.store.specs.Laws.Scan.{scan-each}
 
 pub part-read : (s : List ℕ) (i : ℕ) → held s (locateStep s i .part) ≡ readStep s i .bytes
 unfolding locateStep readStep readPlan
@@ -20,7 +19,4 @@ part-read s i =
     (λ z. refl)
 
 pub scan-part : (s : List ℕ) (p k : ℕ) → held s (scanStep s p k .part) ≡ scanStep s p k .bytes
-unfolding scanStep scanPlan
-scan-part s p k =
-    by-test (Shown s) (ltb 32527 p) (without 0 p k) (cond (sizeOk s) (scanPlan (segView s) p k) (without 1 overPage 0)) (λ a. refl)
-    (λ a. by-test (Shown s) (sizeOk s) (scanPlan (segView s) p k) (without 1 overPage 0) (λ z. from-part s (segView s .pages - p) p k) (λ z. refl))
+scan-part s = scan-each (Shown s) s (λ p k. refl) refl (λ p k e. refl) (λ p j e. refl) (λ p j l c r g. record-part s p j g)

@@ -64,6 +64,10 @@ written-throughout c cs s v h a w n =
     reads-throughout cs (called c s v .seg) (called c s v .inv) (call-right c s v h .sound) (called c s v .id) (record-rooted c s v h w a) n
     (readsAs c s) (call-reads c s v h .own a)
 
+each-so : (P Q : Result → Type 0) → ((r : Result) → P r → Q r) → (rs : List Result) → Each P rs → Each Q rs
+each-so P Q f [] h = tt
+each-so P Q f (r ∷ rs) h = (f r (h .0), each-so P Q f rs (h .1))
+
 -- ---- byte by byte
 
 -- a record at another size: the old bytes as far as both go, and zeros behind
@@ -72,9 +76,26 @@ pub record Refit (n : ℕ) (old new : List ℕ) : Type 0 where
   pub kept : (k : ℕ) → k < n → k < length old → getD new k 0 ≡ getD old k 0
   pub added : (k : ℕ) → length old ≤ k → getD new k 0 ≡ 0
 
--- a read after a resize beside a read before it
-pub resize-reads : (s v : List ℕ) (i n : ℕ) → SoundSegment s v → called (resize i n) s v .answer ≡ 0
-    → Refit n (readStep s i .bytes) (readStep (called (resize i n) s v .seg) i .bytes)
-resize-reads s v i n h a =
-    let e = ap (readStep (called (resize i n) s v .seg)) (sym (id-own (resize i n) s v i refl a .0)) ∙ call-reads (resize i n) s v h .own a in
-    subst (λ (r : Read). Refit n (readStep s i .bytes) (r .bytes)) (sym e) (record { long = length-fit n _; kept = fit-kept n _; added = fit-added n _ })
+module _ (s v : List ℕ) (i n : ℕ) (h : SoundSegment s v) (a : called (resize i n) s v .answer ≡ 0) where
+  abbrev left : Result
+  left = called (resize i n) s v
+
+  own : readStep (left .seg) i ≡ readsAs (resize i n) s
+  own = ap (readStep (left .seg)) (sym (id-own (resize i n) s v i refl a .0)) ∙ call-reads (resize i n) s v h .own a
+
+  refit : (r : Read) → r ≡ readsAs (resize i n) s → Refit n (readStep s i .bytes) (r .bytes)
+  refit r e =
+      subst (λ (d : Read). Refit n (readStep s i .bytes) (d .bytes)) (sym e)
+      (record { long = length-fit n (readStep s i .bytes); kept = fit-kept n (readStep s i .bytes); added = fit-added n (readStep s i .bytes) })
+
+  -- a read after a resize beside a read before it
+  pub resize-reads : Refit n (readStep s i .bytes) (readStep (called (resize i n) s v .seg) i .bytes)
+  resize-reads = refit (readStep (left .seg) i) own
+
+  -- and the same after each of any further calls that do not write, resize or erase that record
+  pub added-throughout : (cs : List Call) → NoneOfId i cs
+      → Each (λ r. Refit n (readStep s i .bytes) (readStep (r .seg) i .bytes)) (results cs (called (resize i n) s v .seg) (called (resize i n) s v .inv))
+  added-throughout cs x =
+      each-so _ _ (λ r. refit (readStep (r .seg) i)) (results cs (left .seg) (left .inv))
+      (reads-throughout cs (left .seg) (left .inv) (call-right (resize i n) s v h .sound) i
+      (subst (Rooted (left .seg)) (id-own (resize i n) s v i refl a .0) (record-rooted (resize i n) s v h refl a)) x (readsAs (resize i n) s) own)

@@ -1,11 +1,14 @@
--- Demand 1: "a refused call changes nothing", and each answer is one of 0 to 8. For all bytes, damaged ones too.
+-- Demand 1: "a refused call changes nothing", and each answer is one of 0 to 8; no call makes a segment longer or shorter. For all bytes,
+-- damaged ones too.
 use Prim.Native.Nat.{ℕ, _≤_}
 use mathlib.Core.Path.{_≡_, sym, ap, subst}
 use mathlib.Core.List.{List}
 use mathlib.Core.Logic.{_≢_}
+use lib.ListN.{length}
 use Rattle.store.specs.Segment.{OnPage, Result, result, carried}
 use Rattle.store.specs.Calls.{Call, called}
-use Rattle.store.specs.Laws.Plans.{called-plan}
+use Rattle.store.specs.Laws.Plans.{length-carried, planOf, called-plan}
+use Rattle.store.specs.Laws.Segments.{planned}
 use Rattle.store.specs.Laws.Refused.{tested}
 
 module _ (c : Call) (s v : List ℕ) where
@@ -18,3 +21,7 @@ module _ (c : Call) (s v : List ℕ) where
   pub answer-most : called c s v .answer ≤ 8
   unfolding result
   answer-most = subst (λ (r : Result). r .answer ≤ 8) (sym (called-plan c s v)) (tested c s v .most)
+
+  pub length-kept : length (called c s v .seg) ≡ length s
+  unfolding result
+  length-kept = subst (λ (r : Result). length (r .seg) ≡ length s) (sym (called-plan c s v)) (length-carried (planned (planOf c v) v s .steps) s)

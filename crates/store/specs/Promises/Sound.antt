@@ -1,19 +1,23 @@
 -- A sound segment stays sound, whatever the calls: every page, the pairs of redirects and targets, the true inventory. From one, no call
 -- answers 4 (damaged) or 8 (no room where the inventory named a page), and no read or scan answers 4.
-use Prim.Native.Nat.{ℕ, _-_}
+use Prim.Native.Nat.{ℕ}
 use mathlib.Core.Path.{sym, subst}
-use mathlib.Core.Bool.{cond}
 use mathlib.Core.List.{List, [], _∷_}
 use mathlib.Core.Logic.{_≢_}
 use native.Mathlib.Omega.{arith}
-use lib.Dec.{ltb}
-use Rattle.store.specs.Segment.{SegView, segView, sizeOk, Out, Result, result, step, Read, readStep}
-use Rattle.store.specs.Scan.{Scanned, without, overPage, scanPlan, scanStep}
+use Rattle.store.specs.Numbers.{pageNo}
+use Rattle.store.specs.Segment.{SegView, segView, Out, Result, result, step, Read, noRead, readBy, readPlan, readStep}
+use Rattle.store.specs.Scan.{scanStep}
 use Rattle.store.specs.Calls.{Call, called, results, Each}
-use Rattle.store.specs.SoundSegment.{SoundSegment}
-use Rattle.store.specs.Laws.Calls.{by-test}
+use Rattle.store.specs.SoundSegment.{bytesOn, SoundSegment}
+use Rattle.store.specs.Laws.Cases.{never}
+use Rattle.store.specs.Laws.Roots.{by-sound-root}
+use Rattle.store.specs.Laws.SoundPage.{sound-test, good-in}
+use Rattle.store.specs.Laws.Pairs.{tagOn, look-whole}
 use Rattle.store.specs.Laws.Plans.{Exacting, planOf, called-plan, call-exacting}
-use Rattle.store.specs.Laws.SoundSegment.{seen-sound, sized, stays-right, Staying, rowOf, call-staying, read-whole, scan-whole}
+use Rattle.store.specs.Laws.SoundSegment.{seen-sound, sized, stays-right, Staying, rowOf, call-staying, undamaged}
+use Rattle.store.specs.Laws.Rows.{by-look}
+use Rattle.store.specs.Laws.Scan.{scan-each}
 
 pub record Right (r : Result) : Type 0 where
   pub sound : SoundSegment (r .seg) (r .inv)
@@ -41,13 +45,17 @@ calls-right (c ∷ cs) s v h =
 
 module _ (s v : List ℕ) (h : SoundSegment s v) where
   pub read-right : (i : ℕ) → readStep s i .answer ≢ 4
-  unfolding readStep
-  read-right i = rw (h .whole) (read-whole s v h i)
+  unfolding readStep readPlan
+  read-right i =
+      rw (h .whole)
+      (by-sound-root (λ (d : Read). d .answer ≢ 4) (segView s) i noRead (readBy (segView s) i)
+      (sound-test (segView s .page (pageNo i)) (seen-sound s v h .sounds (pageNo i))) (λ l e. omega arith)
+      (λ l. subst (λ (d : Read). d .answer ≢ 4) (sym (by-look s v h i l)) (look-whole (bytesOn (segView s)) i (tagOn (segView s) i))))
 
   -- wherever the scan stands
   pub scan-right : (p k : ℕ) → scanStep s p k .answer ≢ 4
-  unfolding scanStep scanPlan
-  scan-right p k =
-      by-test (λ (d : Scanned). d .answer ≢ 4) (ltb 32527 p) (without 0 p k) (cond (sizeOk s) (scanPlan (segView s) p k) (without 1 overPage 0))
-      (λ a x. omega arith)
-      (λ a. rw (h .whole) (scan-whole s v h (segView s .pages - p) p k))
+  scan-right =
+      scan-each (λ d. d .answer ≢ 4) s (λ p k e. omega arith) (λ e. omega arith)
+      (λ p k e. never e (undamaged (segView s .page p) (seen-sound s v h .sounds p) k))
+      (λ p j e. never (good-in (segView s .page p) (seen-sound s v h .sounds p) j) e)
+      (λ p j l c r g e. omega arith)
