@@ -21,15 +21,15 @@ use Rattle.page_check.proofs.SlotLaws.{refuted}
 
 -- ---- one more slot
 
-pub fit-none : (v : View) (f d : ℕ) → RecordsFit v 0 f d
-fit-none v f d = record { allowed = λ j h. absurd (omega arith); above = λ j h. absurd (omega arith); apart = λ i j g h. absurd (omega arith) }
+pub records-none : (v : View) (f d : ℕ) → RecordsFit v 0 f d
+records-none v f d = record { allowed = λ j h. absurd (omega arith); above = λ j h. absurd (omega arith); apart = λ i j g h. absurd (omega arith) }
 
-pub fit-lower : (v : View) (n f d e : ℕ) → RecordsFit v n f d → e ≤ d → RecordsFit v n f e
-fit-lower v n f d e r h = record { allowed = r .allowed; above = λ j g p. omega (arith, r .above j g p); apart = r .apart }
+pub records-lower : (v : View) (n f d e : ℕ) → RecordsFit v n f d → e ≤ d → RecordsFit v n f e
+records-lower v n f d e r h = record { allowed = r .allowed; above = λ j g p. omega (arith, r .above j g p); apart = r .apart }
 
-pub fit-more : (v : View) (k f d : ℕ) → RecordsFit v k f d → Allowed (v .at k) k f 16384 → (0 < len (v .at k) → d ≤ off (v .at k))
+pub records-more : (v : View) (k f d : ℕ) → RecordsFit v k f d → Allowed (v .at k) k f 16384 → (0 < len (v .at k) → d ≤ off (v .at k))
     → ((i : ℕ) → i < k → Apart (v .at i) (v .at k)) → RecordsFit v (k + 1) f d
-fit-more v k f d r a o s = record {
+records-more v k f d r a o s = record {
   allowed = λ j h. allowed j h (ℕ-discrete j k);
   above = λ j h. above j h (ℕ-discrete j k);
   apart = λ i j g h. apart i j g h (ℕ-discrete j k);
@@ -58,10 +58,10 @@ total-more v k t l s e h = record {
 }
 
 -- the record of slot k lies below all before
-pub fit-under : (v : View) (k f low o l : ℕ) → low ≤ 16384 → RecordsFit v k f low → Allowed (v .at k) k f low → Runs (v .at k) low o l
+pub records-under : (v : View) (k f low o l : ℕ) → low ≤ 16384 → RecordsFit v k f low → Allowed (v .at k) k f low → Runs (v .at k) low o l
     → RecordsFit v (k + 1) f o
-fit-under v k f low o l h r a s =
-    fit-more v k f o (fit-lower v k f low o r (omega (arith, s .down)))
+records-under v k f low o l h r a s =
+    records-more v k f o (records-lower v k f low o r (omega (arith, s .down)))
     (record { under = omega (arith, a .under); long = a .long; used = a .used })
     (λ p. omega (arith, s .start (omega (arith, s .size))))
     (λ i g p q. inr (omega (arith, r .above i g p, a .under)))

@@ -1,5 +1,23 @@
-// The kinds of a slot's entry, and the answers of the calls: declarations alone. What they mean is defined in specs/, and document
-// 01's number of each answer stands in specs/Answers.antt.
+// Document 01's sizes, the kinds of a slot's entry, and the answers of the calls: declarations alone. What they mean is defined in
+// specs/, and document 01's number of each answer stands in specs/Answers.antt.
+
+// Sizes in bytes: a page, its header, a slot's entry, and a target's id in front of its record.
+pub const PAGE: usize = 16384;
+
+pub const HEADER: usize = 12;
+
+pub const ENTRY: usize = 8;
+
+pub const BACK: usize = 8;
+
+// What is left of a page beside its header, and beside the entry of its one record too: the longest record.
+pub const SPACE: usize = PAGE - HEADER;
+
+pub const LONGEST: usize = SPACE - ENTRY;
+
+// The most slots of a page.
+pub const SLOTS: usize = 2046;
+
 pub enum Slot {
     Ordinary { offset: usize, length: usize },
     Free,
