@@ -9,6 +9,7 @@ use native.Mathlib.Numerals.{add-one}
 use native.Mathlib.Decide.{decLt, ℕ-discrete}
 use lib.ListN.{length, drop, length-take, length-drop}
 use lib.Dec.{eqb}
+use borrow.Author.Count.{below-more}
 use borrow.Author.Tests.{eq-eqb, ne-eqb}
 use Rattle.store.specs.Numbers.{sum}
 use Rattle.store.specs.Slots.{off, len, isTarget}
@@ -30,22 +31,10 @@ records-lower v n f d e r h = record { allowed = r .allowed; above = λ j g p. o
 pub records-more : (v : View) (k f d : ℕ) → RecordsFit v k f d → Allowed (v .at k) k f 16384 → (0 < len (v .at k) → d ≤ off (v .at k))
     → ((i : ℕ) → i < k → Apart (v .at i) (v .at k)) → RecordsFit v (k + 1) f d
 records-more v k f d r a o s = record {
-  allowed = λ j h. allowed j h (ℕ-discrete j k);
-  above = λ j h. above j h (ℕ-discrete j k);
-  apart = λ i j g h. apart i j g h (ℕ-discrete j k);
+  allowed = below-more (λ j. Allowed (v .at j) j f 16384) k (r .allowed) a;
+  above = below-more (λ j. 0 < len (v .at j) → d ≤ off (v .at j)) k (r .above) o;
+  apart = λ i j g h. below-more (λ j. (i : ℕ) → i < j → Apart (v .at i) (v .at j)) k (λ j h i g. r .apart i j g h) s j h i g;
 }
-  where
-    allowed : (j : ℕ) → j < k + 1 → Dec (j ≡ k) → Allowed (v .at j) j f 16384
-    allowed j h (yes e) = rw e a
-    allowed j h (no e) = r .allowed j (omega arith)
-
-    above : (j : ℕ) → j < k + 1 → Dec (j ≡ k) → 0 < len (v .at j) → d ≤ off (v .at j)
-    above j h (yes e) = rw e o
-    above j h (no e) = r .above j (omega arith)
-
-    apart : (i j : ℕ) → i < j → j < k + 1 → Dec (j ≡ k) → Apart (v .at i) (v .at j)
-    apart i j g h (yes e) = rw e (s i (omega arith))
-    apart i j g h (no e) = r .apart i j g (omega arith)
 
 pub total-none : (v : View) → Total v 0 0
 total-none v = record { is = refl; small = omega arith }
