@@ -100,10 +100,11 @@ uint64_t hk_erase_record(uint8_t *segment, size_t segment_length, uint8_t *inven
  * the answer is 0; a segment of wrong size answers 1, and a damaged page 4 when the scan reaches it. Every further step over the same
  * segment answers 0 without a record, and after 1 or 4 over any segment.
  *
- * A position is a page and a slot of it and nothing more. Who writes between two steps lets the scan go on from there over what stands then: a
- * record that has moved meanwhile, by being forwarded or coming home, may come twice or not at all, a new one comes if it lies ahead, and
- * a scan that has reached the end goes on if it is lent more pages. The page it stands in is not checked again; a record that does not lie
- * as on a sound page answers 4.
+ * A position is a page and a slot, and nothing more. If you write between two steps, the next step goes on from there over what stands
+ * then. A record that you insert ahead of the position comes, and one that you erase does not. A record that a write moves to another page,
+ * or back to its own, may come twice or not at all. A scan that has ended goes on if it is then lent more pages. A page is checked when
+ * the scan reaches it and not again inside it; there a record that does not lie as on a sound page, or a slot count above 2,046,
+ * answers 4.
  */
 uint64_t hk_scan_step(const uint8_t *segment, size_t segment_length, uint64_t *position, uint64_t *found, uint64_t *id,
                       uint64_t *offset, uint64_t *length);

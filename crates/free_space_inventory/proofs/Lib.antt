@@ -1,3 +1,4 @@
 pub mod Turns
 pub mod Search
 pub mod Update
+pub mod Named

@@ -6,7 +6,17 @@ use store::Named;
 ghost use mathlib.Core.Path.{_≡_};
 ghost use Prim.Native.Nat.{_+_, _-_, _*_, _/_, _<_, _≤_};
 ghost use lib.ListN.{length};
+ghost use Rattle.store.specs.Answers.{namedPage};
 ghost use Rattle.store.specs.Inventory.{classOf, nibbleAt, setNibble, entryAt, setEntry, Room, foundIn, runEnd, nextPage, setFrom, pulledBack, update};
+
+// The bytes of a page that slots and records can take.
+const ROOM: usize = 16372;
+
+// The classes, and so the entries.
+const CLASSES: usize = 15;
+
+// The nibbles that the entries take up: page p's nibble is number p + NIBBLES_BEFORE.
+const NIBBLES_BEFORE: usize = 240;
 
 // The class of a page with `used` bytes in use: document 01's table, which stands for the Rust's `encode`.
 pub fn class_of(used: usize) -> usize
@@ -38,7 +48,7 @@ fn wide(b: u8) -> usize
     b as usize
 }
 
-// Nibble j, "low half first". Page p's is number p + 240, behind the entries.
+// Nibble j, "low half first". Page p's is number p + NIBBLES_BEFORE, behind the entries.
 fn read_nibble(inventory: &[u8], j: usize) -> usize
     requires { ⌜ j / 2 < length (now inventory) ⌝ }
     ensures { λ r. ⌜ (r ≡ nibbleAt (now (inventory .entry)) j) × (r < 16) ⌝ }
@@ -81,12 +91,12 @@ fn write_entry(inventory: &mut [u8], c: usize, v: usize)
 // The page for a request that needs `need` bytes, of a segment of n pages.
 pub fn find_page(inventory: &[u8], n: usize, need: usize) -> Named
     requires { ⌜ 120 ≤ length (now inventory) ⌝ }
-    ensures { λ r. ⌜ r ≡ foundIn (now (inventory .entry)) n need ⌝ }
+    ensures { λ r. ⌜ namedPage r ≡ namedPage (foundIn (now (inventory .entry)) n need) ⌝ }
 {
-    if 16372 < need {
+    if ROOM < need {
         return Named::Full;
     }
-    let c = class_of(16372 - need);
+    let c = class_of(ROOM - need);
     let page = read_entry(inventory, c - 1);
     if page < n {
         Named::At { page }
@@ -132,7 +142,7 @@ fn move_entries(inventory: &mut [u8], n: usize, page: usize, old: usize, end: us
     let mut u = end;
     if old < u {
         'pages: for p in page + 1..n {
-            let nibble = read_nibble(inventory, p + 240);
+            let nibble = read_nibble(inventory, p + NIBBLES_BEFORE);
             // Most pages suit none of the entries left; the entries' loop is dearer to enter than this test.
             if u <= nibble {
                 continue;
@@ -155,7 +165,7 @@ fn pull_entries(inventory: &mut [u8], page: usize, new: usize)
     ensures { λ _. ⌜ now (inventory .exit) ≡ pulledBack page new (15 - new) (now (inventory .entry)) ⌝ }
 {
     let mut c = new;
-    while c < 15 {
+    while c < CLASSES {
         if read_entry(inventory, c) <= page {
             break;
         }
@@ -170,10 +180,10 @@ pub fn update_page_size(inventory: &mut [u8], n: usize, page: usize, free_space:
     requires { ⌜ (page < n) × («free_space» ≤ 16372) ⌝ }
     ensures { λ _. ⌜ now (inventory .exit) ≡ update (now (inventory .entry)) n page «free_space» ⌝ }
 {
-    let new = class_of(16372 - free_space);
-    let old = read_nibble(inventory, page + 240);
+    let new = class_of(ROOM - free_space);
+    let old = read_nibble(inventory, page + NIBBLES_BEFORE);
     if old != new {
-        write_nibble(inventory, page + 240, new);
+        write_nibble(inventory, page + NIBBLES_BEFORE, new);
         let end = run_end(inventory, page, old, new);
         move_entries(inventory, n, page, old, end);
         pull_entries(inventory, page, new);

@@ -3,7 +3,7 @@ use Prim.Native.Nat.{ℕ, _+_, _*_, _≤_, _<_}
 use mathlib.Core.Path.{_≡_, refl, sym, ap, _∙_}
 use mathlib.Core.Bool.{Bool, true, false, _||_}
 use mathlib.Core.List.{List}
-use mathlib.Core.Logic.{inr, ⊎-swap, _≢_}
+use mathlib.Core.Logic.{inr, _≢_}
 use native.Mathlib.Omega.{arith}
 use native.Mathlib.Numerals.{add-one}
 use native.Mathlib.Decide.{decLt, ℕ-discrete}
@@ -15,7 +15,7 @@ use Rattle.store.specs.Numbers.{sum}
 use Rattle.store.specs.Slots.{off, len, isTarget}
 use Rattle.store.specs.Page.{View, view, slotAt, fresh, soundTests, passes, sound}
 use Rattle.store.specs.Laws.Edits.{Apart}
-use Rattle.store.specs.Laws.Views.{Sound}
+use Rattle.store.specs.Laws.Views.{Sound, apart-flip}
 use Rattle.store.specs.Laws.SoundPage.{sound-page, sound-test, past-free, page-codable}
 use Rattle.page_check.specs.Fit.{Allowed, Runs, RecordsFit, Total, HeaderFits}
 use Rattle.page_check.proofs.SlotLaws.{refuted}
@@ -109,7 +109,7 @@ module _ {p : List ℕ} {n f d : ℕ} (a : Header p n f d) where
 
     apart : (i j : ℕ) → i ≢ j → Dec (i < j) → Apart (view p .at i) (view p .at j)
     apart i j e (yes g) = ordered i j g (decLt j n)
-    apart i j e (no g) = λ x y. ⊎-swap (ordered j i (omega arith) (decLt i n) y x)
+    apart i j e (no g) = apart-flip (view p .at j) (view p .at i) (ordered j i (omega arith) (decLt i n))
 
     lens : (j : ℕ) → length (view p .bytes j) ≡ len (view p .at j)
     unfolding view

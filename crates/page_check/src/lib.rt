@@ -6,9 +6,9 @@ mod sweep;
 
 use store::ENTRY;
 use store::HEADER;
-use store::PAGE;
-use store::SLOTS;
-use store::SPACE;
+use store::MOST_SLOTS;
+use store::PAGE_SIZE;
+use store::ROOM;
 use sweep::Pass;
 ghost use mathlib.Core.Path.{_≡_};
 ghost use mathlib.Core.Bool.{_&&_};
@@ -24,7 +24,7 @@ fn header_fits(page: &[u8], n: usize, f: usize, d: usize) -> bool
     requires { ⌜ (length (now page) ≡ 16384) × (n ≡ view (now page) .slotCount) ⌝ }
     ensures { λ r. ⌜ Tells r (HeaderFits (view (now (page .entry))) n f d) ⌝ }
 {
-    if SLOTS < n {
+    if MOST_SLOTS < n {
         return false;
     }
     if n < f {
@@ -33,7 +33,7 @@ fn header_fits(page: &[u8], n: usize, f: usize, d: usize) -> bool
     if d < HEADER + ENTRY * n {
         return false;
     }
-    if PAGE < d {
+    if PAGE_SIZE < d {
         return false;
     }
     if f == n {
@@ -74,14 +74,14 @@ pub fn is_sound(page: &[u8]) -> bool
     if !records.fits {
         return false;
     }
-    layout::header::get_free_space(page) + ENTRY * n + records.total == SPACE
+    layout::header::get_free_space(page) + ENTRY * n + records.total == ROOM
 }
 
 // The same of any bytes: a page has 16,384.
 pub fn is_sound_page(bytes: &[u8]) -> bool
     ensures { λ r. ⌜ r ≡ (eqb (length (now (bytes .entry))) 16384 && sound (view (now (bytes .entry)))) ⌝ }
 {
-    if bytes.len() != PAGE {
+    if bytes.len() != PAGE_SIZE {
         return false;
     }
     is_sound(bytes)

@@ -3,7 +3,7 @@
 use crate::sweep::Pass;
 use store::ENTRY;
 use store::HEADER;
-use store::PAGE;
+use store::PAGE_SIZE;
 ghost use mathlib.Core.Path.{_≡_};
 ghost use mathlib.Core.Bool.{true};
 ghost use Prim.Native.Nat.{_+_, _≤_, _<_};
@@ -15,7 +15,7 @@ ghost use Rattle.page_check.specs.Fit.{Tells, Passed};
 ghost use Rattle.page_check.specs.Map.{Mask, Clear, Claims, Blank};
 
 // One bit for each byte of a page.
-pub const WORDS: usize = PAGE / 64;
+pub const WORDS: usize = PAGE_SIZE / 64;
 
 // A word with every bit set.
 const ONES: usize = 18446744073709551615;
@@ -92,7 +92,8 @@ pub fn claim_all(page: &[u8], n: usize, f: usize, d: usize, used: &mut [usize]) 
     let mut k = 0;
     let mut o = layout::get_u32(page, HEADER);
     while k < n {
-        let run = crate::slot::run_of(o, layout::get_u32(page, HEADER + ENTRY * k + 4), k, f, PAGE);
+        let l = layout::get_u32(page, HEADER + ENTRY * k + 4);
+        let run = crate::slot::run_of(o, l, k, f, PAGE_SIZE);
         if !run.fits {
             return Pass {
                 fits: false,

@@ -1,7 +1,7 @@
 // A pass over slots whose records lie in order, each below the one before.
 use store::ENTRY;
 use store::HEADER;
-use store::PAGE;
+use store::PAGE_SIZE;
 ghost use mathlib.Core.Path.{_≡_};
 ghost use mathlib.Core.Bool.{true};
 ghost use Rattle.store.specs.Page.{view};
@@ -20,12 +20,13 @@ pub fn sweep(page: &[u8], n: usize, f: usize, d: usize) -> Pass
     requires { ⌜ Counted (now page) n ⌝ }
     ensures { λ r. ⌜ (r .fits ≡ true → RecordsFit (view (now (page .entry))) n f d × Total (view (now (page .entry))) n (r .total)) ⌝ }
 {
-    let mut low = PAGE;
+    let mut low = PAGE_SIZE;
     let mut total = 0;
     let mut k = 0;
     let mut o = layout::get_u32(page, HEADER);
     while k < n {
-        let run = crate::slot::run_of(o, layout::get_u32(page, HEADER + ENTRY * k + 4), k, f, low);
+        let l = layout::get_u32(page, HEADER + ENTRY * k + 4);
+        let run = crate::slot::run_of(o, l, k, f, low);
         if !run.fits {
             return Pass {
                 fits: false,

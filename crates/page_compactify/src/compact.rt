@@ -3,7 +3,7 @@ use crate::table::kind_in;
 use crate::table::len_in;
 use crate::table::offset_in;
 use crate::table::slot_in;
-use store::PAGE;
+use store::PAGE_SIZE;
 use store::Slot;
 ghost use mathlib.Core.Path.{_≡_};
 ghost use Prim.Native.Nat.{_≤_, _<_};
@@ -46,7 +46,7 @@ fn pack(page: &mut [u8], t: &[usize], n: usize) -> usize
     ensures { λ r. ⌜ (now (page .exit) ≡ run (pack (slotsOf (take n (now (t .entry)))) 16384 (view (now (page .entry))) .edits) (now (page .entry)))
         × (r ≡ pack (slotsOf (take n (now (t .entry)))) 16384 (view (now (page .entry))) .after .dataStart) ⌝ }
 {
-    let mut d = PAGE;
+    let mut d = PAGE_SIZE;
     let mut j = 0;
     while j < n {
         let e = t[j];
@@ -68,7 +68,7 @@ pub fn compactify(page: &mut [u8]) -> usize
         × (r ≡ compactify (view (now (page .entry))) .after .dataStart) ⌝ }
 {
     let count = layout::header::get_slot_count(page);
-    let mut table = [0usize; store::SLOTS];
+    let mut table = [0usize; store::MOST_SLOTS];
     let n = crate::table::collect(page, &mut table, count);
     pack(page, &table, n)
 }

@@ -1,3 +1,4 @@
 pub mod BareLaws
+pub mod PlaceLaws
 pub mod RelocationLaws
 pub mod ReserveLaws

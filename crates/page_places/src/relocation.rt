@@ -6,18 +6,19 @@ ghost use mathlib.Core.Bool.{true};
 ghost use Prim.Native.Nat.{_+_, _-_, _*_, _≤_, _<_, _^_};
 ghost use lib.ListN.{length};
 ghost use Rattle.store.specs.Numbers.{put};
-ghost use Rattle.store.specs.Slots.{slotBytes, placed, isRecord, len};
+ghost use Rattle.store.specs.Slots.{slotBytes, placed as placedSlot, isRecord, len};
 ghost use Rattle.store.specs.Page.{view};
+ghost use Rattle.store.specs.Answers.{placed, allotted};
 ghost use Rattle.store.specs.PageSteps.{run, makeRoom, resized, relocate};
 ghost use Rattle.store.specs.Laws.Slots.{Codable};
-ghost use Rattle.store.specs.Laws.Views.{Sound};
+ghost use Rattle.store.specs.Laws.Lent.{UsedSlot};
 ghost use Rattle.layout.specs.Run.{headOf};
-ghost use Rattle.page_places.specs.Words.{underPage, shrinkPlan, homeOf, unfilled, pageBare, allocOf, placeOf, Inside};
+ghost use Rattle.page_places.specs.Words.{underPage, shrinkPlan, homeOf, unfilled, pageBare, allocOf, Inside};
 
 // The record at another place, of the same kind.
 fn placed_slot(s: Slot, d: usize, n: usize) -> Slot
     requires { ⌜ (d < 2 ^ 30) × (n < 2 ^ 32) ⌝ }
-    ensures { λ r. ⌜ (r ≡ placed s d n) × Codable r ⌝ }
+    ensures { λ r. ⌜ (r ≡ placedSlot s d n) × Codable r ⌝ }
 {
     match s {
         Slot::Ordinary {
@@ -53,7 +54,8 @@ fn commit(page: &mut [u8], k: usize, s: Slot, c: usize, f: usize, d: usize, n: u
 
 // Room is made, and slot k is a record of kind s just under data start; its place. Its bytes are still to be written.
 fn put_under(page: &mut [u8], k: usize, s: Slot, size: usize) -> usize
-    requires { ⌜ (length (now page) ≡ 16384) × Sound (view (now page)) × (k < view (now page) .slotCount) × (size ≤ view (now page) .freeSpace) ⌝ }
+    requires { ⌜ UsedSlot (now page) k ⌝ }
+    requires { ⌜ size ≤ view (now page) .freeSpace ⌝ }
     ensures { λ r. ⌜ (now (page .exit) ≡ underPage (view (now (page .entry))) k s size (now (page .entry)))
         × (r ≡ makeRoom (view (now (page .entry))) size .after .dataStart - size) × (r + size ≤ 16384) ⌝ }
 {
@@ -67,8 +69,8 @@ fn put_under(page: &mut [u8], k: usize, s: Slot, size: usize) -> usize
 
 // "Smaller: the length only, and the offset stays."
 fn shrink(page: &mut [u8], k: usize, s: Slot, size: usize)
-    requires { ⌜ (length (now page) ≡ 16384) × Sound (view (now page)) × (k < view (now page) .slotCount) × (s ≡ view (now page) .at k)
-        × (isRecord s ≡ true) × (size < len s) ⌝ }
+    requires { ⌜ UsedSlot (now page) k ⌝ }
+    requires { ⌜ (s ≡ view (now page) .at k) × (isRecord s ≡ true) × (size < len s) ⌝ }
     ensures { λ _. ⌜ now (page .exit) ≡ run (unfilled (shrinkPlan (view (now (page .entry))) k size .edits)) (now (page .entry)) ⌝ }
 {
     let c = layout::header::get_slot_count(page);
@@ -82,7 +84,8 @@ fn shrink(page: &mut [u8], k: usize, s: Slot, size: usize)
 
 // Slot k is a redirect to 0 while its record of len bytes has no place.
 fn park(page: &mut [u8], k: usize, len: usize)
-    requires { ⌜ (length (now page) ≡ 16384) × Sound (view (now page)) × (k < view (now page) .slotCount) × (len ≤ 16384) ⌝ }
+    requires { ⌜ UsedSlot (now page) k ⌝ }
+    requires { ⌜ len ≤ 16384 ⌝ }
     ensures { λ _. ⌜ now (page .exit)
         ≡ put (put (now (page .entry)) 0 (headOf (view (now (page .entry)) .slotCount) (view (now (page .entry)) .firstFree)
         (view (now (page .entry)) .dataStart) (view (now (page .entry)) .freeSpace + len))) (12 + 8 * k) (slotBytes (Slot.Redirect 0)) ⌝ }
@@ -96,10 +99,10 @@ fn park(page: &mut [u8], k: usize, len: usize)
 
 // Slot k's record s gets room for `size` bytes; its place.
 fn resize_slot(page: &mut [u8], k: usize, s: Slot, size: usize) -> Place
-    requires { ⌜ (length (now page) ≡ 16384) × Sound (view (now page)) × (k < view (now page) .slotCount) × (s ≡ view (now page) .at k)
-        × (isRecord s ≡ true) ⌝ }
+    requires { ⌜ UsedSlot (now page) k ⌝ }
+    requires { ⌜ (s ≡ view (now page) .at k) × (isRecord s ≡ true) ⌝ }
     ensures { λ r. ⌜ (now (page .exit) ≡ pageBare (allocOf k (resized (view (now (page .entry))) k size)) (now (page .entry)))
-        × (r ≡ placeOf (allocOf k (resized (view (now (page .entry))) k size))) × Inside r size ⌝ }
+        × (placed r ≡ allotted (allocOf k (resized (view (now (page .entry))) k size))) × Inside r size ⌝ }
 {
     let n = layout::slots::len_of(s);
     let offset = layout::slots::off_of(s);
@@ -121,9 +124,9 @@ fn resize_slot(page: &mut [u8], k: usize, s: Slot, size: usize) -> Place
 
 // Slot k, a redirect, gets a record of `size` bytes; its place.
 fn home_slot(page: &mut [u8], k: usize, size: usize) -> Place
-    requires { ⌜ (length (now page) ≡ 16384) × Sound (view (now page)) × (k < view (now page) .slotCount) ⌝ }
+    requires { ⌜ UsedSlot (now page) k ⌝ }
     ensures { λ r. ⌜ (now (page .exit) ≡ pageBare (allocOf k (homeOf (view (now (page .entry))) k size)) (now (page .entry)))
-        × (r ≡ placeOf (allocOf k (homeOf (view (now (page .entry))) k size))) × Inside r size ⌝ }
+        × (placed r ≡ allotted (allocOf k (homeOf (view (now (page .entry))) k size))) × Inside r size ⌝ }
 {
     let room = layout::header::get_free_space(page);
     if room < size {
@@ -139,9 +142,9 @@ fn home_slot(page: &mut [u8], k: usize, size: usize) -> Place
 
 // Relocate but for the record's bytes; the record's place.
 pub fn move_slot(page: &mut [u8], k: usize, size: usize) -> Place
-    requires { ⌜ (length (now page) ≡ 16384) × Sound (view (now page)) × (k < view (now page) .slotCount) ⌝ }
+    requires { ⌜ UsedSlot (now page) k ⌝ }
     ensures { λ r. ⌜ (now (page .exit) ≡ pageBare (allocOf k (relocate (view (now (page .entry))) k size)) (now (page .entry)))
-        × (r ≡ placeOf (allocOf k (relocate (view (now (page .entry))) k size))) × Inside r size ⌝ }
+        × (placed r ≡ allotted (allocOf k (relocate (view (now (page .entry))) k size))) × Inside r size ⌝ }
 {
     let s = layout::slots::get_slot(page, k);
     if layout::slots::is_free(s) {

@@ -7,9 +7,10 @@ ghost use Prim.Native.Nat.{_+_, _-_, _*_, _≤_, _<_};
 ghost use lib.Dec.{eqb};
 ghost use lib.ListN.{length};
 ghost use Rattle.store.specs.Page.{view};
+ghost use Rattle.store.specs.Answers.{placed, allotted};
 ghost use Rattle.store.specs.PageSteps.{nextFree, allocate};
-ghost use Rattle.store.specs.Laws.Views.{Sound};
-ghost use Rattle.page_places.specs.Words.{pageBare, placeOf, Inside, PastEntry};
+ghost use Rattle.store.specs.Laws.Lent.{UsedPage};
+ghost use Rattle.page_places.specs.Words.{pageBare, Inside, PastEntry};
 
 // The lowest free slot from k on, or the count.
 fn next_free(page: &[u8], k: usize, c: usize) -> usize
@@ -40,9 +41,10 @@ fn added_for(f: usize, c: usize) -> usize
 
 // Allocate but for the record's bytes: room is made, and the header and the slot's entry are written.
 pub fn reserve(page: &mut [u8], size: usize) -> Place
-    requires { ⌜ (length (now page) ≡ 16384) × Sound (view (now page)) × (size ≤ 16384) ⌝ }
+    requires { ⌜ UsedPage (now page) ⌝ }
+    requires { ⌜ size ≤ 16384 ⌝ }
     ensures { λ r. ⌜ (now (page .exit) ≡ pageBare (allocate (view (now (page .entry))) size) (now (page .entry)))
-        × (r ≡ placeOf (allocate (view (now (page .entry))) size)) × Inside r size × PastEntry r ⌝ }
+        × (placed r ≡ allotted (allocate (view (now (page .entry))) size)) × Inside r size × PastEntry r ⌝ }
 {
     let c = layout::header::get_slot_count(page);
     let f = layout::header::get_first_free_slot(page);

@@ -20,7 +20,7 @@ use Rattle.store.specs.Laws.SoundSegment.{seen-pages}
 use Rattle.store.specs.declared.Slot.{Slot}
 use Rattle.store.specs.declared.Slot.the-variants.{Ordinary, Free, Redirect, Target}
 use Rattle.store.specs.declared.Answer.the-variants as answer
-use Rattle.segment_steps.specs.After.{Took, took-length, Left, left-own, left-other, left-update, still, next-took}
+use Rattle.segment_steps.proofs.After.{Took, took-length, Left, left-own, left-other, left-update, still, next-took}
 
 -- ---- 1, 2, 4 (root), then by the slot
 

@@ -10,8 +10,7 @@ ghost use Rattle.store.specs.Slots.{isFree};
 ghost use Rattle.store.specs.Page.{sound};
 ghost use Rattle.store.specs.Segment.{segView, result, eraseBy, eraseStep};
 ghost use Rattle.store.specs.Answers.{outcome};
-ghost use Rattle.segment_steps.specs.After.{Sizes};
-ghost use Rattle.segment_steps.specs.Words.{seen};
+ghost use Rattle.segment_steps.specs.Words.{Sizes, seen};
 
 // The record of an ordinary slot, wherever it lies.
 fn erase_ordinary(segment: &mut [u8], inventory: &mut [u8], id: usize) -> Answer

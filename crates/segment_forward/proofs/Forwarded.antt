@@ -27,8 +27,8 @@ use Rattle.store.specs.declared.Answer.{Answer}
 use Rattle.store.specs.declared.Answer.the-variants as answer
 use Rattle.store.proofs.Answer as answers
 use Rattle.slotted_page.specs.Words.{targetPlan, redirectPlan}
-use Rattle.segment_steps.specs.After.{Took, took-length, Left, left-own, left-other, other-seen, next-took, target-on-page, small-id}
-use Rattle.segment_steps.specs.After.{for-redirect-on-page, redirect-on-page, target-length}
+use Rattle.segment_steps.proofs.After.{Took, took-length, Left, left-own, left-other, other-seen, next-took, target-on-page, small-id}
+use Rattle.segment_steps.proofs.After.{for-redirect-on-page, redirect-on-page, target-length}
 use Rattle.segment_forward.specs.Words.{rootOrOld, newTarget}
 use Rattle.segment_forward.proofs.Steps.{Asks, asks-still, exact-still, two-length, first-left, two-swapped, three-swapped, told-both, clash}
 use Rattle.segment_forward.proofs.Steps.{oldStep, old-away, old-asks, old-exact}

@@ -15,7 +15,7 @@ use Rattle.store.specs.Answers.{outcome}
 use Rattle.store.specs.declared.Slot.the-variants.{Redirect}
 use Rattle.store.specs.declared.Answer.the-variants as answer
 use Rattle.slotted_page.specs.Words.{pageMoved, wasMoved, refilled}
-use Rattle.segment_steps.specs.After.{Took, Left, left-own, next-took, MovedTo, moved-to, not-moved, took-filled, refused-same, no-target}
+use Rattle.segment_steps.proofs.After.{Took, Left, left-own, next-took, MovedTo, moved-to, not-moved, took-filled, refused-same, no-target}
 use Rattle.segment_forward.proofs.Steps.{Asks, asks-still, two-length, first-left, told-both, oldStep, old-away, old-asks, old-exact}
 
 -- t is what the step on the root's page left

@@ -22,7 +22,7 @@ use Rattle.store.specs.declared.Named.the-variants.{At, Full}
 use Rattle.store.specs.declared.Place.the-variants as place
 use Rattle.store.specs.declared.Answer.the-variants as answer
 use Rattle.slotted_page.specs.Words.{pageAfter, placeOf, targetAt}
-use Rattle.segment_steps.specs.After.{got-at, got-none, no-room-same}
+use Rattle.segment_steps.proofs.After.{got-at, got-none, no-room-same}
 use Rattle.segment_forward.specs.Words.{rootOrOld, newTarget}
 
 -- ---- the page that the inventory names, and the slot that the page gives

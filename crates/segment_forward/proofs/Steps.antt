@@ -15,8 +15,9 @@ use Rattle.store.specs.Segment.{segView, pageOf, OnPage, on, carriedOn, carried
 use Rattle.store.specs.Laws.SoundPage.{sound-test}
 use Rattle.store.specs.Laws.Segments.{ExactOn, exact-skip}
 use Rattle.store.specs.Laws.Calls.{back-ok, target-taken}
-use Rattle.segment_steps.specs.After.{Sizes, sizes-room, Took, took-length, Left, left-own, left-other, left-room, left-update, still, carried-swap}
-use Rattle.segment_steps.specs.After.{erase-on-page}
+use Rattle.segment_steps.specs.Words.{Sizes}
+use Rattle.segment_steps.proofs.After.{sizes-room, Took, took-length, Left, left-own, left-other, left-room, left-update, still, carried-swap}
+use Rattle.segment_steps.proofs.After.{erase-on-page}
 
 pub clash : {A : Type 0} (b : Bool) → b ≡ true → b ≡ false → A
 clash b x y = let z : _≡_ {A = ℕ} 0 1 = cc in absurd (omega arith)

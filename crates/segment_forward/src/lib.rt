@@ -17,8 +17,7 @@ ghost use Rattle.store.specs.Inventory.{foundIn};
 ghost use Rattle.store.specs.Segment.{segView, find, result, pointsBack, forwarded, forwardedAgain, atHome};
 ghost use Rattle.store.specs.Answers.{outcome};
 ghost use Rattle.slotted_page.specs.Words.{wasMoved};
-ghost use Rattle.segment_steps.specs.After.{Sizes};
-ghost use Rattle.segment_steps.specs.Words.{seen};
+ghost use Rattle.segment_steps.specs.Words.{Sizes, seen};
 ghost use Rattle.segment_forward.specs.Words.{rootOrOld, newTarget};
 
 // The search that both forwardings make: the new target's id, with its page written and the inventory not told yet; or 7, 4, 8. "The page

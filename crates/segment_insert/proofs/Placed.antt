@@ -21,7 +21,7 @@ use Rattle.store.specs.declared.Named.the-variants.{At, Full}
 use Rattle.store.specs.declared.Place.the-variants as place
 use Rattle.store.specs.declared.Answer.the-variants as answer
 use Rattle.slotted_page.specs.Words.{pageAfter, placeOf, filledAt}
-use Rattle.segment_steps.specs.After.{Took, took-length, left-own, left-room, left-update, GotAt, got-at, got-none}
+use Rattle.segment_steps.proofs.After.{Took, took-length, left-own, left-room, left-update, GotAt, got-at, got-none}
 use Rattle.segment_insert.specs.Words.{insertOn}
 
 -- ---- before a page is named: 1, 3 and 7

@@ -8,7 +8,7 @@ ghost use lib.ListN.{length};
 ghost use Rattle.store.specs.Numbers.{fit};
 ghost use Rattle.store.specs.Segment.{insertStep, allocateStep};
 ghost use Rattle.store.specs.Answers.{outcome};
-ghost use Rattle.segment_steps.specs.After.{Sizes};
+ghost use Rattle.segment_steps.specs.Words.{Sizes};
 ghost use Rattle.segment_insert.specs.Words.{insertOn};
 
 // On the page that the inventory names: these bytes, cut off or filled up with zeros to `size`. "If the page's answer holds no place, the

@@ -1,3 +1,3 @@
 pub mod Seen
-pub mod Short
+pub mod Root
 pub mod Back

@@ -1,13 +1,18 @@
 -- What is seen of a page of the segment, against what stands on it.
 use Prim.Native.Nat.{ℕ, _+_, _*_, _≤_}
-use mathlib.Core.Path.{_≡_, sym, ap, subst, _∙_}
-use mathlib.Core.Bool.{true}
-use mathlib.Core.List.{List}
+use mathlib.Core.Path.{_≡_, refl, sym, ap, subst, _∙_}
+use mathlib.Core.Bool.{true, false}
+use mathlib.Core.List.{List, [], _∷_}
+use mathlib.Core.Logic.{⊎-elim}
+use types.Run.{OneOf}
+use denote.Enum.Declared.{tagOf}
+use native.Mathlib.Omega.{arith}
 use lib.ListN.{length, take, drop}
 use lib.Seq.{take-take}
+use borrow.Author.Tests.{le-ltb}
 use Rattle.store.specs.Numbers.{cut}
 use Rattle.store.specs.Slots.{off, len, isTarget}
-use Rattle.store.specs.Page.{view, sound}
+use Rattle.store.specs.Page.{view, count, sound}
 use Rattle.store.specs.Segment.{segView, pageOf}
 use Rattle.store.specs.Laws.Views.{Sound}
 use Rattle.store.specs.Laws.Segments.{length-page}
@@ -15,7 +20,20 @@ use Rattle.store.specs.Laws.Calls.{shows-opened, sound-seen}
 use Rattle.store.specs.Laws.SoundSegment.{open-sound, seen-page}
 use Rattle.store.specs.Laws.Parts.{seen-bytes}
 use Rattle.store.specs.declared.Slot.{Slot}
-use Rattle.store.specs.declared.Slot.the-variants.{Target}
+use Rattle.store.specs.declared.Slot.the-variants.{Ordinary, Free, Redirect, Target}
+use Rattle.store.proofs.Slot as slot
+
+-- a slot at or past the count is free
+pub at-past : (p : List ℕ) (k : ℕ) → view p .slotCount ≤ k → Free ≡ view p .at k
+unfolding view
+at-past p k h = rw (le-ltb k (count p) h)
+
+-- an entry that is told to be of another kind
+pub not-target : (x : Slot) → OneOf (0 ∷ 1 ∷ 2 ∷ []) (tagOf slot.the-type x) → isTarget x ≡ false
+not-target (Ordinary o l) h = refl
+not-target Free h = refl
+not-target (Redirect t) h = refl
+not-target (Target o l) h = absurd (⊎-elim (λ e. omega arith) (⊎-elim (λ e. omega arith) (λ e. omega arith)) h)
 
 module _ (s : List ℕ) (p : ℕ) where
   pub seen-sound : sound (segView s .page p) ≡ sound (view (pageOf s p))
@@ -49,3 +67,6 @@ module _ (s : List ℕ) (p : ℕ) where
 
       pub target-long : (k : ℕ) (x : Slot) → segView s .page p .at k ≡ x → isTarget x ≡ true → 8 ≤ len x
       target-long k x e = subst (λ (y : Slot). isTarget y ≡ true → 8 ≤ len y) e (page-right .targets k)
+
+      pub few-slots : segView s .page p .slotCount ≤ 2046
+      few-slots = page-right .few

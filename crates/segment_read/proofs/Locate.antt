@@ -14,13 +14,13 @@ use borrow.Author.Tests.{le-leb, lt-leb}
 use Rattle.store.specs.Numbers.{cut, pageNo, slotNo}
 use Rattle.store.specs.Slots.{off, len, isTarget}
 use Rattle.store.specs.Page.{sound}
-use Rattle.store.specs.Segment.{SegView, segView, sizeOk, pointsBack, Read, noRead, readBy, readPlan, readStep, Part, noPart, partOn, partBy, Located}
+use Rattle.store.specs.Segment.{SegView, segView, sizeOk, pointsBack, Read, noRead, readBy, readPlan, readStep, Part, noPart, partOn, partBy, Located, held}
 use Rattle.store.specs.Segment.{locateStep}
 use Rattle.store.specs.Answers.{readingNo, readingPart, located}
 use Rattle.store.specs.Laws.Views.{Sound}
 use Rattle.store.specs.Laws.Calls.{by-test, back-ok}
 use Rattle.store.specs.Laws.SoundSegment.{seen-pages}
-use Rattle.store.specs.Laws.Parts.{held, part-read}
+use Rattle.store.specs.Promises.Parts.{part-read}
 use Rattle.store.specs.declared.Slot.{Slot}
 use Rattle.store.specs.declared.Slot.the-variants.{Ordinary, Free, Redirect, Target}
 use Rattle.store.specs.declared.Reading.{Reading}

@@ -1,16 +1,16 @@
 -- A place made on page p of the segment, and what the call then writes there: the page is lent a second time.
 use Prim.Native.Nat.{ℕ, _+_, _-_, _*_, _≤_}
 use mathlib.Core.Path.{_≡_, refl, sym, ap, _∙_}
-use mathlib.Core.Bool.{true}
 use mathlib.Core.List.{List}
 use native.Mathlib.Omega.{arith}
-use lib.ListN.{length}
+use lib.ListN.{length, length-replicate}
 use borrow.Rule.Slice.PartMut.{putMid}
 use Rattle.store.specs.Numbers.{put, zeros}
 use Rattle.store.specs.Slots.{slotBytes}
 use Rattle.store.specs.Page.{sound}
 use Rattle.store.specs.PageSteps.{allocate}
 use Rattle.store.specs.Segment.{segView, pageOf}
+use Rattle.store.specs.Laws.Lent.{SoundOn}
 use Rattle.store.specs.Laws.Numbers.{length-put, put-over, lent}
 use Rattle.store.specs.Laws.Segments.{length-page, page-same, lent-part}
 use Rattle.store.specs.declared.Slot.the-variants.{Target}
@@ -18,23 +18,23 @@ use Rattle.store.specs.declared.Place.the-variants.{At, NoRoom}
 use Rattle.segment_pages.proofs.Seen.{page-right}
 use Rattle.slotted_page.specs.Words.{pageBare, placeOf, pageAfter, filledAt, targetAt}
 use Rattle.slotted_page.proofs.AllocateLaws.{allocate-ended, allocate-sized}
-use Rattle.slotted_page.proofs.FillLaws.{length-zeros, fill-done, target-done, none-done}
-use Rattle.segment_steps.specs.Lent.{lentPart, length-bare}
+use Rattle.slotted_page.proofs.FillLaws.{fill-done, target-done, none-done}
+use Rattle.segment_steps.proofs.Lent.{lentPart, length-bare}
 
 -- t is what the place for n bytes left
-module _ (s : List ℕ) (p : ℕ) (fits : p * 16384 + 16384 ≤ length s) (ok : sound (segView s .page p) ≡ true) (n : ℕ)
+module _ (s : List ℕ) (p : ℕ) (h : SoundOn s p) (n : ℕ)
     (t : List ℕ) (et : t ≡ put s (p * 16384) (pageBare (allocate (segView s .page p) n) (pageOf s p))) where
   abbrev page : List ℕ
   page = pageBare (allocate (segView s .page p) n) (pageOf s p)
 
   whole : length page ≡ 16384
-  whole = length-bare (allocate (segView s .page p) n) (pageOf s p) ∙ length-page s p fits
+  whole = length-bare (allocate (segView s .page p) n) (pageOf s p) ∙ length-page s p (h .whole)
 
   bare-length : length t ≡ length s
   bare-length = ap length et ∙ length-put s (p * 16384) page
 
   lent-again : lentPart t p ≡ page
-  lent-again = lent-part t p ∙ ap (λ (l : List ℕ). pageOf l p) et ∙ page-same s p page whole fits
+  lent-again = lent-part t p ∙ ap (λ (l : List ℕ). pageOf l p) et ∙ page-same s p page whole (h .whole)
 
   pub bare-whole : length (lentPart t p) ≡ 16384
   bare-whole = ap length lent-again ∙ whole
@@ -60,7 +60,7 @@ module _ (s : List ℕ) (p : ℕ) (fits : p * 16384 + 16384 ≤ length s) (ok : 
         let g : out ≡ put page o bs = f ∙ ap (λ (q : List ℕ). put q o bs) lent-again in
         back (ap length g ∙ length-put page o bs ∙ whole) _
         (fill-done k o (zeros n) (pageOf s p) page out (allocate (segView s .page p) n) bs
-        (allocate-ended (pageOf s p) (segView s .page p) n (page-right s p fits ok)) (size ∙ sym (length-zeros n)) (sym e) refl g)
+        (allocate-ended (pageOf s p) (segView s .page p) n (page-right s p (h .whole) (h .sound))) (size ∙ sym (length-replicate n 0)) (sym e) refl g)
 
     -- the entry of a target, and its bytes
     pub target-written : 20 + 8 * k ≤ o → out ≡ put (put (lentPart t p) (12 + 8 * k) (slotBytes (Target o n))) o bs
@@ -71,5 +71,5 @@ module _ (s : List ℕ) (p : ℕ) (fits : p * 16384 + 16384 ≤ length s) (ok : 
         let v = segView s .page p in
         back (ap length g ∙ length-put (put page (12 + 8 * k) x) o bs ∙ length-put page (12 + 8 * k) x ∙ whole) _
         (target-done k o (zeros n) (pageOf s p) page (put page (12 + 8 * k) x) (allocate v n) n bs out
-        (allocate-ended (pageOf s p) v n (page-right s p fits ok)) (allocate-sized v n (page-right s p fits ok))
-        (size ∙ sym (length-zeros n)) past (sym e) refl refl g)
+        (allocate-ended (pageOf s p) v n (page-right s p (h .whole) (h .sound))) (allocate-sized v n (page-right s p (h .whole) (h .sound)))
+        (size ∙ sym (length-replicate n 0)) past (sym e) refl refl g)

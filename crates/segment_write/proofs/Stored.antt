@@ -25,7 +25,8 @@ use Rattle.store.specs.declared.Slot.{Slot}
 use Rattle.store.specs.declared.Slot.the-variants.{Ordinary, Free, Redirect, Target}
 use Rattle.store.specs.declared.Answer.the-variants as answer
 use Rattle.slotted_page.specs.Words.{pageMoved, wasMoved, refilled}
-use Rattle.segment_steps.specs.After.{Sizes, sizes-room, Took, took-length, left-own, left-room, moved-to, not-moved, took-filled, refused-same, left-update}
+use Rattle.segment_steps.specs.Words.{Sizes}
+use Rattle.segment_steps.proofs.After.{sizes-room, Took, took-length, left-own, left-room, moved-to, not-moved, took-filled, refused-same, left-update}
 
 -- ---- a record at another size on its page: carried out, or every byte left
 

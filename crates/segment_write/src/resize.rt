@@ -10,8 +10,7 @@ ghost use Rattle.store.specs.Page.{sound};
 ghost use Rattle.store.specs.Inventory.{foundIn};
 ghost use Rattle.store.specs.Segment.{segView, result, pointsBack, storeBy, resizeStep};
 ghost use Rattle.store.specs.Answers.{outcome};
-ghost use Rattle.segment_steps.specs.After.{Sizes};
-ghost use Rattle.segment_steps.specs.Words.{seen};
+ghost use Rattle.segment_steps.specs.Words.{Sizes, seen};
 
 // The record of an ordinary slot, which lies at this offset of its page.
 fn resize_ordinary(

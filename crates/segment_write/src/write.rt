@@ -11,8 +11,7 @@ ghost use Rattle.store.specs.Page.{sound};
 ghost use Rattle.store.specs.Inventory.{foundIn};
 ghost use Rattle.store.specs.Segment.{segView, result, storeBy, writeStep};
 ghost use Rattle.store.specs.Answers.{outcome};
-ghost use Rattle.segment_steps.specs.After.{Sizes};
-ghost use Rattle.segment_steps.specs.Words.{seen};
+ghost use Rattle.segment_steps.specs.Words.{Sizes, seen};
 
 // The record of an ordinary slot, wherever it lies: "the root page first", then a new target.
 fn write_ordinary(segment: &mut [u8], inventory: &mut [u8], id: usize, bytes: &[u8]) -> Answer

@@ -5,24 +5,22 @@ use mathlib.Core.List.{List, [], _∷_, _++_}
 use Prim.Native.Nat.{ℕ, _+_, _*_, _≤_}
 use native.Mathlib.Omega.{arith}
 use borrow.Author.Tests.{eq-eqb}
-use lib.ListN.{length, length-replicate}
-use Rattle.store.specs.Numbers.{put, zeros}
+use lib.ListN.{length}
+use Rattle.store.specs.Numbers.{put}
 use Rattle.store.specs.Slots.{off, len, slotBytes}
 use Rattle.store.specs.Page.{View}
+use Rattle.store.specs.Answers.{Placed, placed, allotted}
 use Rattle.store.specs.PageSteps.{Edit, apply, commit, fill, move, run, withSlot, Alloc, noRoom, got, Relocated, refused, moved}
 use Rattle.store.specs.Laws.Numbers.{put-over, put-swap}
 use Rattle.store.specs.Laws.Views.{upd-same}
 use Rattle.store.specs.Laws.Exact.{run-append}
 use Rattle.store.specs.declared.Slot.{Slot}
 use Rattle.store.specs.declared.Slot.the-variants.{Target}
-use Rattle.store.specs.declared.Place.{Place}
 use Rattle.store.specs.declared.Place.the-variants.{At, NoRoom}
 use Rattle.page_places.specs.Words.{unfilled, pageBare, placeOf, allocOf}
 use Rattle.slotted_page.specs.Words.{pageAfter, filledAt, targetAt, pageMoved, wasMoved, refilled}
 use Rattle.page_places.proofs.BareLaws.{commit-writes, run-bare}
-
-pub length-zeros : (n : ℕ) → length (zeros n) ≡ n
-length-zeros n = length-replicate n 0
+pub use Rattle.page_places.proofs.PlaceLaws.{placed-is}
 
 -- ---- the bytes written afterwards
 
@@ -68,54 +66,44 @@ commit-ends p es w k s own =
 
 -- ---- what the code finds: the place, and the page without the bytes
 
-abbrev tag : Place → ℕ
-tag (At k o) = 0
-tag NoRoom = 1
-
-abbrev offsetOf : Place → ℕ
-offsetOf (At k o) = o
-offsetOf NoRoom = 0
-
-abbrev slotOf : Place → ℕ
-slotOf (At k o) = k
-slotOf NoRoom = 0
-
 module _ (k o : ℕ) (own p q₁ q₂ : List ℕ) where
   pub written-done : (a : Alloc) → Ended p own a → At k o ≡ placeOf a → q₁ ≡ pageBare a p → q₂ ≡ put q₁ o own → q₂ ≡ pageAfter a p
-  written-done noRoom f e e₁ e₂ = let z : _≡_ {A = ℕ} 0 1 = ap tag e in absurd (omega arith)
-  written-done (got j a) f e e₁ e₂ = e₂ ∙ rw (e₁, ap offsetOf e) (sym (f .written))
+  written-done noRoom f e e₁ e₂ = let z : _≡_ {A = ℕ} 0 1 = cc in absurd (omega arith)
+  written-done (got j a) f e e₁ e₂ = let x : o ≡ off (a .after .at j) = cc in e₂ ∙ rw (e₁, x) (sym (f .written))
 
   pub fill-done : (a : Alloc) (bs : List ℕ) → Ended p own a → length bs ≡ length own → At k o ≡ placeOf a → q₁ ≡ pageBare a p → q₂ ≡ put q₁ o bs
       → q₂ ≡ pageAfter (filledAt a bs) p
-  fill-done noRoom bs f l e e₁ e₂ = let z : _≡_ {A = ℕ} 0 1 = ap tag e in absurd (omega arith)
-  fill-done (got j a) bs f l e e₁ e₂ = e₂ ∙ rw (e₁, ap offsetOf e) (sym (f .fills bs l))
+  fill-done noRoom bs f l e e₁ e₂ = let z : _≡_ {A = ℕ} 0 1 = cc in absurd (omega arith)
+  fill-done (got j a) bs f l e e₁ e₂ = let x : o ≡ off (a .after .at j) = cc in e₂ ∙ rw (e₁, x) (sym (f .fills bs l))
 
   -- its entry a target's, of the same place and length
   pub target-done : (a : Alloc) (n : ℕ) (bs q₃ : List ℕ) → Ended p own a → Sized n a → length bs ≡ length own → 20 + 8 * k ≤ o → At k o ≡ placeOf a
       → q₁ ≡ pageBare a p
       → q₂ ≡ put q₁ (12 + 8 * k) (slotBytes (Target o n)) → q₃ ≡ put q₂ o bs → q₃ ≡ pageAfter (targetAt a bs) p
-  target-done noRoom n bs q₃ f s l h e e₁ e₂ e₃ = let z : _≡_ {A = ℕ} 0 1 = ap tag e in absurd (omega arith)
+  target-done noRoom n bs q₃ f s l h e e₁ e₂ e₃ = let z : _≡_ {A = ℕ} 0 1 = cc in absurd (omega arith)
   target-done (got j a) n bs q₃ f s l h e e₁ e₂ e₃ =
       let v : View = a .after in
+      let same-slot : k ≡ j = cc in
+      let same-offset : o ≡ off (v .at j) = cc in
       let i : 12 + 8 * k + 8 ≤ o = omega arith in
       let x : Slot = Target o n in
-      let w : run (a .edits) p ≡ put q₁ o own = f .written ∙ rw (e₁, ap offsetOf e) in
+      let w : run (a .edits) p ≡ put q₁ o own = f .written ∙ rw (e₁, same-offset) in
       let g : put (put (put q₁ o own) (12 + 8 * k) (slotBytes x)) o bs ≡ q₃ =
       ap (λ (q : List ℕ). put q o bs) (put-swap q₁ (12 + 8 * k) o (slotBytes x) own i)
       ∙ put-over (put q₁ (12 + 8 * k) (slotBytes x)) o own bs (omega arith) ∙ sym (rw (e₃, e₂)) in
       sym (run-append (a .edits) (move j (withSlot v j (Target (off (v .at j)) (len (v .at j))) bs) ∷ []) p
-      ∙ move-writes v j (Target (off (v .at j)) (len (v .at j))) bs (run (a .edits) p) ∙ rw (s, w, ← ap offsetOf e, ← ap slotOf e) g)
+      ∙ move-writes v j (Target (off (v .at j)) (len (v .at j))) bs (run (a .edits) p) ∙ rw (s, w, ← same-offset, ← same-slot) g)
 
 -- ---- a record that was relocated, as code that has its place finds it
 
 module _ (k : ℕ) (p q : List ℕ) where
   pub moved-done : (r : Relocated) (j o : ℕ) → At j o ≡ placeOf (allocOf k r) → q ≡ pageAfter (allocOf k r) p → (q ≡ pageMoved r p) × (true ≡ wasMoved r)
-  moved-done refused j o e x = let z : _≡_ {A = ℕ} 0 1 = ap tag e in absurd (omega arith)
+  moved-done refused j o e x = let z : _≡_ {A = ℕ} 0 1 = cc in absurd (omega arith)
   moved-done (moved a) j o e x = (x, refl)
 
   pub refilled-done : (r : Relocated) (j o : ℕ) (bs : List ℕ) → At j o ≡ placeOf (allocOf k r) → q ≡ pageAfter (filledAt (allocOf k r) bs) p
       → (q ≡ pageMoved (refilled r k bs) p) × (true ≡ wasMoved r)
-  refilled-done refused j o bs e x = let z : _≡_ {A = ℕ} 0 1 = ap tag e in absurd (omega arith)
+  refilled-done refused j o bs e x = let z : _≡_ {A = ℕ} 0 1 = cc in absurd (omega arith)
   refilled-done (moved a) j o bs e x = (x, refl)
 
 -- ---- a refusal leaves the page
@@ -124,12 +112,12 @@ module _ (p q : List ℕ) where
   pub none-done : (a : Alloc) → NoRoom ≡ placeOf a → q ≡ pageBare a p
       → (q ≡ pageAfter a p) × ((bs : List ℕ) → (q ≡ pageAfter (filledAt a bs) p) × (q ≡ pageAfter (targetAt a bs) p))
   none-done noRoom e e₁ = (e₁, λ bs. (e₁, e₁))
-  none-done (got j a) e e₁ = let z : _≡_ {A = ℕ} 1 0 = ap tag e in absurd (omega arith)
+  none-done (got j a) e e₁ = let z : _≡_ {A = ℕ} 0 1 = cc in absurd (omega arith)
 
-  pub refused-done : (k : ℕ) (r : Relocated) → NoRoom ≡ placeOf (allocOf k r) → q ≡ pageBare (allocOf k r) p
+  pub refused-done : (k : ℕ) (r : Relocated) → placed NoRoom ≡ allotted (allocOf k r) → q ≡ pageBare (allocOf k r) p
       → (q ≡ pageMoved r p) × (false ≡ wasMoved r) × ((bs : List ℕ) → q ≡ pageMoved (refilled r k bs) p)
   refused-done k refused e e₁ = (e₁, refl, λ bs. e₁)
-  refused-done k (moved a) e e₁ = let z : _≡_ {A = ℕ} 1 0 = ap tag e in absurd (omega arith)
+  refused-done k (moved a) e e₁ = absurd (omega (arith, ap (λ (x : Placed). x .answer) e))
 
   pub unmoved-done : (k : ℕ) (r : Relocated) (bs : List ℕ) → false ≡ wasMoved r → q ≡ pageMoved r p → q ≡ pageMoved (refilled r k bs) p
   unmoved-done k refused bs e e₁ = e₁

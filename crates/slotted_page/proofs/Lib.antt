@@ -1,5 +1,6 @@
 pub mod AllocateLaws
 pub mod EraseLaws
 pub mod FillLaws
-pub mod OpenLaws
+pub mod FitLaws
+pub mod FreshLaws
 pub mod RecordLaws

@@ -1,27 +1,28 @@
 -- A relocated record's bytes: the old ones, cut off or filled up with zeros, are what the plan writes.
 use mathlib.Core.Path.{_≡_, refl, sym, ap, _∙_, subst}
 use mathlib.Core.Bool.{true, false}
-use mathlib.Core.List.{List, [], _∷_, _++_, append-assoc}
+use mathlib.Core.List.{List, [], _∷_, _++_}
 use mathlib.Core.Logic.{inr}
 use Prim.Native.Nat.{ℕ, _+_, _-_, _*_, _≤_, _<_}
-use native.Mathlib.Nat.{sub-zero}
-use native.Mathlib.Decide.{decLt}
 use native.Mathlib.Omega.{arith}
-use lib.ListN.{length, take, drop, length-drop, length-append, drop-of-length-le, replicate-append-replicate}
-use lib.Seq.{take-take, take-all, take-add}
+use lib.ListN.{length, take, drop, length-append}
+use lib.Seq.{take-take, take-all}
 use lib.Dec.{ltb, eqb}
 use borrow.Author.Tests.{ltb-true, ltb-false, eqb-true, eqb-false, le-ltb}
 use Rattle.store.specs.Numbers.{put, cut, zeros, fit}
-use Rattle.store.specs.Slots.{slotBytes, off, len, isRecord, placed}
+use Rattle.store.specs.Slots.{slotBytes, off, len, isRecord, placed as placedSlot}
 use Rattle.store.specs.Page.{View, view}
+use Rattle.store.specs.Answers.{placed, allotted}
 use Rattle.store.specs.PageSteps.{Edit, commit, run, withHead, stay, makeRoom, gap, moveUnder, parked, shrunk, resized, relocateBy, relocate, got}
 use Rattle.store.specs.PageSteps.{Relocated, refused, moved}
 use Rattle.store.specs.Laws.Numbers.{put-nil, put-own, put-over, put-swap, length-put, cut-apart, cut-same}
-use Rattle.store.specs.Laws.Views.{Sound, upd-same}
+use Rattle.store.specs.Laws.Views.{upd-same}
+use Rattle.store.specs.Laws.Lent.{UsedSlot}
 use Rattle.store.specs.Laws.Calls.{by-test}
 use Rattle.store.specs.Laws.Exact.{length-run}
-use Rattle.store.specs.Laws.Compactify.{placed-is}
-use Rattle.store.specs.Laws.Relocate.{length-fit, Answered, relocate-answer}
+use Rattle.store.specs.Laws.Compactify.{placed-is as placed-slot-is}
+use Rattle.store.specs.Laws.Relocate.{Answered, relocate-answer}
+use Rattle.store.specs.Laws.Fit.{length-fit}
 use Rattle.store.specs.declared.Slot.{Slot}
 use Rattle.store.specs.declared.Slot.the-variants.{Ordinary, Free, Redirect, Target}
 use Rattle.store.specs.declared.Place.the-variants.{At}
@@ -30,7 +31,9 @@ use Rattle.layout.proofs.Writes.{write-append, fit-cut, fit-filled}
 use Rattle.page_compactify.proofs.PackLaws.{shown-bytes}
 use Rattle.page_places.specs.Words.{unfilled, shrinkPlan, growPlan, allocOf, pageBare, placeOf}
 use Rattle.slotted_page.specs.Words.{pageAfter, pageMoved, wasMoved, refilled}
+use Rattle.page_places.proofs.PlaceLaws.{placed-is}
 use Rattle.page_places.proofs.BareLaws.{commit-writes, run-bare}
+use Rattle.slotted_page.proofs.FitLaws.{fit-none, fit-add}
 use Rattle.slotted_page.proofs.FillLaws.{Ends, Ended, ends-by, commit-ends, written-done, fill-done, moved-done, refilled-done}
 
 length-head : (c f d n : ℕ) → length (headOf c f d n) ≡ 12
@@ -44,29 +47,6 @@ cut-past p k c f d r o n x h =
     cut-apart (put p 0 (headOf c f d r)) (12 + 8 * k) (slotBytes x) o n (λ b w. inr (omega (arith, h w)))
     ∙ cut-apart p 0 (headOf c f d r) o n (λ b w. inr (omega (arith, h w, length-head c f d r)))
 
-fit-none : (n : ℕ) → zeros n ≡ fit n []
-fit-none n = sym (fit-filled n [] (omega arith) ∙ ap zeros (sub-zero n))
-
--- at a size of a + b: the first a bytes, and then the rest at size b
-fit-add : (a b : ℕ) (bs : List ℕ) → fit (a + b) bs ≡ fit a bs ++ fit b (drop a bs)
-fit-add a b bs = go (decLt (length bs) a)
-  where
-    go : Dec (length bs < a) → fit (a + b) bs ≡ fit a bs ++ fit b (drop a bs)
-    go (yes h) =
-        let e : a + b - length bs ≡ (a - length bs) + b = omega arith in
-        fit-filled (a + b) bs (omega arith)
-        ∙ rw (
-          e,
-          ← replicate-append-replicate {A = ℕ} (a - length bs) b 0,
-          fit-filled a bs (omega arith),
-          drop-of-length-le bs {i = a} (omega arith),
-          ← fit-none b,
-          append-assoc,
-        )
-    go (no h) =
-        let e : b - (length bs - a) ≡ a + b - length bs = omega arith in
-        rw (take-add a b bs, fit-cut a bs (omega arith), append-assoc, length-drop, e)
-
 -- the front of what was written, written again
 put-front : (p : List ℕ) (i : ℕ) (a b x : List ℕ) → length a ≡ length x → put (put p i (a ++ b)) i x ≡ put p i (x ++ b)
 put-front p i a b x e =
@@ -79,7 +59,7 @@ long-record Free h = absurd (omega arith)
 long-record (Redirect i) h = absurd (omega arith)
 long-record (Target o l) h = refl
 
-module _ (p : List ℕ) (k n : ℕ) (whole : length p ≡ 16384) (s : Sound (view p)) (inside : k < view p .slotCount) where
+module _ (p : List ℕ) (k n : ℕ) (used : UsedSlot p k) where
   v : View
   v = view p
 
@@ -88,7 +68,7 @@ module _ (p : List ℕ) (k n : ℕ) (whole : length p ≡ 16384) (s : Sound (vie
 
   past : (m : ℕ) → m ≤ len (v .at k) → 0 < m → 20 + 8 * k ≤ off (v .at k)
   unfolding v
-  past m h z = omega (arith, s .low k (omega arith), s .dir)
+  past m h z = omega (arith, used .sound .low k (omega arith), used .sound .dir)
 
   no-bytes : (i : ℕ) → v .at k ≡ Redirect i → v .bytes k ≡ []
   unfolding v
@@ -99,24 +79,24 @@ module _ (p : List ℕ) (k n : ℕ) (whole : length p ≡ 16384) (s : Sound (vie
   same-ended : n ≡ len (v .at k) → Ends p k old [] v
   unfolding v old
   same-ended e =
-      let f : fit n (v .bytes k) ≡ cut p (off (v .at k)) (len (v .at k)) = fit-cut n (v .bytes k) (omega (arith, s .lens k))
-      ∙ take-all n (v .bytes k) (omega (arith, s .lens k)) ∙ sym (shown-bytes p k) in
-      ends-by p k old [] v (sym (rw f (put-own p (off (v .at k)) (len (v .at k)) (omega (arith, s .high k)))))
+      let f : fit n (v .bytes k) ≡ cut p (off (v .at k)) (len (v .at k)) = fit-cut n (v .bytes k) (omega (arith, used .sound .lens k))
+      ∙ take-all n (v .bytes k) (omega (arith, used .sound .lens k)) ∙ sym (shown-bytes p k) in
+      ends-by p k old [] v (sym (rw f (put-own p (off (v .at k)) (len (v .at k)) (omega (arith, used .sound .high k)))))
 
   less-ended : n < len (v .at k) → Ends p k old (shrinkPlan v k n .edits) (shrunk v k n)
   unfolding v old
   less-ended h =
-      let f : take n (v .bytes k) ≡ fit n (v .bytes k) = sym (fit-cut n (v .bytes k) (omega (arith, s .lens k))) in
+      let f : take n (v .bytes k) ≡ fit n (v .bytes k) = sym (fit-cut n (v .bytes k) (omega (arith, used .sound .lens k))) in
       subst (λ (bs : List ℕ). Ends p k bs (shrinkPlan v k n .edits) (shrunk v k n)) f
       (commit-ends p [] (withHead v (v .slotCount) (v .firstFree) (v .dataStart) (v .freeSpace + (len (v .at k) - n))) k
-      (placed (v .at k) (off (v .at k)) n) (take n (v .bytes k)))
+      (placedSlot (v .at k) (off (v .at k)) n) (take n (v .bytes k)))
 
   more-ended : Ends p k old (growPlan v k n .edits) (growPlan v k n .after)
   unfolding v old
   more-ended =
       let w : View = makeRoom (parked v k) n .after in
       commit-ends p (commit k (parked v k) ∷ makeRoom (parked v k) n .edits)
-      (withHead w (w .slotCount) (w .firstFree) (w .dataStart - n) (w .freeSpace - n)) k (placed (v .at k) (w .dataStart - n) n) old
+      (withHead w (w .slotCount) (w .firstFree) (w .dataStart - n) (w .freeSpace - n)) k (placedSlot (v .at k) (w .dataStart - n) n) old
 
   home-ended : (i : ℕ) → v .at k ≡ Redirect i → Ends p k old (moveUnder v k (Ordinary 0 0) n (zeros n) .edits) (moveUnder v k (Ordinary 0 0) n (zeros n) .after)
   unfolding v old
@@ -164,17 +144,18 @@ module _ (p : List ℕ) (k n : ℕ) (whole : length p ≡ 16384) (s : Sound (vie
   unfolding v old
   stands-less h =
       let o : ℕ = off (v .at k) in
-      let y : Slot = placed (v .at k) o n in
+      let y : Slot = placedSlot (v .at k) o n in
       let u : View = withHead v (v .slotCount) (v .firstFree) (v .dataStart) (v .freeSpace + (len (v .at k) - n)) in
       let q : List ℕ = run (unfilled (shrinkPlan v k n .edits)) p in
       let b = run-bare [] u k y (take n (v .bytes k)) p in
       let l : length q ≡ 16384 = ap length b ∙ length-put (put p 0 (headOf (u .slotCount) (u .firstFree) (u .dataStart) (u .freeSpace))) (12 + 8 * k)
-      (slotBytes y) ∙ length-put p 0 (headOf (u .slotCount) (u .firstFree) (u .dataStart) (u .freeSpace)) ∙ whole in
+      (slotBytes y) ∙ length-put p 0 (headOf (u .slotCount) (u .firstFree) (u .dataStart) (u .freeSpace)) ∙ used .whole in
       let e : cut q o n ≡ old =
       ap (λ (z : List ℕ). cut z o n) b ∙ cut-past p k (u .slotCount) (u .firstFree) (u .dataStart) (u .freeSpace) o n y (past n (omega arith))
-      ∙ sym (take-take n (len (v .at k)) (drop o p) (omega arith)) ∙ ap (take n) (shown-bytes p k) ∙ sym (fit-cut n (v .bytes k) (omega (arith, s .lens k))) in
-      let a : off (shrunk v k n .at k) ≡ o = ap off (upd-same (v .at) k y) ∙ placed-is (v .at k) o n (long-record (v .at k) (omega arith)) .off in
-      sym (less-ended h .written ∙ rw (a, ← e) (put-own q o n (omega (arith, s .high k))))
+      ∙ sym (take-take n (len (v .at k)) (drop o p) (omega arith)) ∙ ap (take n) (shown-bytes p k)
+      ∙ sym (fit-cut n (v .bytes k) (omega (arith, used .sound .lens k))) in
+      let a : off (shrunk v k n .at k) ≡ o = ap off (upd-same (v .at) k y) ∙ placed-slot-is (v .at k) o n (long-record (v .at k) (omega arith)) .off in
+      sym (less-ended h .written ∙ rw (a, ← e) (put-own q o n (omega (arith, used .sound .high k))))
 
   stands-home : (i : ℕ) → v .at k ≡ Redirect i → n ≤ len (v .at k)
       → run (unfilled (moveUnder v k (Ordinary 0 0) n (zeros n) .edits)) p ≡ run (moveUnder v k (Ordinary 0 0) n (zeros n) .edits) p
@@ -198,7 +179,7 @@ module _ (p : List ℕ) (k n : ℕ) (whole : length p ≡ 16384) (s : Sound (vie
       let w : View = makeRoom (parked v k) n .after in
       let es : List Edit = commit k (parked v k) ∷ makeRoom (parked v k) n .edits in
       let t : ltb (gap v) n ≡ false = le-ltb (gap v) n g in
-      let y : Slot = placed (v .at k) (w .dataStart - n) n in
+      let y : Slot = placedSlot (v .at k) (w .dataStart - n) n in
       let q : List ℕ = put (put p 0 (headOf (v .slotCount) (v .firstFree) (v .dataStart) (v .freeSpace + l))) (12 + 8 * k) (slotBytes (Redirect 0)) in
       let r : run es p ≡ q = rw t (commit-writes (withHead v (v .slotCount) (v .firstFree) (v .dataStart) (v .freeSpace + l)) k (Redirect 0) [] p
       ∙ put-nil q 0) in
@@ -220,25 +201,28 @@ module _ (p : List ℕ) (k n : ℕ) (whole : length p ≡ 16384) (s : Sound (vie
   abbrev R : Relocated
   R = relocate (view p) k n
 
-  module _ (j d : ℕ) (q₁ q₂ : List ℕ) (e : At j d ≡ placeOf (allocOf k (relocate (view p) k n)))
+  module _ (j d : ℕ) (q₁ q₂ : List ℕ) (e : placed (At j d) ≡ allotted (allocOf k (relocate (view p) k n)))
       (e₁ : q₁ ≡ pageBare (allocOf k (relocate (view p) k n)) p) where
+    there : At j d ≡ placeOf (allocOf k (relocate (view p) k n))
+    there = placed-is (At j d) (allocOf k R) e
+
     pub bytes-done : (bs : List ℕ) → length bs ≡ n → q₂ ≡ put q₁ d bs
         → (q₂ ≡ pageMoved (refilled (relocate (view p) k n) k bs) p) × (true ≡ wasMoved (relocate (view p) k n))
-    bytes-done bs l e₂ = refilled-done k p q₂ R j d bs e
-        (fill-done j d (fit n (view p .bytes k)) p q₁ q₂ (allocOf k R) bs relocate-ended (l ∙ sym (length-fit n (view p .bytes k))) e e₁ e₂)
+    bytes-done bs l e₂ = refilled-done k p q₂ R j d bs there
+        (fill-done j d (fit n (view p .bytes k)) p q₁ q₂ (allocOf k R) bs relocate-ended (l ∙ sym (length-fit n (view p .bytes k))) there e₁ e₂)
 
     pub old-done : q₂ ≡ put q₁ d (fit n (view p .bytes k)) → (q₂ ≡ pageMoved (relocate (view p) k n) p) × (true ≡ wasMoved (relocate (view p) k n))
-    old-done e₂ = moved-done k p q₂ R j d e (written-done j d (fit n (view p .bytes k)) p q₁ q₂ (allocOf k R) relocate-ended e e₁ e₂)
+    old-done e₂ = moved-done k p q₂ R j d there (written-done j d (fit n (view p .bytes k)) p q₁ q₂ (allocOf k R) relocate-ended there e₁ e₂)
 
     pub settle-done : n ≤ len (view p .at k) → (q₁ ≡ pageMoved (relocate (view p) k n) p) × (true ≡ wasMoved (relocate (view p) k n))
-    settle-done h = moved-done k p q₁ R j d e (e₁ ∙ stands h)
+    settle-done h = moved-done k p q₁ R j d there (e₁ ∙ stands h)
 
     -- the old bytes moved from o, and zeros behind them
     pub grow-done : (o l : ℕ) (q₃ : List ℕ) → o ≡ off (view p .at k) → l ≡ len (view p .at k) → l ≤ n → n ≤ gap (view p)
         → q₂ ≡ put q₁ d (cut q₁ o l) → q₃ ≡ put q₂ (d + l) (zeros (n - l)) → q₃ ≡ put q₁ d (fit n (view p .bytes k))
     grow-done o l q₃ eo el h g e₂ e₃ =
         let bs : List ℕ = view p .bytes k in
-        let b : length bs ≡ l = s .lens k ∙ sym el in
+        let b : length bs ≡ l = used .sound .lens k ∙ sym el in
         let a : cut q₁ o l ≡ bs = rw (e₁, eo, el) (stays g (omega arith)) in
         e₃ ∙ rw (e₂, a, fit-filled n bs (omega arith), ← b) (sym (write-append d bs (zeros (n - length bs)) q₁))
 
@@ -255,7 +239,7 @@ module _ (p : List ℕ) (k n : ℕ) (whole : length p ≡ 16384) (s : Sound (vie
       → take l z' ≡ view p .bytes k
   saved-old o l z z' eo el h e =
       let b : cut p o l ≡ view p .bytes k = rw (eo, el) (shown-bytes p k) in
-      ap (take l) e ∙ cut-same z 0 (cut p o l) l (ap length b ∙ s .lens k ∙ sym el) (omega arith) ∙ b
+      ap (take l) e ∙ cut-same z 0 (cut p o l) l (ap length b ∙ used .sound .lens k ∙ sym el) (omega arith) ∙ b
 
 -- a target relocated to m more than its 8 bytes, on the page q: x in place of these 8
 pub record Kept (p : List ℕ) (k m : ℕ) (r : Relocated) (q : List ℕ) : Type 0 where
@@ -284,11 +268,11 @@ kept-by p k m (moved a) q whole f h e e₁ =
           ∙ sym (f .fills own (length-append x (fit m (drop 8 bs)) ∙ omega (arith, length-fit m (drop 8 bs), length-fit (8 + m) bs)));
     }
 
-pub target-kept : (p : List ℕ) (k m : ℕ) (q : List ℕ) → length p ≡ 16384 → Sound (view p) → k < view p .slotCount
+pub target-kept : (p : List ℕ) (k m : ℕ) (q : List ℕ) → UsedSlot p k
     → q ≡ pageMoved (relocate (view p) k (m + 8)) p → true ≡ wasMoved (relocate (view p) k (m + 8)) → Kept p k m (relocate (view p) k (m + 8)) q
-target-kept p k m q whole s inside e₁ e =
+target-kept p k m q used e₁ e =
     let c : m + 8 ≡ 8 + m = omega arith in
     rw c
-    (kept-by p k m (relocate (view p) k (8 + m)) q whole (relocate-ended p k (8 + m) whole s inside)
-    (relocate-answer p (view p) whole refl s k inside (8 + m) (λ t. omega arith))
+    (kept-by p k m (relocate (view p) k (8 + m)) q (used .whole) (relocate-ended p k (8 + m) used)
+    (relocate-answer p (view p) (used .whole) refl (used .sound) k (used .counted) (8 + m) (λ t. omega arith))
     (rw c at e) (rw c at e₁))

@@ -5,25 +5,25 @@ ghost use mathlib.Core.Bool.{true};
 ghost use Prim.Native.Nat.{_≤_};
 ghost use lib.ListN.{length};
 ghost use Rattle.store.specs.Page.{view, sound};
+ghost use Rattle.store.specs.Answers.{placed, allotted};
 ghost use Rattle.store.specs.PageSteps.{opened, putHead, initialised, allocate};
-ghost use Rattle.page_places.specs.Words.{pageBare, placeOf, Inside, PastEntry};
+ghost use Rattle.page_places.specs.Words.{pageBare, Inside, PastEntry};
 
 // The header of a page just initialised.
 fn initialize(page: &mut [u8])
     requires { ⌜ length (now page) ≡ 16384 ⌝ }
     ensures { λ _. ⌜ now (page .exit) ≡ putHead initialised (now (page .entry)) ⌝ }
 {
-    layout::header::set_header(page, 0, 0, 16384, 16372);
+    layout::header::set_header(page, 0, 0, crate::PAGE_SIZE, crate::ROOM);
 }
 
 // A size of at most 16,364 finds room on a fresh page, so a refusal never leaves one initialised.
 pub fn allocate(page: &mut [u8], size: usize) -> Place
     requires { ⌜ (length (now page) ≡ 16384) × (sound (view (now page)) ≡ true) × (size ≤ 16364) ⌝ }
     ensures { λ r. ⌜ (now (page .exit) ≡ pageBare (allocate (opened (view (now (page .entry)))) size) (now (page .entry)))
-        × (r ≡ placeOf (allocate (opened (view (now (page .entry)))) size)) × Inside r size × PastEntry r ⌝ }
+        × (placed r ≡ allotted (allocate (opened (view (now (page .entry)))) size)) × Inside r size × PastEntry r ⌝ }
 {
-    let c = layout::header::get_slot_count(page);
-    if c == 0 {
+    if layout::header::is_fresh(page) {
         initialize(page);
         return page_places::reserve::reserve(page, size);
     }

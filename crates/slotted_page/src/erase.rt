@@ -8,7 +8,7 @@ ghost use lib.ListN.{length};
 ghost use Rattle.store.specs.Slots.{len};
 ghost use Rattle.store.specs.Page.{view};
 ghost use Rattle.store.specs.PageSteps.{freeBelow, pruned, eraseForRedirect, run, erase};
-ghost use Rattle.store.specs.Laws.Views.{Sound};
+ghost use Rattle.store.specs.Laws.Lent.{UsedSlot};
 ghost use Rattle.slotted_page.specs.Words.{redirectPlan};
 
 // Data start once the record at o of n bytes is gone.
@@ -59,7 +59,7 @@ fn lower(f: usize, k: usize) -> usize
 }
 
 pub fn erase(page: &mut [u8], k: usize)
-    requires { ⌜ (length (now page) ≡ 16384) × Sound (view (now page)) × (k < view (now page) .slotCount) ⌝ }
+    requires { ⌜ UsedSlot (now page) k ⌝ }
     ensures { λ _. ⌜ now (page .exit) ≡ run (erase (view (now (page .entry))) k .edits) (now (page .entry)) ⌝ }
 {
     let c = layout::header::get_slot_count(page);
@@ -75,7 +75,8 @@ pub fn erase(page: &mut [u8], k: usize)
 }
 
 pub fn erase_for_redirect(page: &mut [u8], k: usize, id: usize)
-    requires { ⌜ (length (now page) ≡ 16384) × Sound (view (now page)) × (k < view (now page) .slotCount) × (id < 2 ^ 62) ⌝ }
+    requires { ⌜ UsedSlot (now page) k ⌝ }
+    requires { ⌜ id < 2 ^ 62 ⌝ }
     ensures { λ _. ⌜ now (page .exit) ≡ run (eraseForRedirect (view (now (page .entry))) k id .edits) (now (page .entry)) ⌝ }
 {
     let c = layout::header::get_slot_count(page);

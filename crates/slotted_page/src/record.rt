@@ -2,17 +2,17 @@
 use store::Place;
 ghost use mathlib.Core.Path.{_≡_};
 ghost use mathlib.Core.List.{_++_};
-ghost use Prim.Native.Nat.{_+_, _≤_, _<_};
+ghost use Prim.Native.Nat.{_+_, _≤_};
 ghost use lib.ListN.{length, drop};
 ghost use Rattle.store.specs.Numbers.{toBE, fit};
 ghost use Rattle.store.specs.Page.{view};
 ghost use Rattle.store.specs.PageSteps.{relocate};
-ghost use Rattle.store.specs.Laws.Views.{Sound};
+ghost use Rattle.store.specs.Laws.Lent.{UsedSlot};
 ghost use Rattle.slotted_page.specs.Words.{pageMoved, wasMoved, refilled};
 
 // Slot k's record becomes these bytes, cut off or filled up with zeros to `size`; from a redirect too.
 pub fn rewrite(page: &mut [u8], k: usize, bytes: &[u8], size: usize) -> bool
-    requires { ⌜ (length (now page) ≡ 16384) × Sound (view (now page)) × (k < view (now page) .slotCount) ⌝ }
+    requires { ⌜ UsedSlot (now page) k ⌝ }
     ensures { λ r. ⌜ (now (page .exit) ≡ pageMoved (refilled (relocate (view (now (page .entry))) k size) k (fit size (now (bytes .entry))))
         (now (page .entry)))
         × (r ≡ wasMoved (relocate (view (now (page .entry))) k size)) ⌝ }
@@ -29,7 +29,7 @@ pub fn rewrite(page: &mut [u8], k: usize, bytes: &[u8], size: usize) -> bool
 
 // Slot k's record keeps its bytes.
 pub fn resize(page: &mut [u8], k: usize, size: usize) -> bool
-    requires { ⌜ (length (now page) ≡ 16384) × Sound (view (now page)) × (k < view (now page) .slotCount) ⌝ }
+    requires { ⌜ UsedSlot (now page) k ⌝ }
     ensures { λ r. ⌜ (now (page .exit)
         ≡ pageMoved (refilled (relocate (view (now (page .entry))) k size) k (fit size (view (now (page .entry)) .bytes k))) (now (page .entry)))
         × (r ≡ wasMoved (relocate (view (now (page .entry))) k size)) ⌝ }
@@ -39,7 +39,8 @@ pub fn resize(page: &mut [u8], k: usize, size: usize) -> bool
 
 // A target's record becomes the id of its root and these bytes.
 pub fn rewrite_target(page: &mut [u8], k: usize, id: usize, bytes: &[u8]) -> bool
-    requires { ⌜ (length (now page) ≡ 16384) × Sound (view (now page)) × (k < view (now page) .slotCount) × (length (now bytes) ≤ 16364) ⌝ }
+    requires { ⌜ UsedSlot (now page) k ⌝ }
+    requires { ⌜ length (now bytes) ≤ 16364 ⌝ }
     ensures { λ r. ⌜ (now (page .exit)
         ≡ pageMoved (refilled (relocate (view (now (page .entry))) k (length (now (bytes .entry)) + 8)) k (toBE 8 id ++ now (bytes .entry)))
         (now (page .entry)))
@@ -58,7 +59,8 @@ pub fn rewrite_target(page: &mut [u8], k: usize, id: usize, bytes: &[u8]) -> boo
 
 // A target's record keeps its bytes behind the id of its root.
 pub fn resize_target(page: &mut [u8], k: usize, id: usize, size: usize) -> bool
-    requires { ⌜ (length (now page) ≡ 16384) × Sound (view (now page)) × (k < view (now page) .slotCount) × (size ≤ 16364) ⌝ }
+    requires { ⌜ UsedSlot (now page) k ⌝ }
+    requires { ⌜ size ≤ 16364 ⌝ }
     ensures { λ r. ⌜ (now (page .exit)
         ≡ pageMoved (refilled (relocate (view (now (page .entry))) k (size + 8)) k
         (toBE 8 id ++ fit size (drop 8 (view (now (page .entry)) .bytes k)))) (now (page .entry)))

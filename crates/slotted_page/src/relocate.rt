@@ -3,21 +3,21 @@ use store::Place;
 use store::Slot;
 ghost use mathlib.Core.Path.{_≡_};
 ghost use Prim.Native.Nat.{_+_, _≤_, _<_};
-ghost use lib.ListN.{length};
 ghost use Rattle.store.specs.Slots.{len};
 ghost use Rattle.store.specs.Page.{view};
 ghost use Rattle.store.specs.PageSteps.{gap, relocate};
-ghost use Rattle.store.specs.Laws.Views.{Sound};
+ghost use Rattle.store.specs.Laws.Lent.{UsedSlot};
 ghost use Rattle.slotted_page.specs.Words.{pageMoved, wasMoved};
 
 // Relocate to a larger size, where the page is compactified: "the growing record's old bytes are saved by value".
 fn grow_packed(page: &mut [u8], k: usize, s: Slot, size: usize) -> bool
-    requires { ⌜ (length (now page) ≡ 16384) × Sound (view (now page)) × (k < view (now page) .slotCount) × (s ≡ view (now page) .at k) ⌝ }
+    requires { ⌜ UsedSlot (now page) k ⌝ }
+    requires { ⌜ s ≡ view (now page) .at k ⌝ }
     ensures { λ r. ⌜ (now (page .exit) ≡ pageMoved (relocate (view (now (page .entry))) k size) (now (page .entry)))
         × (r ≡ wasMoved (relocate (view (now (page .entry))) k size)) ⌝ }
 {
     let n = layout::slots::len_of(s);
-    let mut saved = [0u8; 16384];
+    let mut saved = [0u8; crate::PAGE_SIZE];
     layout::save(page, layout::slots::off_of(s), n, &mut saved);
     let place = page_places::relocation::move_slot(page, k, size);
     match place {
@@ -31,8 +31,8 @@ fn grow_packed(page: &mut [u8], k: usize, s: Slot, size: usize) -> bool
 
 // Relocate to a larger size, where the gap holds it: the old bytes stand where they stood.
 fn grow(page: &mut [u8], k: usize, s: Slot, size: usize) -> bool
-    requires { ⌜ (length (now page) ≡ 16384) × Sound (view (now page)) × (k < view (now page) .slotCount) × (s ≡ view (now page) .at k)
-        × (len s ≤ size) × (size ≤ gap (view (now page))) ⌝ }
+    requires { ⌜ UsedSlot (now page) k ⌝ }
+    requires { ⌜ (s ≡ view (now page) .at k) × (len s ≤ size) × (size ≤ gap (view (now page))) ⌝ }
     ensures { λ r. ⌜ (now (page .exit) ≡ pageMoved (relocate (view (now (page .entry))) k size) (now (page .entry)))
         × (r ≡ wasMoved (relocate (view (now (page .entry))) k size)) ⌝ }
 {
@@ -50,7 +50,8 @@ fn grow(page: &mut [u8], k: usize, s: Slot, size: usize) -> bool
 
 // Relocate to a size that is not larger: the old bytes stay where they stand.
 fn settle(page: &mut [u8], k: usize, size: usize) -> bool
-    requires { ⌜ (length (now page) ≡ 16384) × Sound (view (now page)) × (k < view (now page) .slotCount) × (size ≤ len (view (now page) .at k)) ⌝ }
+    requires { ⌜ UsedSlot (now page) k ⌝ }
+    requires { ⌜ size ≤ len (view (now page) .at k) ⌝ }
     ensures { λ r. ⌜ (now (page .exit) ≡ pageMoved (relocate (view (now (page .entry))) k size) (now (page .entry)))
         × (r ≡ wasMoved (relocate (view (now (page .entry))) k size)) ⌝ }
 {
@@ -63,7 +64,7 @@ fn settle(page: &mut [u8], k: usize, size: usize) -> bool
 
 // "Larger: refused if growth exceeds free space": before any byte is saved.
 pub fn relocate(page: &mut [u8], k: usize, size: usize) -> bool
-    requires { ⌜ (length (now page) ≡ 16384) × Sound (view (now page)) × (k < view (now page) .slotCount) ⌝ }
+    requires { ⌜ UsedSlot (now page) k ⌝ }
     ensures { λ r. ⌜ (now (page .exit) ≡ pageMoved (relocate (view (now (page .entry))) k size) (now (page .entry)))
         × (r ≡ wasMoved (relocate (view (now (page .entry))) k size)) ⌝ }
 {

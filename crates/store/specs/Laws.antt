@@ -1,5 +1,6 @@
 pub mod Cases
 pub mod Numbers
+pub mod Fit
 pub mod Slots
 pub mod Classes
 pub mod Inventory
@@ -19,15 +20,13 @@ pub mod Changes
 pub mod Pairs
 pub mod Settled
 pub mod Stays
-pub mod AlikeByKind
+pub mod Plans
 pub mod Parts
 pub mod SoundSegment
 pub mod Refused
 pub mod Unused
 pub mod Alike
 pub mod Scan
-pub mod ReadAfterWrite
+pub mod Rows
 pub mod Grown
 pub mod Blank
-pub mod Marked
-pub mod Examples

@@ -11,3 +11,4 @@ pub mod Answers
 pub mod SoundSegment
 pub mod Alike
 pub mod Laws
+pub mod Promises

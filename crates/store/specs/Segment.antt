@@ -303,6 +303,10 @@ partOn p Free = noPart
 partOn p (Redirect i) = noPart
 partOn p (Target o l) = record { offset = p * 16384 + (o + 8); length = l - 8 }
 
+-- the bytes of a part
+abbrev pub held : List ℕ → Part → List ℕ
+held s a = cut s (a .offset) (a .length)
+
 -- of the id's own slot, or of the target that its redirect names
 abbrev pub partBy : SegView → ℕ → Slot → Part
 partBy s i (Ordinary o l) = partOn (pageNo i) (Ordinary o l)

@@ -13,7 +13,7 @@ use Rattle.store.specs.Inventory.{classOf, Truth}
 use Rattle.store.specs.Segment.{SegView, segView, pageOf, sizeOk, invOk}
 use Rattle.store.specs.Numbers.{pageNo, slotNo}
 use Rattle.store.specs.declared.Slot.{Slot}
-use Rattle.store.specs.declared.Slot.the-variants.{Redirect}
+use Rattle.store.specs.declared.Slot.the-variants.{Ordinary, Free, Redirect, Target}
 
 -- the slot of an id, its record's bytes, and the id that a target's record begins with
 abbrev pub slotOn : SegView → ℕ → Slot
@@ -24,6 +24,17 @@ bytesOn u i = u .page (pageNo i) .bytes (slotNo i)
 
 abbrev pub backId : SegView → ℕ → ℕ
 backId u t = be (take 8 (bytesOn u t))
+
+-- the id is that of a record: its slot is ordinary, or a redirect. A target's own id is not: it comes and goes with its target
+abbrev pub Root : Slot → Type 0
+Root (Ordinary o l) = Unit {0}
+Root Free = ⊥
+Root (Redirect t) = Unit {0}
+Root (Target o l) = ⊥
+
+pub record Rooted (s : List ℕ) (i : ℕ) : Type 0 where
+  pub below : pageNo i < length s / 16384
+  pub root : Root (slotOn (segView s) i)
 
 -- "names a target on another page below n whose back id names that redirect": t is so named by i
 pub record Names (u : SegView) (i t : ℕ) : Type 0 where

@@ -1,22 +1,25 @@
 // Document 01's sizes, the kinds of a slot's entry, and the answers of the calls: declarations alone. What they mean is defined in
 // specs/, and document 01's number of each answer stands in specs/Answers.antt.
 
-// Sizes in bytes: a page, its header, a slot's entry, and a target's id in front of its record.
-pub const PAGE: usize = 16384;
+// "page 16,384 bytes"; "an id is page × 65,536 + slot"; "new size above 16,364"; "count at most 2,046"; "n from 0 to 32,527"
+pub const PAGE_SIZE: usize = 16384;
 
+pub const IDS_A_PAGE: usize = 65536;
+
+pub const LONGEST: usize = 16364;
+
+pub const MOST_SLOTS: usize = 2046;
+
+pub const MOST_PAGES: usize = 32527;
+
+// The bytes of a page's header, of a slot's entry, and of the id in front of a target's record; what a page has beside its header.
 pub const HEADER: usize = 12;
 
 pub const ENTRY: usize = 8;
 
 pub const BACK: usize = 8;
 
-// What is left of a page beside its header, and beside the entry of its one record too: the longest record.
-pub const SPACE: usize = PAGE - HEADER;
-
-pub const LONGEST: usize = SPACE - ENTRY;
-
-// The most slots of a page.
-pub const SLOTS: usize = 2046;
+pub const ROOM: usize = PAGE_SIZE - HEADER;
 
 pub enum Slot {
     Ordinary { offset: usize, length: usize },

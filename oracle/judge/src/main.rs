@@ -57,9 +57,13 @@ fn print(counts: &Counts) {
     println!("differences outside the detected faults: 0");
 }
 
-/// An error if a step or a fault was never reached.
+/// An error if a step or a fault was never reached, or a fault noted too often though nothing differed.
 fn complete(counts: Counts) -> Result<(), String> {
-    if counts.holes().is_empty() { Ok(()) } else { Err("not everything was reached".to_string()) }
+    match counts.overnoted()[..] {
+        [] if counts.holes().is_empty() => Ok(()),
+        [] => Err("not everything was reached".to_string()),
+        ref faults => Err(format!("noted too often though nothing differed: faults {faults:?}")),
+    }
 }
 
 fn long() -> Result<(), String> {

@@ -13,6 +13,18 @@ use store::{perform, Answer, Call, Reply, Store, DONE, PAGE_SIZE};
 pub const FAULTS: usize = 15;
 const KINDS: [&str; 7] = ["insert", "allocate", "read", "write", "resize", "erase", "scan"];
 
+/// Of a thousand calls that met a fault alone, on how many the published Rust may all the same have done what the corrected does. A
+/// detector that notes its fault too often takes calls out of the comparison, and a difference could hide there.
+fn most_equal(fault: usize) -> u64 {
+    match fault {
+        // A record that compactify does not collect keeps its offset. Where it is packed already, that is its place.
+        3 => 80,
+        // Behind the directory's end can stand what looks like a free slot, of which the published Rust says that no record is there.
+        11 => 10,
+        _ => 0,
+    }
+}
+
 /// What was run, met and reached.
 #[derive(Clone, Default)]
 pub struct Counts {
@@ -29,6 +41,8 @@ pub struct Counts {
     pub met_alone: [u64; FAULTS + 1],
     pub differed: [u64; FAULTS + 1],
     pub differed_alone: [u64; FAULTS + 1],
+    /// Calls that met the fault, alone or with others, and on which nothing differed.
+    pub equal: [u64; FAULTS + 1],
     /// How the published Rust ended the calls that met a fault: done, refused, past the end,
     /// endless, panicked.
     pub endings: [u64; 5],
@@ -197,6 +211,7 @@ impl Counts {
             self.met_alone[number] += alone as u64;
             self.differed[number] += differed as u64;
             self.differed_alone[number] += (alone && differed) as u64;
+            self.equal[number] += (ended.is_some() && !differed) as u64;
         }
         if let Some(ended) = ended {
             self.endings[match ended.answer {
@@ -231,6 +246,11 @@ impl Counts {
         step.chain(fault).collect()
     }
 
+    /// Faults that were noted too often though nothing differed.
+    pub fn overnoted(&self) -> Vec<usize> {
+        (1..=FAULTS).filter(|&number| 1000 * self.equal[number] > most_equal(number) * self.met_alone[number]).collect()
+    }
+
     pub fn print(&self) {
         let sequences: u64 = self.sequences.values().sum();
         let pages: Vec<String> = self.sequences.iter().map(|(n, times)| format!("{n}: {times}")).collect();
@@ -252,12 +272,16 @@ impl Counts {
     }
 
     fn print_faults(&self) {
-        println!("fault: met, of these published and corrected differ; met alone, of these differ");
+        println!("fault: met, of these published and corrected differ; met alone, of these differ; noted though nothing differed, at most");
         for number in 1..=FAULTS {
             let (met, differed) = (self.met[number], self.differed[number]);
             let (met_alone, differed_alone) = (self.met_alone[number], self.differed_alone[number]);
-            println!("{number:5}: {met:8} {differed:8} {met_alone:8} {differed_alone:8}");
+            let (equal, most) = (self.equal[number], most_equal(number) * met_alone / 1000);
+            println!("{number:5}: {met:8} {differed:8} {met_alone:8} {differed_alone:8} {equal:8} {most:8}");
         }
+        let equal = (1..=FAULTS).filter(|&number| self.equal[number] > 0);
+        let equal: Vec<String> = equal.map(|number| format!("fault {number} {} of {}", self.equal[number], self.met[number])).collect();
+        println!("noted though nothing differed: {}", if equal.is_empty() { "none".to_string() } else { equal.join(", ") });
         let [done, refused, past, endless, panicked] = self.endings;
         println!("calls that met a fault ended in the published Rust: done {done}, no record {refused}, past the end {past}, endless {endless}, panic {panicked}");
     }

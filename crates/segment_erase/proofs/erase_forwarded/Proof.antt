@@ -7,7 +7,7 @@ use borrow.Author.Tests.{not-true, not-false}
 use Rattle.store.specs.Numbers.{pageNo, slotNo}
 use Rattle.store.specs.Slots.{isFree}
 use Rattle.store.specs.Segment.{segView, pointsBack}
-use Rattle.segment_steps.specs.After.{sizes-room, Took, left-room, erase-on-page}
+use Rattle.segment_steps.proofs.After.{sizes-room, Took, left-room, erase-on-page}
 use Rattle.segment_erase.proofs.Erased.{rootStep, targetStep, by-damaged, target-asks, both-length, target-left, root-left, by-redirect}
 use borrow.Author.Needs.{needs}
 use Rattle.segment_erase.proofs.erase_forwarded.Statement.{statement}

@@ -3,7 +3,7 @@ use denote.Ref.{now}
 use mathlib.Core.Path.{refl}
 use native.Mathlib.Omega.{arith}
 use Rattle.store.specs.Numbers.{pageNo, slotNo}
-use Rattle.segment_steps.specs.After.{sizes-room, Took, took-length, left-own, left-room, erase-on-page}
+use Rattle.segment_steps.proofs.After.{sizes-room, Took, took-length, left-own, left-room, erase-on-page}
 use Rattle.segment_erase.proofs.Erased.{rootStep, by-ordinary}
 use borrow.Author.Needs.{needs}
 use Rattle.segment_erase.proofs.erase_ordinary.Statement.{statement}

@@ -9,7 +9,7 @@ use Rattle.store.specs.Slots.{isFree}
 use Rattle.store.specs.Page.{sound}
 use Rattle.store.specs.Segment.{segView, sizeOk, invOk, result, eraseBy, eraseStep}
 use Rattle.store.specs.declared.Slot.{Slot}
-use Rattle.segment_steps.specs.After.{sizes}
+use Rattle.segment_steps.proofs.After.{sizes}
 use Rattle.segment_erase.proofs.Erased.{step-size, step-past, step-damaged, step-by, by-free, by-target}
 use borrow.Author.Needs.{needs}
 use Rattle.segment_erase.proofs.erase_record.Statement.{statement}

@@ -7,7 +7,7 @@ use Rattle.store.specs.Numbers.{fit, pageNo, slotNo}
 use Rattle.store.specs.Slots.{isFree}
 use Rattle.store.specs.PageSteps.{relocate}
 use Rattle.store.specs.Segment.{segView}
-use Rattle.store.specs.Laws.Relocate.{length-fit}
+use Rattle.store.specs.Laws.Fit.{length-fit}
 use Rattle.slotted_page.specs.Words.{wasMoved}
 use Rattle.segment_forward.proofs.Steps.{asks-update, told-so, clash, old-asks}
 use Rattle.segment_forward.proofs.Home.{home-stays, home-asks, home-length, home-left, home-old-left, home-done}

@@ -7,7 +7,7 @@ use Prim.Native.Nat.{ℕ, _+_}
 use Rattle.store.specs.Numbers.{fit, pageNo, slotNo}
 use Rattle.store.specs.Inventory.{foundIn}
 use Rattle.store.specs.Segment.{segView, find, result, forwarded}
-use Rattle.store.specs.Laws.Relocate.{length-fit}
+use Rattle.store.specs.Laws.Fit.{length-fit}
 use Rattle.segment_forward.specs.Words.{rootOrOld}
 use Rattle.segment_forward.proofs.Steps.{Asks, asks-update}
 use Rattle.segment_forward.proofs.Search.{root-alone}

@@ -6,7 +6,7 @@ use Rattle.store.specs.Numbers.{fit, pageNo}
 use Rattle.store.specs.Slots.{isFree}
 use Rattle.store.specs.Inventory.{foundIn}
 use Rattle.store.specs.Segment.{segView, find}
-use Rattle.store.specs.Laws.Relocate.{length-fit}
+use Rattle.store.specs.Laws.Fit.{length-fit}
 use Rattle.segment_forward.specs.Words.{rootOrOld}
 use Rattle.segment_forward.proofs.Steps.{asks-update, old-asks}
 use Rattle.segment_forward.proofs.Forwarded.{Placed, placed-at, again-refused, root-asks, again-asks, again-length, again-old-left}

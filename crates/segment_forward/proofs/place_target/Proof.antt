@@ -13,12 +13,12 @@ use Rattle.store.specs.Page.{sound}
 use Rattle.store.specs.PageSteps.{allocate}
 use Rattle.store.specs.Inventory.{foundIn}
 use Rattle.store.specs.Segment.{segView, pageOf}
-use Rattle.store.specs.Laws.Relocate.{length-fit}
+use Rattle.store.specs.Laws.Fit.{length-fit}
 use Rattle.store.specs.declared.Named.the-variants.{At}
 use Rattle.store.specs.declared.Place.{Place}
 use Rattle.store.specs.declared.Place.the-variants as place
 use Rattle.slotted_page.specs.Words.{pageAfter, placeOf, targetAt, Inside, PastEntry}
-use Rattle.segment_steps.specs.After.{target-length}
+use Rattle.segment_steps.proofs.After.{target-length}
 use Rattle.segment_steps.proofs.Written.{bare-whole, none-written, target-written}
 use Rattle.segment_forward.specs.Words.{rootOrOld}
 use Rattle.segment_forward.proofs.Search.{named-fits, named-short, slot-small, place-full, place-damaged, place-excluded, place-no-room}

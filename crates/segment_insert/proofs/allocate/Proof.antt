@@ -10,7 +10,7 @@ use borrow.Author.Tests.{not-true, not-false}
 use Rattle.store.specs.Inventory.{foundIn}
 use Rattle.store.specs.Segment.{sizeOk, invOk}
 use Rattle.store.specs.declared.Named.the-variants.{At}
-use Rattle.segment_steps.specs.After.{sizes}
+use Rattle.segment_steps.proofs.After.{sizes}
 use Rattle.store.specs.Numbers.{zeros}
 use Rattle.segment_insert.proofs.Placed.{allocate-size, allocate-long, allocate-is, insert-full, insert-named, named-fits, fit-none, zeros-length}
 use Rattle.segment_insert.specs.Words.{insertOn}

@@ -12,11 +12,11 @@ use Rattle.store.specs.Page.{sound}
 use Rattle.store.specs.PageSteps.{allocate}
 use Rattle.store.specs.Segment.{segView, pageOf}
 use Rattle.store.specs.Laws.Numbers.{length-put}
-use Rattle.store.specs.Laws.Relocate.{length-fit}
+use Rattle.store.specs.Laws.Fit.{length-fit}
 use Rattle.store.specs.declared.Place.{Place}
 use Rattle.store.specs.declared.Place.the-variants.{At}
 use Rattle.slotted_page.specs.Words.{pageAfter, placeOf, filledAt, Inside}
-use Rattle.segment_steps.specs.After.{sizes-room}
+use Rattle.segment_steps.proofs.After.{sizes-room}
 use Rattle.segment_steps.proofs.Written.{bare-whole, none-written, bytes-written}
 use Rattle.segment_insert.proofs.Placed.{at-damaged, at-stale, slot-small, free-small, at-done}
 use borrow.Author.Needs.{needs}

@@ -11,7 +11,7 @@ use Rattle.store.specs.Inventory.{foundIn}
 use Rattle.store.specs.Segment.{sizeOk, invOk}
 use Rattle.store.specs.declared.Named.the-variants.{At}
 use Rattle.slotted_page.specs.Plans.{fit-all}
-use Rattle.segment_steps.specs.After.{sizes}
+use Rattle.segment_steps.proofs.After.{sizes}
 use Rattle.segment_insert.specs.Words.{insertOn}
 use Rattle.segment_insert.proofs.Placed.{insert-size, insert-long, insert-full, insert-named, named-fits}
 use borrow.Author.Needs.{needs}

@@ -1,37 +1,32 @@
 -- `segment_pages::points_back` meets its contract.
-use Prim.Native.Nat.{_/_, _<_}
+use Prim.Native.Nat.{_/_, _*_, _+_, _≤_, _<_}
+use mathlib.Core.Path.{_≡_, sym, _∙_}
+use mathlib.Core.Bool.{true}
 use mathlib.Core.Logic.{_≢_}
-use lib.ListN.{length}
-use Rattle.store.specs.Numbers.{pageNo}
-use Rattle.store.specs.Page.{sound}
-use Rattle.store.specs.Segment.{segView, pointsBack}
-use mathlib.Core.Path.{_≡_, sym, ap, _∙_}
-use mathlib.Core.Bool.{true, false}
 use native.Mathlib.Omega.{arith}
+use lib.ListN.{length}
 use denote.Ref.{now}
 use borrow.Author.Tests.{not-true, not-false}
-use Rattle.store.specs.Slots.{isTarget}
+use Rattle.store.specs.Numbers.{pageNo}
+use Rattle.store.specs.Page.{sound}
+use Rattle.store.specs.Segment.{segView}
+use Rattle.segment_pages.proofs.Seen.{few-slots, not-target}
 use Rattle.segment_pages.proofs.Back.{back-past, back-home, back-damaged, back-other, target-inside, back-target}
 use borrow.Author.Needs.{needs}
 use Rattle.segment_pages.proofs.points_back.Statement.{statement}
 use Rattle.segment_pages.proofs.points_back.Tie as tie
 
--- what the tests before the `match` told
-at-slot : (c : tie.After-slot-on)
-    → let a = c .before .before .before .before .before .before .args in
-    (pageNo (a .t) < length (now (a .segment)) / 16384) × (pageNo (a .t) ≢ pageNo (a .i)) × (sound (segView (now (a .segment)) .page (pageNo (a .t))) ≡ true)
-at-slot c =
-    let u = c .before .before .before in
-    let e : c .before .before .page-sound .result ≡ true = not-false _ (c .before .if3 .left) in
-    (u .before .if1 .left, u .if2 .left, sym (c .before .before .page-sound .ensures .0) ∙ e)
+-- the code's places: where the page was found sound, and the function's start
+abbrev start : tie.Else3 → tie.Start
+start c = c .before .before .before .before .before
 
-other : (c : tie.After-slot-on) → isTarget (c .slot-on .result) ≡ false
-    → let a = c .before .before .before .before .before .before .args in
-    false ≡ pointsBack (segView (now (a .segment))) (a .i) (a .t)
-other c n =
-    let a = c .before .before .before .before .before .before .args in
-    let w = at-slot c in
-    back-other (now (a .segment)) (a .i) (a .t) (w .0) (w .1) (w .2) _ (c .slot-on .ensures .0) n
+-- what the tests told by then
+told : (c : tie.Else3)
+    → let a = start c .args in
+    (pageNo (a .t) < length (now (a .segment)) / 16384) × (pageNo (a .t) ≢ pageNo (a .i)) × (sound (segView (now (a .segment)) .page (pageNo (a .t))) ≡ true)
+told c =
+    let away = c .before .before in
+    (away .before .if1 .left, away .if2 .left, sym (c .before .page-sound .ensures) ∙ not-false _ (c .if3 .left))
 
 returns : tie.Need-returns
 returns c =
@@ -48,49 +43,45 @@ page-sound-requires c κs = search needs
 
 returns-3 : tie.Need-returns-3
 returns-3 c =
-    let u = c .before .before in
-    let a = u .before .before .before .args in
-    let e : c .before .page-sound .result ≡ false = not-true _ (c .if3 .taken) in
-    back-damaged (now (a .segment)) (a .i) (a .t) (u .before .if1 .left) (u .if2 .left) (sym (c .before .page-sound .ensures .0) ∙ e)
+    let away = c .before .before in
+    let a = away .before .before .before .args in
+    back-damaged (now (a .segment)) (a .i) (a .t) (away .before .if1 .left) (away .if2 .left)
+    (sym (c .before .page-sound .ensures) ∙ not-true _ (c .if3 .taken))
 
 slot-on-requires : tie.Need-slot-on-requires
-slot-on-requires c κs = search needs
+slot-on-requires c κs =
+    let a = start c .args in
+    let s = now (a .segment) in
+    let t = told c in
+    let inside : pageNo (a .t) * 16384 + 16384 ≤ length s = omega (arith, t .0) in
+    (inside, few-slots s (pageNo (a .t)) inside (t .2))
 
-enum-told : tie.Need-enum-told
-enum-told c = search needs
+enum-known-offset : tie.Need-enum-known-offset
+enum-known-offset c = search needs
 
-enum-told-2 : tie.Need-enum-told-2
-enum-told-2 c = search needs
-
-enum-told-3 : tie.Need-enum-told-3
-enum-told-3 c = search needs
-
-enum-known-s : tie.Need-enum-known-s
-enum-known-s c = search needs
+returns-4 : tie.Need-returns-4
+returns-4 c =
+    let found = c .before .before in
+    let a = start found .args in
+    let t = told found in
+    back-other (now (a .segment)) (a .i) (a .t) (t .0) (t .1) (t .2) _ (c .before .slot-on .ensures .0)
+    (not-target (c .before .slot-on .result) (c .match .keys2))
 
 back-id-on-requires : tie.Need-back-id-on-requires
 back-id-on-requires c κs =
-    let m = c .before .before .before in
-    let a = m .before .before .before .before .before .before .args in
-    let w = at-slot m in
-    let h = target-inside (now (a .segment)) (a .i) (a .t) (w .0) (w .1) (w .2) _ _ (sym (c .before .s .given .1) ∙ m .slot-on .ensures .0) in
-    (omega arith, omega arith)
-
-returns-4 : tie.Need-returns-4
-returns-4 c = other (c .before .before) (ap isTarget (c .enum-told .given .1))
+    let slot = c .before .before .before in
+    let a = start (slot .before) .args in
+    let t = told (slot .before) in
+    let w = target-inside (now (a .segment)) (a .i) (a .t) (t .0) (t .1) (t .2) _ _ (sym (c .before .offset .given .1) ∙ slot .slot-on .ensures .0) in
+    (omega (arith, t .0), omega (arith, w .0, w .1))
 
 returns-5 : tie.Need-returns-5
-returns-5 c = other (c .before .before) (ap isTarget (c .enum-told2 .given .1))
-
-returns-6 : tie.Need-returns-6
-returns-6 c = other (c .before .before) (ap isTarget (c .enum-told3 .given .1))
-
-returns-7 : tie.Need-returns-7
-returns-7 c =
-    let m = c .before .before .before .before in
-    let a = m .before .before .before .before .before .before .args in
-    let w = at-slot m in
-    back-target (now (a .segment)) (a .i) (a .t) (w .0) (w .1) (w .2) _ _ (sym (c .before .before .s .given .1) ∙ m .slot-on .ensures .0) _
+returns-5 c =
+    let known = c .before .before in
+    let slot = known .before .before in
+    let a = start (slot .before) .args in
+    let t = told (slot .before) in
+    back-target (now (a .segment)) (a .i) (a .t) (t .0) (t .1) (t .2) _ _ (sym (known .offset .given .1) ∙ slot .slot-on .ensures .0) _
     (c .back-id-on .ensures)
 
 pub points-back-spec : {M : Type 1} → statement M
@@ -102,12 +93,7 @@ points-back-spec =
     page-sound-requires
     returns-3
     slot-on-requires
-    enum-told
-    enum-told-2
-    enum-told-3
-    enum-known-s
-    back-id-on-requires
+    enum-known-offset
     returns-4
-    returns-5
-    returns-6
-    returns-7)
+    back-id-on-requires
+    returns-5)

@@ -2,53 +2,36 @@
 use mathlib.Core.Path.{sym, ap, _∙_}
 use mathlib.Core.List.{List}
 use Prim.Native.Nat.{ℕ}
+use native.Mathlib.Omega.{arith}
+use lib.ListN.{length}
 use denote.Ref.{now}
 use Rattle.store.specs.Page.{view}
-use Rattle.store.specs.Laws.Segments.{lent-part}
-use Rattle.segment_pages.proofs.Seen.{seen-at}
+use Rattle.store.specs.Laws.Segments.{length-page}
+use Rattle.segment_pages.proofs.Seen.{seen-count, seen-at}
 use borrow.Author.Needs.{needs}
 use Rattle.segment_pages.proofs.slot_on.Statement.{statement}
 use Rattle.segment_pages.proofs.slot_on.Tie as tie
 
-mul-slot-of-page : tie.Need-mul-slot-of-page
-mul-slot-of-page c = search needs
+page-of-requires : tie.Need-page-of-requires
+page-of-requires c κs = search needs
 
-add-slot-of-page : tie.Need-add-slot-of-page
-add-slot-of-page c = search needs
-
-mul-slot-of-page-2 : tie.Need-mul-slot-of-page-2
-mul-slot-of-page-2 c = search needs
-
-sub-slot-of-page : tie.Need-sub-slot-of-page
-sub-slot-of-page c = search needs
-
-part-slot-of-page-start : tie.Need-part-slot-of-page-start
-part-slot-of-page-start c = search needs
-
-part-slot-of-page-end : tie.Need-part-slot-of-page-end
-part-slot-of-page-end c = search needs
-
-slot-of-page-requires : tie.Need-slot-of-page-requires
-slot-of-page-requires c κs = search needs
+slot-of-requires : tie.Need-slot-of-requires
+slot-of-requires c κs =
+    let entry = c .before .before in
+    let s = now (entry .args .segment) in
+    let p = entry .args .p in (
+      ap length (c .page-of .ensures) ∙ length-page s p (entry .pre .0),
+      omega (arith, ap (λ (q : List ℕ). view q .slotCount) (c .page-of .ensures), seen-count s p (entry .pre .0), entry .pre .1),
+    )
 
 returns : tie.Need-returns
 returns c =
-    let a = c .before .before .before in
-    let s = now (a .args .segment) in
-    let k = a .args .k in (
-      c .slot-of-page .ensures .0 ∙ ap (λ (q : List ℕ). view q .at k) (lent-part s (a .args .p)) ∙ sym (seen-at s (a .args .p) (a .pre) k),
-      c .slot-of-page .ensures .1,
+    let entry = c .before .before .before in
+    let s = now (entry .args .segment) in
+    let k = entry .args .k in (
+      c .slot-of .ensures .0 ∙ ap (λ (q : List ℕ). view q .at k) (c .before .page-of .ensures) ∙ sym (seen-at s (entry .args .p) (entry .pre .0) k),
+      c .slot-of .ensures .1,
     )
 
 pub slot-on-spec : {M : Type 1} → statement M
-slot-on-spec =
-    tie.close
-    (tie.spec
-    mul-slot-of-page
-    add-slot-of-page
-    mul-slot-of-page-2
-    sub-slot-of-page
-    part-slot-of-page-start
-    part-slot-of-page-end
-    slot-of-page-requires
-    returns)
+slot-on-spec = tie.close (tie.spec page-of-requires slot-of-requires returns)

@@ -3,7 +3,7 @@ use denote.Ref.{now}
 use Rattle.store.specs.Page.{View, view}
 use Rattle.store.specs.PageSteps.{erase}
 use Rattle.store.specs.Laws.Calls.{page-ok}
-use Rattle.segment_steps.specs.Lent.{lent-taken, lent-plan}
+use Rattle.segment_steps.proofs.Lent.{lent-taken, lent-plan}
 use borrow.Author.Needs.{needs}
 use Rattle.segment_steps.proofs.erase_on.Statement.{statement}
 use Rattle.segment_steps.proofs.erase_on.Tie as tie
@@ -29,7 +29,7 @@ part-erase-end c = search needs
 erase-requires : tie.Need-erase-requires
 erase-requires c κs =
     let z = c .before .before in
-    lent-taken (now (z .args .segment)) (z .args .p) (z .args .k) (z .pre .0) (z .pre .1) (z .pre .2)
+    lent-taken (now (z .args .segment)) (z .args .p) (z .args .k) (z .pre)
 
 same-length : tie.Need-same-length
 same-length c = search needs
@@ -38,8 +38,8 @@ returns : tie.Need-returns
 returns c =
     let z = c .before .before .before .before .before in
     let s = now (z .args .segment) in
-    let o = page-ok s (z .args .p) (z .args .k) (z .pre .0) (z .pre .1) (z .pre .2) in
-    lent-plan s (z .args .p) (z .pre .0) view (o .seen) (λ (v : View). erase v (z .args .k)) (c .before .before .erase .last .0)
+    let o = page-ok s (z .args .p) (z .args .k) (z .pre .whole) (z .pre .sound) (z .pre .taken) in
+    lent-plan s (z .args .p) (z .pre .whole) view (o .seen) (λ (v : View). erase v (z .args .k)) (c .before .before .erase .last .0)
     (c .before .before .erase .ensures)
 
 pub erase-on-spec : {M : Type 1} → statement M

@@ -5,7 +5,7 @@ use Prim.Native.Nat.{_+_}
 use lib.ListN.{drop}
 use Rattle.store.specs.Numbers.{toBE, fit}
 use Rattle.store.specs.Page.{View}
-use Rattle.segment_steps.specs.Lent.{lent-taken, lent-moved}
+use Rattle.segment_steps.proofs.Lent.{lent-taken, lent-moved}
 use borrow.Author.Needs.{needs}
 use Rattle.segment_steps.proofs.resize_target_on.Statement.{statement}
 use Rattle.segment_steps.proofs.resize_target_on.Tie as tie
@@ -31,8 +31,7 @@ part-resize-target-end c = search needs
 resize-target-requires : tie.Need-resize-target-requires
 resize-target-requires c κs =
     let z = c .before .before in
-    let o = lent-taken (now (z .args .segment)) (z .args .p) (z .args .k) (z .pre .0) (z .pre .1) (z .pre .2) in
-    (o .0, o .1, o .2, z .pre .3)
+    (lent-taken (now (z .args .segment)) (z .args .p) (z .args .k) (z .pre .0), z .pre .1)
 
 same-length : tie.Need-same-length
 same-length c = search needs
@@ -41,7 +40,7 @@ returns : tie.Need-returns
 returns c =
     let z = c .before .before .before .before .before in
     let x = c .before .before .resize-target in
-    lent-moved (now (z .args .segment)) (z .args .p) (z .args .k) (z .pre .0) (z .pre .1) (z .pre .2) (z .args .size + 8)
+    lent-moved (now (z .args .segment)) (z .args .p) (z .args .k) (z .pre .0) (z .args .size + 8)
     (λ (v : View). toBE 8 (z .args .id) ++ fit (z .args .size) (drop 8 (v .bytes (z .args .k)))) (x .last .0) _ (x .ensures)
 
 pub resize-target-on-spec : {M : Type 1} → statement M

@@ -5,7 +5,7 @@ use Prim.Native.Nat.{_+_}
 use lib.ListN.{length}
 use Rattle.store.specs.Numbers.{toBE}
 use Rattle.store.specs.Page.{View}
-use Rattle.segment_steps.specs.Lent.{lent-taken, lent-moved}
+use Rattle.segment_steps.proofs.Lent.{lent-taken, lent-moved}
 use borrow.Author.Needs.{needs}
 use Rattle.segment_steps.proofs.rewrite_target_on.Statement.{statement}
 use Rattle.segment_steps.proofs.rewrite_target_on.Tie as tie
@@ -31,8 +31,7 @@ part-rewrite-target-end c = search needs
 rewrite-target-requires : tie.Need-rewrite-target-requires
 rewrite-target-requires c κs =
     let z = c .before .before .before in
-    let o = lent-taken (now (z .args .segment)) (z .args .p) (z .args .k) (z .pre .0) (z .pre .1) (z .pre .2) in
-    (o .0, o .1, o .2, z .pre .3)
+    (lent-taken (now (z .args .segment)) (z .args .p) (z .args .k) (z .pre .0), z .pre .1)
 
 same-length : tie.Need-same-length
 same-length c = search needs
@@ -41,7 +40,7 @@ returns : tie.Need-returns
 returns c =
     let z = c .before .before .before .before .before .before in
     let x = c .before .before .rewrite-target in
-    lent-moved (now (z .args .segment)) (z .args .p) (z .args .k) (z .pre .0) (z .pre .1) (z .pre .2) (length (now (z .args .bytes)) + 8)
+    lent-moved (now (z .args .segment)) (z .args .p) (z .args .k) (z .pre .0) (length (now (z .args .bytes)) + 8)
     (λ (v : View). toBE 8 (z .args .id) ++ now (z .args .bytes)) (x .last .0) _ (x .ensures)
 
 pub rewrite-target-on-spec : {M : Type 1} → statement M

@@ -3,7 +3,7 @@ use denote.Ref.{now}
 use Rattle.store.specs.Page.{View, view}
 use Rattle.store.specs.Laws.Calls.{page-ok}
 use Rattle.slotted_page.specs.Words.{redirectPlan}
-use Rattle.segment_steps.specs.Lent.{lent-entry, lent-plan}
+use Rattle.segment_steps.proofs.Lent.{lent-entry, lent-plan}
 use borrow.Author.Needs.{needs}
 use Rattle.segment_steps.proofs.set_redirect_on.Statement.{statement}
 use Rattle.segment_steps.proofs.set_redirect_on.Tie as tie
@@ -29,7 +29,7 @@ part-set-redirect-end c = search needs
 set-redirect-requires : tie.Need-set-redirect-requires
 set-redirect-requires c κs =
     let z = c .before .before in
-    (lent-entry (now (z .args .segment)) (z .args .p) (z .args .k) (z .pre .0) (z .pre .1) (z .pre .2), z .pre .3)
+    (lent-entry (now (z .args .segment)) (z .args .p) (z .args .k) (z .pre .0), z .pre .1)
 
 same-length : tie.Need-same-length
 same-length c = search needs
@@ -39,8 +39,8 @@ returns c =
     let z = c .before .before .before .before .before in
     let x = c .before .before .set-redirect in
     let s = now (z .args .segment) in
-    let o = page-ok s (z .args .p) (z .args .k) (z .pre .0) (z .pre .1) (z .pre .2) in
-    lent-plan s (z .args .p) (z .pre .0) view (o .seen) (λ (v : View). redirectPlan v (z .args .k) (z .args .id)) (x .last .0) (x .ensures)
+    let o = page-ok s (z .args .p) (z .args .k) (z .pre .0 .whole) (z .pre .0 .sound) (z .pre .0 .taken) in
+    lent-plan s (z .args .p) (z .pre .0 .whole) view (o .seen) (λ (v : View). redirectPlan v (z .args .k) (z .args .id)) (x .last .0) (x .ensures)
 
 pub set-redirect-on-spec : {M : Type 1} → statement M
 set-redirect-on-spec =

@@ -10,24 +10,21 @@ use native.Mathlib.Decide.{ℕ-discrete, decLt}
 use lib.ListN.{length, getD}
 use lib.Dec.{eqb, ltb, leb}
 use borrow.Author.Tests.{le-ltb, eqb-true, ne-eqb}
-use Rattle.store.specs.Numbers.{cut, put, be, pageNo, slotNo}
+use Rattle.store.specs.Numbers.{cut, put, be}
 use Rattle.store.specs.Slots.{off, slotBytes, slotOf}
 use Rattle.store.specs.Page.{View, view, count, slotAt, bytesAt, fresh, sound}
 use Rattle.store.specs.PageSteps.{initialised, opened, Edit, head, move, commit, fill, apply, run, Plan, headBytes, putHead, putSlot, putBytes, plan}
-use Rattle.store.specs.Inventory.{Truth}
-use Rattle.store.specs.Segment.{SegView, segView, pageOf, OnPage, Out, result, carried, carriedOn, step, sizeOk, Read, noPart, partBy, locateStep}
+use Rattle.store.specs.Segment.{SegView, segView, pageOf, OnPage, Out, result, carried, carriedOn, step, sizeOk, Read}
 use Rattle.store.specs.Laws.Numbers.{length-put, cut-same, cut-take}
-use Rattle.store.specs.Laws.SoundPage.{sound-test}
 use Rattle.store.specs.Laws.Exact.{length-apply, length-run}
 use Rattle.store.specs.Laws.Segments.{AllExact, length-page, page-same, page-other, carried-on}
 use Rattle.store.specs.Laws.Calls.{by-test}
 use Rattle.store.specs.Laws.Changes.{Writes, Headed}
-use Rattle.store.specs.Laws.AlikeByKind.{Exacting, planOf, called-plan, call-exacting, same-call, read-same, scan-same}
-use Rattle.store.specs.Calls.{Call, called, results}
-use Rattle.store.specs.Alike.{AlikePage, both-fresh, both-used, Alike, AlikeToRead, AlikeByKind, Same, AllSame}
-use Rattle.store.specs.SoundSegment.{classes, Paired, SoundSegment}
+use Rattle.store.specs.Laws.Plans.{Exacting}
+use Rattle.store.specs.Alike.{AlikePage, both-fresh, both-used, Alike, AlikeByKind}
+use Rattle.store.specs.SoundSegment.{SoundSegment}
 use Rattle.store.specs.Laws.Stays.{StepOk, AllSteps}
-use Rattle.store.specs.Laws.SoundSegment.{page-past, sound-closed, seen-sound, seen-page, Sized, sized, Staying, rowOf, call-staying, call-right}
+use Rattle.store.specs.Laws.SoundSegment.{page-past, seen-sound, seen-page, Sized, sized, Staying}
 use Rattle.store.specs.declared.Slot.the-variants.{Free}
 
 -- ---- the same edits on two pages: a part that is equal stays equal, and one that is written becomes so
@@ -255,25 +252,9 @@ alike-seen s t z h =
         (both-fresh (ap (λ (q : List ℕ). fresh (view q)) (page-past s p (omega arith) (z .whole)))
         (ap (λ (q : List ℕ). fresh (view q)) (page-past t p (omega (arith, past)) whole)))
 
--- of two such segments, with one inventory, both are sound
-pub like-sound : (s t v : List ℕ) → SoundSegment s v → Alike s t → SoundSegment t v
-like-sound s t v h l =
-    let a = alike-seen s t (sized s (h .whole)) l in
-    let n : length s / 16384 ≡ length t / 16384 = ap (λ (m : ℕ). m / 16384) (l .long) in
-    record {
-      whole = ap (λ (m : ℕ). eqb (m % 16384) 0 && leb (m / 16384) 32527) (sym (l .long)) ∙ h .whole;
-      page = h .page;
-      pages = λ p k.
-          sound-closed (view (pageOf t p))
-          (ap sound (sym (seen-page t p) ∙ ap (λ (u : SegView). u .page p) (sym (a .seen))) ∙ sound-test (segView s .page p) (seen-sound s v h .sounds p));
-      pairs = subst Paired (a .seen) (h .pairs);
-      inventory = subst (λ (m : ℕ). Truth (classes (segView t)) m v) n
-          (subst (λ (u : SegView). Truth (classes u) (length s / 16384) v) (a .seen) (h .inventory));
-    }
+-- ---- one plan, on two segments that are alike
 
--- ---- demand 3
-
-plan-like : (plan : SegView → Out) (w : SegView → Read) (s t v : List ℕ) → Exacting plan → Staying plan w v → SoundSegment s v → Alike s t
+pub plan-like : (plan : SegView → Out) (w : SegView → Read) (s t v : List ℕ) → Exacting plan → Staying plan w v → SoundSegment s v → Alike s t
     → Alike (step s v (plan (segView s)) .seg) (step t v (plan (segView t)) .seg)
 unfolding result
 plan-like plan w s t v x k h l =
@@ -284,37 +265,3 @@ plan-like plan w s t v x k h l =
     (subst (λ (u : SegView). Alike (carried (plan (segView s) .steps) s) (carried (plan u .steps) t)) (a .seen)
     (carried-like (plan (segView s) .steps) s t (x s (z .few))
     (subst (λ (u : SegView). AllExact t (plan u .steps)) (sym (a .seen)) (x t (sized t wt .few))) (k s (seen-sound s v h) .steps) l))
-
--- a call
-pub call-alike : (c : Call) (s t v : List ℕ) → SoundSegment s v → Alike s t → Same Alike (called c s v) (called c t v)
-call-alike c s t v h l =
-    let y = same-call c s t v (alike-seen s t (sized s (h .whole)) l) in
-    record {
-      answer = y .answer;
-      id = y .id;
-      inv = y .inv;
-      seg = rw (called-plan c s v, called-plan c t v) (plan-like (planOf c v) (rowOf c) s t v (call-exacting c v) (call-staying c v) h l);
-    }
-
--- reads, the places of what they read, and scans
-locate-same : (s t v : List ℕ) → AlikeByKind s t → (i : ℕ) → locateStep s i ≡ locateStep t i
-unfolding locateStep
-locate-same s t v a i =
-    let r = read-same s t v a i in
-    λ x. record { answer = r x .answer; part = cond (eqb (r x .answer) 0) (partBy (a .seen x) i (a .seen x .page (pageNo i) .at (slotNo i))) noPart }
-
-pub read-alike : (s t v : List ℕ) → SoundSegment s v → Alike s t → AlikeToRead s t
-read-alike s t v h l =
-    let a = alike-seen s t (sized s (h .whole)) l in
-    record { alike = l; reads = λ i. read-same s t v a i; places = λ i. locate-same s t v a i; scans = λ p k. scan-same s t v a p k }
-
--- any sequence of calls, and every read and scan between them
-pub demand-3 : (cs : List Call) (s t v w : List ℕ) → SoundSegment s v → Alike s t → v ≡ w → AllSame AlikeToRead (results cs s v) (results cs t w)
-demand-3 [] s t v w h l e = tt
-demand-3 (c ∷ cs) s t v w h l e =
-    let y = call-alike c s t v h l in
-    let sound = call-right c s v h .sound in
-    subst (λ (x : List ℕ). AllSame AlikeToRead (results (c ∷ cs) s v) (results (c ∷ cs) t x)) e (
-      record { answer = y .answer; id = y .id; inv = y .inv; seg = read-alike (called c s v .seg) (called c t v .seg) (called c s v .inv) sound (y .seg) },
-      demand-3 cs (called c s v .seg) (called c t v .seg) (called c s v .inv) (called c t v .inv) sound (y .seg) (y .inv),
-    )

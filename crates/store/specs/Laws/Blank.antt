@@ -1,5 +1,5 @@
--- Bytes all zero are a sound segment and its inventory: what calls can start from.
-use Prim.Native.Nat.{ℕ, zero, suc, _+_, _*_, _/_, _%_, _≤_}
+-- A segment of no page is sound with an inventory all zero.
+use Prim.Native.Nat.{ℕ, zero, suc, _+_, _*_, _/_, _%_}
 use mathlib.Core.Path.{_≡_, refl, sym, ap, _∙_}
 use mathlib.Core.List.{List, [], _∷_, reverse, reverseAux}
 use native.Mathlib.Omega.{arith}
@@ -10,7 +10,7 @@ use Rattle.store.specs.Numbers.{cut, zeros}
 use Rattle.store.specs.Inventory.{nibbleAt, nibble, halfOf, entryAt}
 use Rattle.store.specs.Segment.{segView}
 use Rattle.store.specs.SoundSegment.{classes, SoundSegment}
-use Rattle.store.specs.Laws.Grown.{AllZero, zero-zeros, zero-take, zero-drop, zero-be, either, grown-sound}
+use Rattle.store.specs.Laws.Grown.{AllZero, zero-zeros, zero-take, zero-drop, zero-be, either}
 
 -- ---- an inventory of zeros
 
@@ -34,9 +34,9 @@ entry-zero c =
     (zero-reverse (cut (zeros 16384) (8 * c) 8) []
     (zero-take 8 (drop (8 * c) (zeros 16384)) (zero-drop [] (zeros 16384) (zero-zeros 16384) (8 * c) (omega arith))) tt)
 
--- ---- a segment of no page, and what it grows to
+-- ---- a segment of no page
 
-none-sound : SoundSegment [] (zeros 16384)
+pub none-sound : SoundSegment [] (zeros 16384)
 unfolding segView
 none-sound =
     record {
@@ -52,6 +52,3 @@ none-sound =
   where
     no-class : (p : ℕ) → classes (segView []) p ≡ 0
     no-class p = rw (le-ltb p 0 (omega arith))
-
-pub blank-sound : (n : ℕ) → n ≤ 32527 → SoundSegment (zeros (n * 16384)) (zeros 16384)
-blank-sound n few = grown-sound [] (zeros 16384) none-sound n (omega arith)

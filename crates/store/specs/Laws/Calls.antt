@@ -7,7 +7,7 @@ use mathlib.Core.Logic.{_≢_}
 use native.Mathlib.Omega.{arith}
 use lib.ListN.{length, take, drop, length-append}
 use lib.Dec.{ltb, eqb}
-use borrow.Author.Tests.{le-ltb, ltb-true, eqb-true, eqb-false}
+use borrow.Author.Tests.{le-ltb, ltb-true, ltb-false, eqb-true, eqb-false, not-true, not-false}
 use native.Mathlib.Decide.{decLt}
 use Rattle.store.specs.Numbers.{cut, be, toBE, pageNo, slotNo, idOf}
 use Rattle.store.specs.Slots.{off, len, isFree, isTarget}
@@ -20,27 +20,20 @@ use Rattle.store.specs.Segment.{segView, pageOf, on, done, refuse, Found
 use Rattle.store.specs.Segment.{insertPlan, pointsBack, eraseBy, erasePlan, targeted, forwarded, fromOrdinary, forwardedAgain, atTarget, atHome}
 use Rattle.store.specs.Segment.{fromRedirect, storeBy, storePlan}
 use Rattle.store.specs.Laws.Roots.{by-root}
+use Rattle.store.specs.Laws.Lent.{Within}
 pub use Rattle.store.specs.Laws.Cases.{by-test}
-use Rattle.store.specs.Laws.Cases.{tests}
+use Rattle.store.specs.Laws.Cases.{or-false, tests}
 use Rattle.store.specs.Laws.Edits.{Shows, shows-view}
 use Rattle.store.specs.Laws.Views.{Sound, upd-same, numbers}
 use Rattle.store.specs.Laws.Exact.{Exact, erase-exact, exact-then}
 use Rattle.store.specs.Laws.OneSlot.{same-cost, roomed, alloc-exact, redirect-exact}
 use Rattle.store.specs.Laws.Relocate.{fill-exact, retype-exact, relocate-answer, Answered}
-use Rattle.store.specs.Laws.SoundPage.{sound-page, sound-init, not-true, and-both}
+use Rattle.store.specs.Laws.SoundPage.{sound-page, sound-init, and-both}
 use Rattle.store.specs.declared.Named.{Named}
 use Rattle.store.specs.declared.Named.the-variants.{At, Full}
 use Rattle.store.specs.Laws.Segments.{ExactOn, AllExact, length-page, two-exact, three-exact}
 use Rattle.store.specs.declared.Slot.{Slot}
 use Rattle.store.specs.declared.Slot.the-variants.{Ordinary, Free, Redirect, Target}
-
-pub not-false : (b : Bool) → not b ≡ false → b ≡ true
-not-false true e = refl
-not-false false e = sym e
-
-or-false : (a b : Bool) → (a || b) ≡ false → (a ≡ false) × (b ≡ false)
-or-false true b e = let z : _≡_ {A = ℕ} 0 1 = cc in absurd (omega arith)
-or-false false b e = (refl, e)
 
 pub page-below : (s : List ℕ) (p : ℕ) → p < segView s .pages → p * 16384 + 16384 ≤ length s
 unfolding segView
@@ -100,17 +93,39 @@ found-ok : (s : List ℕ) (n : ℕ) (ex : ℕ → Bool) (p : ℕ) (a : Alloc) �
 found-ok s n ex p noRoom h x o = tt
 found-ok s n ex p (got k a) h x o = (h, o .0, o .1, o .2, o .3, x)
 
+-- what is told by the inventory's naming page p for a need
+pub record Tells (v : List ℕ) (n need p : ℕ) : Type 0 where
+  pub most : need ≤ 16372
+  pub below : p < n
+  pub entry : entryAt v (entryFor need) ≡ p
+
+pub named-tells : (v : List ℕ) (n need p : ℕ) → foundIn v n need ≡ At p → Tells v n need p
+unfolding foundIn
+named-tells v n need p = go (ltb 16372 need) refl (ltb e n) refl
+  where
+    e : ℕ
+    e = entryAt v (entryFor need)
+
+    go : (b : Bool) → ltb 16372 need ≡ b → (c : Bool) → ltb e n ≡ c → cond b Full (cond c (At e) Full) ≡ At p → Tells v n need p
+    go true b c d h = let z : _≡_ {A = ℕ} 0 1 = cc in absurd (omega arith)
+    go false b false d h = let z : _≡_ {A = ℕ} 0 1 = cc in absurd (omega arith)
+    go false b true d h = let q : e ≡ p = cc in record { most = ltb-false 16372 need b; below = omega (arith, ltb-true e n d); entry = q }
+
+-- its bytes are there
+pub named-within : (s v : List ℕ) (need p : ℕ) → foundIn v (length s / 16384) need ≡ At p → Within s p
+named-within s v need p e = omega (arith, named-tells v (length s / 16384) need p e .below)
+
 -- the page that the inventory names is one of the segment's
 abbrev pub NamedOk : ℕ → Named → Type 0
 NamedOk n (At p) = p < n
 NamedOk n Full = Unit {0}
 
 pub named-ok : (v : List ℕ) (n need : ℕ) → NamedOk n (foundIn v n need)
-unfolding foundIn
-named-ok v n need =
-    let e : ℕ = entryAt v (entryFor need) in
-    by-test (NamedOk n) (ltb 16372 need) Full (cond (ltb e n) (At e) Full) (λ t. tt)
-    (λ t. by-test (NamedOk n) (ltb e n) (At e) Full (λ l. ltb-true e n l) (λ l. tt))
+named-ok v n need = go (foundIn v n need) refl
+  where
+    go : (m : Named) → foundIn v n need ≡ m → NamedOk n m
+    go Full e = tt
+    go (At p) e = named-tells v n need p e .below
 
 pub find-ok : (s v : List ℕ) (n : ℕ) (excluded : ℕ → Bool) → FoundOk s n excluded (find foundIn (segView s) v n excluded)
 unfolding find segView

@@ -74,7 +74,7 @@ placed-is (Target o l) d n e = record {
   taken = λ q. let z : _≡_ {A = ℕ} 0 1 = cc in omega arith;
 }
 
-record-taken : (s : Slot) → isRecord s ≡ true → isFree s ≡ false
+pub record-taken : (s : Slot) → isRecord s ≡ true → isFree s ≡ false
 record-taken (Ordinary o l) e = refl
 record-taken Free e = sym e
 record-taken (Redirect i) e = refl

@@ -1,4 +1,4 @@
--- How a store grows: a sound segment with zero pages behind it is sound with the same inventory, and every id of its pages reads as before.
+-- A sound segment with zero pages behind it: the same is seen of each page, and there are more of them.
 use Prim.Native.Nat.{ℕ, zero, suc, _+_, _*_, _/_, _%_, _≤_, _<_}
 use mathlib.Core.Path.{_≡_, refl, sym, ap, _∙_, subst}
 use mathlib.Core.Bool.{Bool, true, false, cond}
@@ -8,21 +8,16 @@ use native.Mathlib.Decide.{decLt}
 use lib.ListN.{length, take, drop, length-append, length-drop, length-replicate}
 use lib.Seq.{take-append-le, drop-append-le}
 use lib.Dec.{ltb}
-use borrow.Author.Tests.{eq-eqb, lt-ltb, le-ltb, le-leb}
+use borrow.Author.Tests.{eq-eqb, lt-ltb, le-ltb}
 use Rattle.store.specs.Numbers.{cut, be, zeros, pageNo, slotNo}
 use Rattle.store.specs.Slots.{isFree}
-use Rattle.store.specs.Page.{View, view, count, sound}
+use Rattle.store.specs.Page.{View, view, count}
 use Rattle.store.specs.PageSteps.{initialised, opened}
-use Rattle.store.specs.Inventory.{Lowest, Truth}
-use Rattle.store.specs.Segment.{SegView, segView, pageOf, noRead, readStep}
-use Rattle.store.specs.SoundSegment.{slotOn, bytesOn, Paired, nibbleOf, classes, SoundSegment}
-use Rattle.store.specs.Laws.Slots.{tag}
-use Rattle.store.specs.Laws.SoundPage.{sound-test}
+use Rattle.store.specs.Inventory.{Lowest}
+use Rattle.store.specs.Segment.{SegView, segView, pageOf}
+use Rattle.store.specs.SoundSegment.{slotOn, Paired, nibbleOf, classes, SoundSegment}
 use Rattle.store.specs.Laws.Calls.{target-taken}
-use Rattle.store.specs.Laws.Pairs.{tagOn, look}
-use Rattle.store.specs.Laws.SoundSegment.{page-past, sized, seen-sound, seen-page, seen-pages, sound-closed}
-use Rattle.store.specs.Laws.ReadAfterWrite.{read-look}
-use Rattle.store.specs.declared.Slot.{Slot}
+use Rattle.store.specs.Laws.SoundSegment.{page-past, sized, seen-page, seen-pages}
 use Rattle.store.specs.declared.Slot.the-variants.{Free}
 
 -- ---- zeros
@@ -63,109 +58,81 @@ zero-page q z = rw (eq-eqb (count q) 0 (zero-be (cut q 0 2) (zero-take 2 q z)))
 
 -- ---- k more pages
 
-module _ (s v : List ℕ) (h : SoundSegment s v) (k : ℕ) (few : length s / 16384 + k ≤ 32527) where
-  abbrev pub grown : List ℕ
-  grown = s ++ zeros (k * 16384)
+abbrev pub grown : List ℕ → ℕ → List ℕ
+grown s k = s ++ zeros (k * 16384)
 
-  long : length grown ≡ length s + k * 16384
-  long = length-append s (zeros (k * 16384)) ∙ ap (λ (n : ℕ). length s + n) (length-replicate (k * 16384) 0)
+pub long : (s : List ℕ) (k : ℕ) → length (grown s k) ≡ length s + k * 16384
+long s k = length-append s (zeros (k * 16384)) ∙ ap (λ (n : ℕ). length s + n) (length-replicate (k * 16384) 0)
 
-  whole : length s % 16384 ≡ 0
+module _ (s v : List ℕ) (h : SoundSegment s v) where
+  pub whole : length s % 16384 ≡ 0
   whole = sized s (h .whole) .whole
-
-  page-count : length grown / 16384 ≡ length s / 16384 + k
-  page-count = omega (arith, long, whole)
 
   fresh-past : (p : ℕ) → length s / 16384 ≤ p → segView s .page p ≡ initialised
   fresh-past p l = seen-page s p ∙ zero-page (pageOf s p) (subst AllZero (sym (page-past s p l whole)) tt)
 
-  -- the same is seen of each page; there are more of them
-  abbrev more : SegView
-  more = record { pages = length s / 16384 + k; page = segView s .page }
-
-  grown-seen : segView grown ≡ more
-  unfolding segView
-  grown-seen = λ i. record { pages = page-count i; page = λ p. each p (decLt p (length s / 16384)) i }
-    where
-      each : (p : ℕ) → Dec (p < length s / 16384) → opened (view (pageOf grown p)) ≡ segView s .page p
-      each p (yes l) =
-          ap (λ (q : List ℕ). opened (view q))
-          (ap (take 16384) (drop-append-le (p * 16384) s (zeros (k * 16384)) (omega arith))
-          ∙ take-append-le 16384 (drop (p * 16384) s) (zeros (k * 16384)) (simp length-drop (omega arith)))
-      each p (no l) =
-          zero-page (pageOf grown p) (zero-take 16384 (drop (p * 16384) grown)
-          (zero-drop s (zeros (k * 16384)) (zero-zeros (k * 16384)) (p * 16384) (omega (arith, whole))))
-          ∙ sym (fresh-past p (omega arith))
-
-  free-past : (i : ℕ) → length s / 16384 ≤ pageNo i → slotOn more i ≡ Free
+  pub free-past : (i : ℕ) → length s / 16384 ≤ pageNo i → slotOn (segView s) i ≡ Free
   free-past i l = ap (λ (w : View). w .at (slotNo i)) (fresh-past (pageNo i) l)
 
-  -- a slot in use is on one of the old pages
-  inside : (i : ℕ) → isFree (slotOn more i) ≡ false → pageNo i < segView s .pages
-  unfolding segView
-  inside i e = go (decLt (pageNo i) (length s / 16384))
-    where
-      go : Dec (pageNo i < length s / 16384) → pageNo i < length s / 16384
-      go (yes l) = l
-      go (no l) = let f = ap isFree (free-past i (omega arith)) in let z : _≡_ {A = ℕ} 0 1 = cc in absurd (omega arith)
+  module _ (k : ℕ) where
+    pub page-count : length (grown s k) / 16384 ≡ length s / 16384 + k
+    page-count = omega (arith, long s k, whole)
 
-  more-paired : Paired more
-  more-paired =
-      record {
-        redirects = λ i t l e. let r = h .pairs .redirects i t (inside i (ap isFree e)) e in
-            record { below = omega (arith, r .below, seen-pages s); other = r .other; target = r .target; back = r .back };
-        targets = λ t l e. let r = h .pairs .targets t (inside t (target-taken (slotOn more t) e)) e in
-            record { by = r .by; below = omega (arith, r .below, seen-pages s); names = r .names };
-      }
+    -- the same is seen of each page; there are more of them
+    abbrev pub more : SegView
+    more = record { pages = length s / 16384 + k; page = segView s .page }
 
-  class-past : (p : ℕ) → length s / 16384 ≤ p → classes (segView s) p ≡ 0
-  class-past p l = rw (le-ltb p (segView s .pages) (omega (arith, seen-pages s)))
+    pub grown-seen : segView (grown s k) ≡ more
+    unfolding segView
+    grown-seen = λ i. record { pages = page-count i; page = λ p. each p (decLt p (length s / 16384)) i }
+      where
+        each : (p : ℕ) → Dec (p < length s / 16384) → opened (view (pageOf (grown s k) p)) ≡ segView s .page p
+        each p (yes l) =
+            ap (λ (q : List ℕ). opened (view q))
+            (ap (take 16384) (drop-append-le (p * 16384) s (zeros (k * 16384)) (omega arith))
+            ∙ take-append-le 16384 (drop (p * 16384) s) (zeros (k * 16384)) (simp length-drop (omega arith)))
+        each p (no l) =
+            zero-page (pageOf (grown s k) p) (zero-take 16384 (drop (p * 16384) (grown s k))
+            (zero-drop s (zeros (k * 16384)) (zero-zeros (k * 16384)) (p * 16384) (omega (arith, whole))))
+            ∙ sym (fresh-past p (omega arith))
 
-  more-classes : (p : ℕ) → classes more p ≡ classes (segView s) p
-  more-classes p = go (decLt p (length s / 16384))
-    where
-      go : Dec (p < length s / 16384) → classes more p ≡ classes (segView s) p
-      go (yes l) = rw (lt-ltb p (length s / 16384 + k) (omega arith), lt-ltb p (segView s .pages) (omega (arith, seen-pages s)))
-      go (no l) =
-          ap (λ (w : View). cond (ltb p (length s / 16384 + k)) (nibbleOf w) 0) (fresh-past p (omega arith)) ∙ either (ltb p (length s / 16384 + k))
-          ∙ sym (class-past p (omega arith))
+    -- a slot in use is on one of the old pages
+    inside : (i : ℕ) → isFree (slotOn more i) ≡ false → pageNo i < segView s .pages
+    unfolding segView
+    inside i e = go (decLt (pageNo i) (length s / 16384))
+      where
+        go : Dec (pageNo i < length s / 16384) → pageNo i < length s / 16384
+        go (yes l) = l
+        go (no l) = let f = ap isFree (free-past i (omega arith)) in let z : _≡_ {A = ℕ} 0 1 = cc in absurd (omega arith)
 
-  more-lowest : (c e : ℕ) → Lowest (classes (segView s)) (length s / 16384) c e → Lowest (classes more) (length s / 16384 + k) c e
-  more-lowest c e w = record {
-    within = omega (arith, w .within);
-    before = λ j m. rw (more-classes j) (w .before j m);
-    here = λ m. rw (more-classes e) (go (decLt e (length s / 16384)));
-  }
-    where
-      go : Dec (e < length s / 16384) → classes (segView s) e ≤ c
-      go (yes l) = w .here l
-      go (no l) = omega (arith, class-past e (omega arith))
+    pub more-paired : Paired more
+    more-paired =
+        record {
+          redirects = λ i t l e. let r = h .pairs .redirects i t (inside i (ap isFree e)) e in
+              record { below = omega (arith, r .below, seen-pages s); other = r .other; target = r .target; back = r .back };
+          targets = λ t l e. let r = h .pairs .targets t (inside t (target-taken (slotOn more t) e)) e in
+              record { by = r .by; below = omega (arith, r .below, seen-pages s); names = r .names };
+        }
 
-  pub grown-sound : SoundSegment grown v
-  unfolding segView
-  grown-sound =
-      let a : length grown % 16384 ≡ 0 = omega (arith, long, whole) in
-      let b : length grown / 16384 ≤ 32527 = omega (arith, page-count) in
-      record {
-        whole = rw (eq-eqb (length grown % 16384) 0 a, le-leb (length grown / 16384) 32527 b);
-        page = h .page;
-        pages = λ p l. sound-closed (view (pageOf grown p))
-            (ap (λ (u : SegView). sound (u .page p)) grown-seen ∙ sound-test (segView s .page p) (seen-sound s v h .sounds p));
-        pairs = subst Paired (sym grown-seen) more-paired;
-        inventory = subst (λ (u : SegView). Truth (classes u) (u .pages) v) (sym grown-seen)
-            (record { nibbles = λ j l. h .inventory .nibbles j l ∙ sym (more-classes j); entries = λ c l. more-lowest c _ (h .inventory .entries c l) });
-      }
+    class-past : (p : ℕ) → length s / 16384 ≤ p → classes (segView s) p ≡ 0
+    class-past p l = rw (le-ltb p (segView s .pages) (omega (arith, seen-pages s)))
 
-  -- ---- reads
+    pub more-classes : (p : ℕ) → classes more p ≡ classes (segView s) p
+    more-classes p = go (decLt p (length s / 16384))
+      where
+        go : Dec (p < length s / 16384) → classes more p ≡ classes (segView s) p
+        go (yes l) = rw (lt-ltb p (length s / 16384 + k) (omega arith), lt-ltb p (segView s .pages) (omega (arith, seen-pages s)))
+        go (no l) =
+            ap (λ (w : View). cond (ltb p (length s / 16384 + k)) (nibbleOf w) 0) (fresh-past p (omega arith)) ∙ either (ltb p (length s / 16384 + k))
+            ∙ sym (class-past p (omega arith))
 
-  look-grown : (i : ℕ) → pageNo i < length s / 16384 + k → readStep grown i ≡ look (bytesOn (segView s)) i (tagOn (segView s) i)
-  look-grown i l =
-      read-look grown v grown-sound i (omega (arith, page-count)) ∙ ap (λ (u : SegView). look (bytesOn u) i (tagOn u i)) grown-seen
-
-  -- by an id of a page that was there, whatever the answer
-  pub grown-reads : (i : ℕ) → pageNo i < length s / 16384 → readStep grown i ≡ readStep s i
-  grown-reads i l = look-grown i (omega arith) ∙ sym (read-look s v h i l)
-
-  -- an id of a new page is free
-  pub grown-free : (i : ℕ) → length s / 16384 ≤ pageNo i → pageNo i < length s / 16384 + k → readStep grown i ≡ noRead 5
-  grown-free i l m = look-grown i m ∙ ap (λ (x : Slot). look (bytesOn (segView s)) i (tag x)) (free-past i l)
+    pub more-lowest : (c e : ℕ) → Lowest (classes (segView s)) (length s / 16384) c e → Lowest (classes more) (length s / 16384 + k) c e
+    more-lowest c e w = record {
+      within = omega (arith, w .within);
+      before = λ j m. rw (more-classes j) (w .before j m);
+      here = λ m. rw (more-classes e) (go (decLt e (length s / 16384)));
+    }
+      where
+        go : Dec (e < length s / 16384) → classes (segView s) e ≤ c
+        go (yes l) = w .here l
+        go (no l) = omega (arith, class-past e (omega arith))

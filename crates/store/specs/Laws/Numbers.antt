@@ -8,7 +8,7 @@ use lib.ListN.{length, take, drop, set, getD, length-drop, length-reverse}
 use borrow.Rule.Slice.PartMut.{putMid, put-same}
 use lib.Seq.{drop-drop, take-append-le, drop-append-le, take-all, take-take, drop-cons, length-take-le}
 use mathlib.Core.Logic.{_⊎_, inl, inr}
-use Rattle.store.specs.Numbers.{cut, put, zeros, fit, be, toBE, le, toLE}
+use Rattle.store.specs.Numbers.{cut, put, be, toBE, le, toLE}
 
 pub length-put : (p : List ℕ) (i : ℕ) (vs : List ℕ) → length (put p i vs) ≡ length p
 length-put [] i vs = refl
@@ -198,25 +198,3 @@ put-swap (x ∷ p) (suc i) (suc j) a b h = ap {B = List ℕ} (λ r. x ∷ r) (pu
 put-swap (x ∷ p) zero j [] b h = put-nil (put (x ∷ p) j b) 0
 put-swap (x ∷ p) zero zero (y ∷ a) b h = absurd (omega arith)
 put-swap (x ∷ p) zero (suc j) (y ∷ a) b h = ap {B = List ℕ} (λ r. y ∷ r) (put-swap p zero j a b (omega arith))
-
--- ---- a record at another size: its bytes as far as both go, and zeros behind
-
-get-zeros : (m k : ℕ) → getD (zeros m) k 0 ≡ 0
-get-zeros zero k = refl
-get-zeros (suc m) zero = refl
-get-zeros (suc m) (suc k) = get-zeros m k
-
-fit-suc : (n b : ℕ) (bs : List ℕ) → fit (suc n) (b ∷ bs) ≡ b ∷ fit n bs
-fit-suc n b bs = let e : suc n - suc (length bs) ≡ n - length bs = omega arith in rw e
-
-pub fit-kept : (n : ℕ) (bs : List ℕ) (k : ℕ) → k < n → k < length bs → getD (fit n bs) k 0 ≡ getD bs k 0
-fit-kept zero bs k h l = absurd (omega arith)
-fit-kept (suc n) [] k h l = absurd (omega arith)
-fit-kept (suc n) (b ∷ bs) zero h l = refl
-fit-kept (suc n) (b ∷ bs) (suc k) h l = ap (λ (r : List ℕ). getD r (suc k) 0) (fit-suc n b bs) ∙ fit-kept n bs k (omega arith) (omega arith)
-
-pub fit-added : (n : ℕ) (bs : List ℕ) (k : ℕ) → length bs ≤ k → getD (fit n bs) k 0 ≡ 0
-fit-added zero bs k h = get-zeros (0 - length bs) k
-fit-added (suc n) [] k h = get-zeros (suc n - 0) k
-fit-added (suc n) (b ∷ bs) zero h = absurd (omega arith)
-fit-added (suc n) (b ∷ bs) (suc k) h = ap (λ (r : List ℕ). getD r (suc k) 0) (fit-suc n b bs) ∙ fit-added n bs k (omega arith)

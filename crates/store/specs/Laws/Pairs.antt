@@ -9,10 +9,10 @@ use native.Mathlib.Decide.{ℕ-discrete}
 use lib.ListN.{take, drop}
 use Rattle.store.specs.Numbers.{be, upd, pageNo}
 use Rattle.store.specs.Laws.Slots.{tag}
-use Rattle.store.specs.Slots.{isTarget, isFree}
+use Rattle.store.specs.Slots.{isTarget}
 use Rattle.store.specs.Segment.{SegView, Read, noRead}
 use Rattle.store.specs.Laws.Views.{upd-same, upd-other}
-use Rattle.store.specs.SoundSegment.{slotOn, bytesOn, backId, NamedBy, Paired}
+use Rattle.store.specs.SoundSegment.{slotOn, bytesOn, backId, Root, NamedBy, Paired}
 use Rattle.store.specs.declared.Slot.{Slot}
 use Rattle.store.specs.declared.Slot.the-variants.{Ordinary, Free, Redirect, Target}
 
@@ -35,16 +35,10 @@ tag-target (Redirect i) = refl
 tag-target (Target o l) = refl
 
 pub tag-redirect : (x : Slot) (t : ℕ) → tag x ≡ Redirect t → x ≡ Redirect t
-tag-redirect (Ordinary o l) t e = let f = ap isRedirect e in let z : _≡_ {A = ℕ} 0 1 = cc in absurd (omega arith)
-  where
-    isRedirect : Slot → Bool
-    isRedirect (Ordinary o l) = false
-    isRedirect Free = false
-    isRedirect (Redirect i) = true
-    isRedirect (Target o l) = false
-tag-redirect Free t e = let f = ap isFree e in let z : _≡_ {A = ℕ} 0 1 = cc in absurd (omega arith)
+tag-redirect (Ordinary o l) t e = let z : _≡_ {A = ℕ} 0 1 = cc in absurd (omega arith)
+tag-redirect Free t e = let z : _≡_ {A = ℕ} 0 1 = cc in absurd (omega arith)
 tag-redirect (Redirect i) t e = e
-tag-redirect (Target o l) t e = let f = ap isTarget e in let z : _≡_ {A = ℕ} 0 1 = cc in absurd (omega arith)
+tag-redirect (Target o l) t e = let z : _≡_ {A = ℕ} 0 1 = cc in absurd (omega arith)
 
 abbrev pub tagOn : SegView → ℕ → Slot
 tagOn u i = tag (slotOn u i)
@@ -86,12 +80,19 @@ look B i Free = noRead 5
 look B i (Redirect t) = record { answer = 0; bytes = drop 8 (B t) }
 look B i (Target o l) = record { answer = 0; bytes = drop 8 (B i) }
 
--- a root's entry: an ordinary record, or a redirect
-abbrev pub Root : Slot → Type 0
-Root (Ordinary o l) = Unit {0}
-Root Free = ⊥
-Root (Redirect t) = Unit {0}
-Root (Target o l) = ⊥
+-- entries without their offsets tell the same
+pub tag-root : (x : Slot) → (Root x → Root (tag x)) × (Root (tag x) → Root x)
+tag-root (Ordinary o l) = (λ r. r, λ r. r)
+tag-root Free = (λ r. r, λ r. r)
+tag-root (Redirect t) = (λ r. r, λ r. r)
+tag-root (Target o l) = (λ r. r, λ r. r)
+
+-- an id that reads 0 and is not a target's own is a root's
+pub look-root : (B : ℕ → List ℕ) (i : ℕ) (x : Slot) → isTarget x ≡ false → look B i x .answer ≡ 0 → Root x
+look-root B i (Ordinary o l) f e = tt
+look-root B i Free f e = absurd (omega arith)
+look-root B i (Redirect t) f e = tt
+look-root B i (Target o l) f e = let z : _≡_ {A = ℕ} 0 1 = cc in absurd (omega arith)
 
 root-target : (x : Slot) → isTarget x ≡ true → Root x → ⊥
 root-target (Ordinary o l) e r = let z : _≡_ {A = ℕ} 0 1 = cc in absurd (omega arith)
@@ -102,6 +103,13 @@ root-target (Target o l) e r = r
 -- the book of rows: what id i stands for, where a target's own id stands for nothing
 abbrev pub rowAt : (ℕ → List ℕ) → ℕ → Slot → Read
 rowAt B i x = cond (isTarget x) (noRead 5) (look B i x)
+
+-- it is a root's if its row reads 0
+pub row-root : (B : ℕ → List ℕ) (i : ℕ) (x : Slot) → (Root x → rowAt B i x .answer ≡ 0) × (rowAt B i x .answer ≡ 0 → Root x)
+row-root B i (Ordinary o l) = (λ r. refl, λ e. tt)
+row-root B i Free = (λ r. absurd r, λ e. absurd (omega arith))
+row-root B i (Redirect t) = (λ r. refl, λ e. tt)
+row-root B i (Target o l) = (λ r. absurd r, λ e. absurd (omega arith))
 
 row-target : (B : ℕ → List ℕ) (i : ℕ) (x : Slot) → isTarget x ≡ true → rowAt B i x ≡ noRead 5
 row-target B i x e = ap (λ (b : Bool). cond b (noRead 5) (look B i x)) e

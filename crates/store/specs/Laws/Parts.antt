@@ -1,27 +1,23 @@
--- The part of the lent segment that a read or a scan's step answers has the record's bytes.
+-- What is seen of a slot, as bytes of the segment; and what a read or a scan's step answers so.
 use Prim.Native.Nat.{ℕ, zero, suc, _+_, _-_, _*_, _≤_, _<_}
 use mathlib.Core.Path.{_≡_, refl, sym, ap, subst, _∙_}
 use mathlib.Core.Bool.{true, cond}
 use mathlib.Core.List.{List}
 use native.Mathlib.Omega.{arith}
-use lib.ListN.{length, drop}
+use lib.ListN.{drop}
 use lib.Dec.{eqb, ltb}
 use Rattle.store.specs.Numbers.{cut, pageNo, slotNo}
 use Rattle.store.specs.Slots.{off, len, isTarget}
 use Rattle.store.specs.Page.{View, view, fresh, liesWell, sound}
 use Rattle.store.specs.PageSteps.{initialised}
-use Rattle.store.specs.Segment.{segView, pageOf, sizeOk, pointsBack, Read, noRead, readBy, readPlan, readStep, Part, noPart, partOn, partBy, locateStep}
-use Rattle.store.specs.Scan.{Scanned, without, overPage, recordAt, nextRecord, damagedAt, scanFrom, scanPlan, scanStep}
-use Rattle.store.specs.Laws.Roots.{by-root}
+use Rattle.store.specs.Segment.{segView, pageOf, pointsBack, Read, noRead, readBy, noPart, partOn, held, partBy}
+use Rattle.store.specs.Scan.{Scanned, without, overPage, recordAt, nextRecord, damagedAt, scanFrom}
 use Rattle.store.specs.Laws.Numbers.{cut-cut, cut-drop}
 use Rattle.store.specs.Laws.SoundPage.{in-page}
 use Rattle.store.specs.Laws.Segments.{length-page}
 use Rattle.store.specs.Laws.Calls.{by-test, page-below, sound-seen, back-ok}
 use Rattle.store.specs.declared.Slot.{Slot}
 use Rattle.store.specs.declared.Slot.the-variants.{Ordinary, Free, Redirect, Target}
-
-abbrev pub held : List ℕ → Part → List ℕ
-held s a = cut s (a .offset) (a .length)
 
 -- what is seen of slot k of page p, as bytes of the segment
 pub seen-bytes : (s : List ℕ) (p k : ℕ) → off (segView s .page p .at k) + len (segView s .page p .at k) ≤ 16384
@@ -49,50 +45,42 @@ module _ (s : List ℕ) (p k : ℕ) where
 -- ---- a read
 
 module _ (s : List ℕ) (i : ℕ) where
-  abbrev Holds : Read → Type 0
+  abbrev pub Holds : Read → Type 0
   Holds r = held s (cond (eqb (r .answer) 0) (partBy (segView s) i (segView s .page (pageNo i) .at (slotNo i))) noPart) ≡ r .bytes
 
-  high : (p k : ℕ) → p < segView s .pages → sound (segView s .page p) ≡ true → off (segView s .page p .at k) + len (segView s .page p .at k) ≤ 16384
+  pub high : (p k : ℕ) → p < segView s .pages → sound (segView s .page p) ≡ true → off (segView s .page p .at k) + len (segView s .page p .at k) ≤ 16384
   unfolding segView
   high p k l e = sound-seen (pageOf s p) (length-page s p (page-below s p l)) e .high k
 
-  pub part-read : held s (locateStep s i .part) ≡ readStep s i .bytes
-  unfolding locateStep readStep readPlan
-  part-read =
-      by-test Holds (sizeOk s) (readPlan (segView s) i) (noRead 1)
-      (λ z. by-root Holds (segView s) i noRead (readBy (segView s) i) (λ l. refl) (λ l u. refl)
-      (λ l u. go (segView s .page (pageNo i) .at (slotNo i)) refl (high (pageNo i) (slotNo i) l u)))
-      (λ z. refl)
-    where
-      target : (t : ℕ) → pointsBack (segView s) i t ≡ true → (x : Slot) → segView s .page (pageNo t) .at (slotNo t) ≡ x → isTarget x ≡ true
-          → held s (partOn (pageNo t) x) ≡ drop 8 (segView s .page (pageNo t) .bytes (slotNo t))
-      target t b (Ordinary o l) e w = let z : _≡_ {A = ℕ} 0 1 = cc in absurd (omega arith)
-      target t b Free e w = let z : _≡_ {A = ℕ} 0 1 = cc in absurd (omega arith)
-      target t b (Redirect j) e w = let z : _≡_ {A = ℕ} 0 1 = cc in absurd (omega arith)
-      target t b (Target o l) e w =
-          let h = back-ok s i t b .0 .sound .high (slotNo t) in
-          target-part s (pageNo t) (slotNo t) o l e (subst (λ (y : Slot). off y + len y ≤ 16384) e h)
+  at-target : (t : ℕ) → pointsBack (segView s) i t ≡ true → (x : Slot) → segView s .page (pageNo t) .at (slotNo t) ≡ x → isTarget x ≡ true
+      → held s (partOn (pageNo t) x) ≡ drop 8 (segView s .page (pageNo t) .bytes (slotNo t))
+  at-target t b (Ordinary o l) e w = let z : _≡_ {A = ℕ} 0 1 = cc in absurd (omega arith)
+  at-target t b Free e w = let z : _≡_ {A = ℕ} 0 1 = cc in absurd (omega arith)
+  at-target t b (Redirect j) e w = let z : _≡_ {A = ℕ} 0 1 = cc in absurd (omega arith)
+  at-target t b (Target o l) e w =
+      let h = back-ok s i t b .0 .sound .high (slotNo t) in
+      target-part s (pageNo t) (slotNo t) o l e (subst (λ (y : Slot). off y + len y ≤ 16384) e h)
 
-      go : (x : Slot) → segView s .page (pageNo i) .at (slotNo i) ≡ x
-          → off (segView s .page (pageNo i) .at (slotNo i)) + len (segView s .page (pageNo i) .at (slotNo i)) ≤ 16384
-          → held s (cond (eqb (readBy (segView s) i x .answer) 0) (partBy (segView s) i (segView s .page (pageNo i) .at (slotNo i))) noPart)
-          ≡ readBy (segView s) i x .bytes
-      go (Ordinary o l) e h = ap (λ (y : Slot). held s (partBy (segView s) i y)) e
-          ∙ ordinary-part s (pageNo i) (slotNo i) o l e (subst (λ (y : Slot). off y + len y ≤ 16384) e h)
-      go Free e h = refl
-      go (Redirect t) e h =
-          by-test (λ (r : Read). held s (cond (eqb (r .answer) 0) (partBy (segView s) i (segView s .page (pageNo i) .at (slotNo i))) noPart)
-          ≡ r .bytes) (pointsBack (segView s) i t)
-          (record { answer = 0; bytes = drop 8 (segView s .page (pageNo t) .bytes (slotNo t)) }) (noRead 4)
-          (λ b. ap (λ (y : Slot). held s (partBy (segView s) i y)) e
-          ∙ target t b (segView s .page (pageNo t) .at (slotNo t)) refl (back-ok s i t b .1)) (λ b. refl)
-      go (Target o l) e h = ap (λ (y : Slot). held s (partBy (segView s) i y)) e
-          ∙ target-part s (pageNo i) (slotNo i) o l e (subst (λ (y : Slot). off y + len y ≤ 16384) e h)
+  pub slot-holds : (x : Slot) → segView s .page (pageNo i) .at (slotNo i) ≡ x
+      → off (segView s .page (pageNo i) .at (slotNo i)) + len (segView s .page (pageNo i) .at (slotNo i)) ≤ 16384
+      → held s (cond (eqb (readBy (segView s) i x .answer) 0) (partBy (segView s) i (segView s .page (pageNo i) .at (slotNo i))) noPart)
+      ≡ readBy (segView s) i x .bytes
+  slot-holds (Ordinary o l) e h = ap (λ (y : Slot). held s (partBy (segView s) i y)) e
+      ∙ ordinary-part s (pageNo i) (slotNo i) o l e (subst (λ (y : Slot). off y + len y ≤ 16384) e h)
+  slot-holds Free e h = refl
+  slot-holds (Redirect t) e h =
+      by-test (λ (r : Read). held s (cond (eqb (r .answer) 0) (partBy (segView s) i (segView s .page (pageNo i) .at (slotNo i))) noPart)
+      ≡ r .bytes) (pointsBack (segView s) i t)
+      (record { answer = 0; bytes = drop 8 (segView s .page (pageNo t) .bytes (slotNo t)) }) (noRead 4)
+      (λ b. ap (λ (y : Slot). held s (partBy (segView s) i y)) e
+      ∙ at-target t b (segView s .page (pageNo t) .at (slotNo t)) refl (back-ok s i t b .1)) (λ b. refl)
+  slot-holds (Target o l) e h = ap (λ (y : Slot). held s (partBy (segView s) i y)) e
+      ∙ target-part s (pageNo i) (slotNo i) o l e (subst (λ (y : Slot). off y + len y ≤ 16384) e h)
 
 -- ---- a step of the scan
 
 module _ (s : List ℕ) where
-  abbrev Shown : Scanned → Type 0
+  abbrev pub Shown : Scanned → Type 0
   Shown d = held s (d .part) ≡ d .bytes
 
   record-part : (p k : ℕ) → liesWell (segView s .page p) k ≡ true → Shown (recordAt (segView s .page p) p k)
@@ -105,7 +93,7 @@ module _ (s : List ℕ) where
       go (Redirect j) e h = rw e (sym (ap (λ (y : Slot). cut s (p * 16384 + off y) (len y)) e) ∙ seen-bytes s p k h)
       go (Target o l) e h = rw e (target-part s p k o l e (subst (λ (y : Slot). off y + len y ≤ 16384) e h))
 
-  from-part : (m p k : ℕ) → Shown (scanFrom m (segView s) p k)
+  pub from-part : (m p k : ℕ) → Shown (scanFrom m (segView s) p k)
   from-part zero p k = refl
   from-part (suc m) p k = go (from-part m (p + 1) 0)
     where
@@ -124,9 +112,3 @@ module _ (s : List ℕ) where
           (scanFrom m (segView s) (p + 1) 0)) (λ a. refl)
           (λ a. by-test Shown (ltb j (v .slotCount)) (cond (liesWell v j) (recordAt v p j) (without 4 overPage 0)) (scanFrom m (segView s) (p + 1) 0)
           (λ b. by-test Shown (liesWell v j) (recordAt v p j) (without 4 overPage 0) (λ g. record-part p j g) (λ g. refl)) (λ b. ih))
-
-  pub scan-part : (p k : ℕ) → Shown (scanStep s p k)
-  unfolding scanStep scanPlan
-  scan-part p k =
-      by-test Shown (ltb 32527 p) (without 0 p k) (cond (sizeOk s) (scanPlan (segView s) p k) (without 1 overPage 0)) (λ a. refl)
-      (λ a. by-test Shown (sizeOk s) (scanPlan (segView s) p k) (without 1 overPage 0) (λ z. from-part (segView s .pages - p) p k) (λ z. refl))

@@ -1,7 +1,7 @@
--- Demand 1: a call that is refused keeps every byte of segment and inventory, and each answer is one of 0 to 8: for all bytes, damaged ones
--- too.
-use Prim.Native.Nat.{ℕ, _+_, _≤_}
-use mathlib.Core.Path.{_≡_, refl, sym, ap, subst}
+-- For all bytes, damaged ones too: a plan that is refused has no step and the inventory as it was, its answer is one of 0 to 8, and one that is
+-- carried out has the id that it was lent.
+use Prim.Native.Nat.{ℕ, _+_, _≤_, _<_}
+use mathlib.Core.Path.{_≡_, refl}
 use mathlib.Core.Bool.{Bool, true, false, cond, not, _&&_, _||_}
 use mathlib.Core.List.{List, []}
 use mathlib.Core.Logic.{_≢_}
@@ -12,15 +12,16 @@ use Rattle.store.specs.Numbers.{pageNo, slotNo}
 use Rattle.store.specs.Page.{sound}
 use Rattle.store.specs.PageSteps.{Alloc, noRoom, got, allocate, Relocated, refused, moved, relocate}
 use Rattle.store.specs.Inventory.{foundIn}
-use Rattle.store.specs.Refusals.{NOPAGE, LONG, DAMAGED}
-use Rattle.store.specs.Segment.{SegView, segView, sizeOk, invOk, OnPage, Out, done, refuse, refuseIf, Result, result, carried, Found, nowhere}
+use Rattle.store.specs.Refusals.{SIZE, NOPAGE, LONG, DAMAGED, NONE, FORWARDED}
+use Rattle.store.specs.Segment.{SegView, segView, sizeOk, invOk, OnPage, Out, done, refuse, refuseIf, Found, nowhere}
 use Rattle.store.specs.Segment.{found, taken, findOn, find, inserted, insertPlan, pointsBack, forwarded, fromOrdinary, forwardedAgain, atTarget}
 use Rattle.store.specs.Segment.{atHome, storeBy, storePlan, eraseBy, erasePlan}
-use Rattle.store.specs.Calls.{Call, insert, allocate as allocateCall, write, resize, erase, called}
+use Rattle.store.specs.Calls.{Call, insert, allocate as allocateCall, write, resize, erase}
+use Rattle.store.specs.SoundSegment.{slotOn, Root}
 use Rattle.store.specs.Laws.Roots.{by-root}
 use Rattle.store.specs.Laws.Calls.{by-test}
 use Rattle.store.specs.Laws.Segments.{planned}
-use Rattle.store.specs.Laws.AlikeByKind.{planOf, called-plan}
+use Rattle.store.specs.Laws.Plans.{planOf}
 use Rattle.store.specs.declared.Named.{Named}
 use Rattle.store.specs.declared.Named.the-variants.{At, Full}
 use Rattle.store.specs.declared.Slot.{Slot}
@@ -28,28 +29,31 @@ use Rattle.store.specs.declared.Slot.the-variants.{Ordinary, Free, Redir
 
 -- ---- what holds of every plan
 
-pub record RefusedOrDone (v : List ℕ) (o : Out) : Type 0 where
+-- P is of the id that is answered
+pub record RefusedOrDone (v : List ℕ) (P : ℕ → Type 0) (o : Out) : Type 0 where
   pub keeps : o .answer ≢ 0 → (o .steps ≡ []) × (o .inv ≡ v)
   pub most : o .answer ≤ 8
+  pub id : o .answer ≡ 0 → P (o .id)
 
-refusal : (v : List ℕ) (a : ℕ) → a ≤ 8 → RefusedOrDone v (refuse v a)
-refusal v a h = record { keeps = λ n. (refl, refl); most = h }
+module _ (v : List ℕ) (P : ℕ → Type 0) where
+  refusal : (a : ℕ) → 0 < a → a ≤ 8 → RefusedOrDone v P (refuse v a)
+  refusal a l h = record { keeps = λ n. (refl, refl); most = h; id = λ e. absurd (omega arith) }
 
-is-done : (v : List ℕ) (i : ℕ) (es : List OnPage) (w : List ℕ) → RefusedOrDone v (done i es w)
-is-done v i es w = record { keeps = λ n. absurd (n refl); most = omega arith }
+  is-done : (i : ℕ) (es : List OnPage) (w : List ℕ) → P i → RefusedOrDone v P (done i es w)
+  is-done i es w p = record { keeps = λ n. absurd (n refl); most = omega arith; id = λ e. p }
 
-refuse-if : (b : Bool) (v : List ℕ) (a : ℕ) (o : Out) → a ≤ 8 → RefusedOrDone v o → RefusedOrDone v (refuseIf b v a o)
-refuse-if true v a o h k = refusal v a h
-refuse-if false v a o h k = k
+  refuse-if : (b : Bool) (a : ℕ) (o : Out) → 0 < a → a ≤ 8 → RefusedOrDone v P o → RefusedOrDone v P (refuseIf b v a o)
+  refuse-if true a o l h k = refusal a l h
+  refuse-if false a o l h k = k
 
 -- ---- a place
 
 abbrev NumberMost : Found → Type 0
-NumberMost (nowhere a) = a ≤ 8
+NumberMost (nowhere a) = (0 < a) × (a ≤ 8)
 NumberMost (found p k a) = Unit {0}
 
 taken-most : (p : ℕ) (a : Alloc) → NumberMost (taken p a)
-taken-most p noRoom = omega arith
+taken-most p noRoom = (omega arith, omega arith)
 taken-most p (got k a) = tt
 
 find-most : (u : SegView) (v : List ℕ) (m : ℕ) (ex : ℕ → Bool) → NumberMost (find foundIn u v m ex)
@@ -57,90 +61,97 @@ unfolding find
 find-most u v m ex = go (foundIn v (u .pages) (m + 8))
   where
     go : (n : Named) → NumberMost (findOn u m ex n)
-    go Full = omega arith
+    go Full = (omega arith, omega arith)
     go (At p) =
-        by-test NumberMost (not (sound (u .page p))) (nowhere 4) (cond (ex p) (nowhere 8) (taken p (allocate (u .page p) m))) (λ e. omega arith)
-        (λ e. by-test NumberMost (ex p) (nowhere 8) (taken p (allocate (u .page p) m)) (λ x. omega arith) (λ x. taken-most p (allocate (u .page p) m)))
+        by-test NumberMost (not (sound (u .page p))) (nowhere 4) (cond (ex p) (nowhere 8) (taken p (allocate (u .page p) m)))
+        (λ e. (omega arith, omega arith))
+        (λ e. by-test NumberMost (ex p) (nowhere 8) (taken p (allocate (u .page p) m)) (λ x. (omega arith, omega arith))
+        (λ x. taken-most p (allocate (u .page p) m)))
 
 -- ---- the plans
 
-module _ (u : SegView) (v : List ℕ) where
-  inserted-keeps : (bs : List ℕ) (f : Found) → NumberMost f → RefusedOrDone v (inserted u v bs f)
-  inserted-keeps bs (nowhere a) h = refusal v a h
-  inserted-keeps bs (found p k a) h = is-done v _ _ _
+-- the id answered is i, of a root
+abbrev pub OwnRoot : SegView → ℕ → Slot → ℕ → Type 0
+OwnRoot u i x j = (j ≡ i) × (pageNo i < u .pages) × Root x
 
-  insert-plan : (bs : List ℕ) → RefusedOrDone v (insertPlan foundIn u v bs)
+module _ (u : SegView) (v : List ℕ) where
+  inserted-keeps : (bs : List ℕ) (f : Found) → NumberMost f → RefusedOrDone v (λ j. Unit {0}) (inserted u v bs f)
+  inserted-keeps bs (nowhere a) h = refusal v _ a (h .0) (h .1)
+  inserted-keeps bs (found p k a) h = is-done v _ _ _ _ tt
+
+  insert-plan : (bs : List ℕ) → RefusedOrDone v (λ j. Unit {0}) (insertPlan foundIn u v bs)
   unfolding insertPlan
-  insert-plan bs = refuse-if (ltb 16364 (length bs)) v 3 _ (omega arith)
+  insert-plan bs = refuse-if v _ (ltb 16364 (length bs)) LONG _ (omega arith) (omega arith)
       (inserted-keeps bs (find foundIn u v (length bs) (λ p. false)) (find-most u v (length bs) (λ p. false)))
 
   module _ (i size : ℕ) (new : List ℕ → List ℕ) where
-    forwarded-keeps : (old : List ℕ) (f : Found) → NumberMost f → RefusedOrDone v (forwarded u v i size new old f)
-    forwarded-keeps old (nowhere a) h = refusal v a h
-    forwarded-keeps old (found q j a) h = is-done v _ _ _
+    module _ (P : ℕ → Type 0) (own : P i) where
+      forwarded-keeps : (old : List ℕ) (f : Found) → NumberMost f → RefusedOrDone v P (forwarded u v i size new old f)
+      forwarded-keeps old (nowhere a) h = refusal v P a (h .0) (h .1)
+      forwarded-keeps old (found q j a) h = is-done v P _ _ _ own
 
-    ordinary-keeps : (old : List ℕ) (r : Relocated) → RefusedOrDone v (fromOrdinary foundIn u v i size new old r)
-    ordinary-keeps old (moved a) = is-done v _ _ _
-    ordinary-keeps old refused = let ex : ℕ → Bool = λ p. eqb p (pageNo i) in forwarded-keeps old (find foundIn u v (size + 8) ex) (find-most u v (size + 8) ex)
+      ordinary-keeps : (old : List ℕ) (r : Relocated) → RefusedOrDone v P (fromOrdinary foundIn u v i size new old r)
+      ordinary-keeps old (moved a) = is-done v P _ _ _ own
+      ordinary-keeps old refused = let ex : ℕ → Bool = λ p. eqb p (pageNo i) in
+          forwarded-keeps old (find foundIn u v (size + 8) ex) (find-most u v (size + 8) ex)
 
-    again-keeps : (t : ℕ) (old : List ℕ) (f : Found) → NumberMost f → RefusedOrDone v (forwardedAgain u v i size new t old f)
-    again-keeps t old (nowhere a) h = refusal v a h
-    again-keeps t old (found q j a) h = is-done v _ _ _
+      again-keeps : (t : ℕ) (old : List ℕ) (f : Found) → NumberMost f → RefusedOrDone v P (forwardedAgain u v i size new t old f)
+      again-keeps t old (nowhere a) h = refusal v P a (h .0) (h .1)
+      again-keeps t old (found q j a) h = is-done v P _ _ _ own
 
-    target-keeps : (t : ℕ) (old : List ℕ) (r : Relocated) → RefusedOrDone v (atTarget foundIn u v i size new t old r)
-    target-keeps t old (moved a) = is-done v _ _ _
-    target-keeps t old refused = let ex : ℕ → Bool = λ p. eqb p (pageNo i) || eqb p (pageNo t) in
-        again-keeps t old (find foundIn u v (size + 8) ex) (find-most u v (size + 8) ex)
+      target-keeps : (t : ℕ) (old : List ℕ) (r : Relocated) → RefusedOrDone v P (atTarget foundIn u v i size new t old r)
+      target-keeps t old (moved a) = is-done v P _ _ _ own
+      target-keeps t old refused = let ex : ℕ → Bool = λ p. eqb p (pageNo i) || eqb p (pageNo t) in
+          again-keeps t old (find foundIn u v (size + 8) ex) (find-most u v (size + 8) ex)
 
-    home-keeps : (t : ℕ) (old : List ℕ) (r : Relocated) → RefusedOrDone v (atHome foundIn u v i size new t old r)
-    home-keeps t old (moved a) = is-done v _ _ _
-    home-keeps t old refused = target-keeps t old (relocate (u .page (pageNo t)) (slotNo t) (size + 8))
+      home-keeps : (t : ℕ) (old : List ℕ) (r : Relocated) → RefusedOrDone v P (atHome foundIn u v i size new t old r)
+      home-keeps t old (moved a) = is-done v P _ _ _ own
+      home-keeps t old refused = target-keeps t old (relocate (u .page (pageNo t)) (slotNo t) (size + 8))
 
-    by-slot : (x : Slot) → RefusedOrDone v (storeBy foundIn u v i size new x)
-    by-slot (Ordinary o l) = ordinary-keeps _ (relocate (u .page (pageNo i)) (slotNo i) size)
-    by-slot Free = refusal v 5 (omega arith)
-    by-slot (Redirect t) = refuse-if (not (pointsBack u i t)) v 4 _ (omega arith) (home-keeps t _ (relocate (u .page (pageNo i)) (slotNo i) size))
-    by-slot (Target o l) = refusal v 6 (omega arith)
+    by-slot : pageNo i < u .pages → (x : Slot) → RefusedOrDone v (OwnRoot u i x) (storeBy foundIn u v i size new x)
+    by-slot l (Ordinary o k) = ordinary-keeps _ (refl, l, tt) _ (relocate (u .page (pageNo i)) (slotNo i) size)
+    by-slot l Free = refusal v _ NONE (omega arith) (omega arith)
+    by-slot l (Redirect t) =
+        refuse-if v _ (not (pointsBack u i t)) DAMAGED _ (omega arith) (omega arith)
+        (home-keeps _ (refl, l, tt) t _ (relocate (u .page (pageNo i)) (slotNo i) size))
+    by-slot l (Target o k) = refusal v _ FORWARDED (omega arith) (omega arith)
 
-    store-plan : RefusedOrDone v (storePlan foundIn u v i size new)
+    store-plan : RefusedOrDone v (OwnRoot u i (slotOn u i)) (storePlan foundIn u v i size new)
     unfolding storePlan
     store-plan =
-        refuse-if (ltb 16364 size) v LONG _ (omega arith)
-        (by-root (RefusedOrDone v) u i (refuse v) (storeBy foundIn u v i size new) (λ e. refusal v NOPAGE (omega arith))
-        (λ e f. refusal v DAMAGED (omega arith)) (λ e f. by-slot (u .page (pageNo i) .at (slotNo i))))
+        refuse-if v _ (ltb 16364 size) LONG _ (omega arith) (omega arith)
+        (by-root (RefusedOrDone v (OwnRoot u i (slotOn u i))) u i (refuse v) (storeBy foundIn u v i size new)
+        (λ e. refusal v _ NOPAGE (omega arith) (omega arith)) (λ e f. refusal v _ DAMAGED (omega arith) (omega arith)) (λ e f. by-slot e (slotOn u i)))
 
-  erase-by : (i : ℕ) (x : Slot) → RefusedOrDone v (eraseBy u v i x)
-  erase-by i (Ordinary o l) = is-done v _ _ _
-  erase-by i Free = refusal v 5 (omega arith)
-  erase-by i (Redirect t) = refuse-if (not (pointsBack u i t)) v 4 _ (omega arith) (is-done v _ _ _)
-  erase-by i (Target o l) = refusal v 6 (omega arith)
+  erase-by : (i : ℕ) → pageNo i < u .pages → (x : Slot) → RefusedOrDone v (OwnRoot u i x) (eraseBy u v i x)
+  erase-by i l (Ordinary o k) = is-done v _ _ _ _ (refl, l, tt)
+  erase-by i l Free = refusal v _ NONE (omega arith) (omega arith)
+  erase-by i l (Redirect t) = refuse-if v _ (not (pointsBack u i t)) DAMAGED _ (omega arith) (omega arith) (is-done v _ _ _ _ (refl, l, tt))
+  erase-by i l (Target o k) = refusal v _ FORWARDED (omega arith) (omega arith)
 
-  erase-plan : (i : ℕ) → RefusedOrDone v (erasePlan u v i)
+  erase-plan : (i : ℕ) → RefusedOrDone v (OwnRoot u i (slotOn u i)) (erasePlan u v i)
   unfolding erasePlan
   erase-plan i =
-      by-root (RefusedOrDone v) u i (refuse v) (eraseBy u v i) (λ e. refusal v NOPAGE (omega arith)) (λ e f. refusal v DAMAGED (omega arith))
-      (λ e f. erase-by i (u .page (pageNo i) .at (slotNo i)))
+      by-root (RefusedOrDone v (OwnRoot u i (slotOn u i))) u i (refuse v) (eraseBy u v i) (λ e. refusal v _ NOPAGE (omega arith) (omega arith))
+      (λ e f. refusal v _ DAMAGED (omega arith) (omega arith)) (λ e f. erase-by i e (slotOn u i))
 
-  call-plan : (c : Call) → RefusedOrDone v (planOf c v u)
-  call-plan (insert bs) = insert-plan bs
-  call-plan (allocateCall n) = refuse-if (ltb 16364 n) v 3 _ (omega arith) (insert-plan _)
-  call-plan (write i bs) = store-plan i _ _
-  call-plan (resize i n) = store-plan i _ _
-  call-plan (erase i) = erase-plan i
+-- what is known of the id that a call answers
+abbrev pub AnswersId : SegView → Call → ℕ → Type 0
+AnswersId u (insert bs) j = Unit {0}
+AnswersId u (allocateCall n) j = Unit {0}
+AnswersId u (write i bs) j = OwnRoot u i (slotOn u i) j
+AnswersId u (resize i n) j = OwnRoot u i (slotOn u i) j
+AnswersId u (erase i) j = OwnRoot u i (slotOn u i) j
+
+call-plan : (u : SegView) (v : List ℕ) (c : Call) → RefusedOrDone v (AnswersId u c) (planOf c v u)
+call-plan u v (insert bs) = insert-plan u v bs
+call-plan u v (allocateCall n) = refuse-if v _ (ltb 16364 n) LONG _ (omega arith) (omega arith) (insert-plan u v _)
+call-plan u v (write i bs) = store-plan u v i _ _
+call-plan u v (resize i n) = store-plan u v i _ _
+call-plan u v (erase i) = erase-plan u v i
 
 -- ---- the five writing calls
 
 module _ (c : Call) (s v : List ℕ) where
-  tested : RefusedOrDone v (planned (planOf c v) v s)
-  tested = refuse-if (not (sizeOk s && invOk v)) v 1 _ (omega arith) (call-plan (segView s) v c)
-
-  -- a call that is refused changes nothing
-  pub refused-keeps : called c s v .answer ≢ 0 → (called c s v .seg ≡ s) × (called c s v .inv ≡ v)
-  unfolding result
-  refused-keeps =
-      subst (λ (r : Result). r .answer ≢ 0 → (r .seg ≡ s) × (r .inv ≡ v)) (sym (called-plan c s v))
-      (λ n. let k = tested .keeps n in (ap (λ (es : List OnPage). carried es s) (k .0), k .1))
-
-  pub answer-most : called c s v .answer ≤ 8
-  unfolding result
-  answer-most = subst (λ (r : Result). r .answer ≤ 8) (sym (called-plan c s v)) (tested .most)
+  pub tested : RefusedOrDone v (AnswersId (segView s) c) (planned (planOf c v) v s)
+  tested = refuse-if v _ (not (sizeOk s && invOk v)) SIZE _ (omega arith) (omega arith) (call-plan (segView s) v c)

@@ -6,7 +6,7 @@ use mathlib.Core.List.{List, [], _∷_}
 use mathlib.Core.Logic.{_⊎_, inl, inr}
 use native.Mathlib.Omega.{arith}
 use native.Mathlib.Decide.{ℕ-discrete, decLt}
-use lib.ListN.{length, take, length-take, length-replicate, length-append}
+use lib.ListN.{length, take, length-take, length-replicate}
 use lib.Dec.{ltb}
 use borrow.Author.Tests.{le-ltb, lt-ltb, eq-eqb, ne-eqb}
 use Rattle.store.specs.Numbers.{zeros, fit}
@@ -14,6 +14,7 @@ use Rattle.store.specs.Slots.{off, len, isFree, isTarget, isRecord, plac
 use Rattle.store.specs.Page.{View, view}
 use Rattle.store.specs.PageSteps.{withSlot, commit, fill, move, Plan, andThen, run, makeRoom, parked, moveUnder, shrunk, resized, relocateBy}
 use Rattle.store.specs.PageSteps.{relocate, Relocated, refused, moved, filled, plan}
+use Rattle.store.specs.Laws.Fit.{length-fit}
 use Rattle.store.specs.Laws.Slots.{Codable}
 use Rattle.store.specs.Laws.Edits.{Only, shows-view, under-view, fill-view, move-view, entry-of}
 use Rattle.store.specs.Laws.Views.{Sound, sound-fits, upd-same, upd-other}
@@ -22,9 +23,6 @@ use Rattle.store.specs.Laws.Compactify.{placed-is}
 use Rattle.store.specs.Laws.OneSlot.{Suits, park-suits, slot-sound, slot-exact, under-exact, made-roomy}
 use Rattle.store.specs.declared.Slot.{Slot}
 use Rattle.store.specs.declared.Slot.the-variants.{Ordinary, Free, Redirect, Target}
-
-pub length-fit : (n : ℕ) (bs : List ℕ) → length (fit n bs) ≡ n
-length-fit n bs = simp (length-append, length-take, length-replicate) (omega arith)
 
 -- what a relocate that is carried out leaves
 pub record Moved (p : List ℕ) (v : View) (k n : ℕ) (a : Plan) : Type 0 where

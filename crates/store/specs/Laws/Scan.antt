@@ -1,18 +1,17 @@
--- A row that the scan hands out is the row that a read by its id gives, in a sound segment.
+-- In a sound segment, a record that the scan finds is what a read by its id gives.
 use Prim.Native.Nat.{ℕ, zero, suc, _+_, _-_, _≤_, _<_}
 use mathlib.Core.Path.{_≡_, refl, sym, ap, subst, _∙_}
 use mathlib.Core.Bool.{Bool, true, false, cond}
 use mathlib.Core.List.{List}
 use native.Mathlib.Omega.{arith}
-use native.Mathlib.Decide.{decLt}
 use lib.ListN.{drop, take}
 use lib.Dec.{ltb}
 use borrow.Author.Tests.{ltb-true}
 use Rattle.store.specs.Numbers.{be, idOf, pageNo, slotNo}
 use Rattle.store.specs.Slots.{isRecord, isTarget}
 use Rattle.store.specs.Page.{View, liesWell}
-use Rattle.store.specs.Segment.{segView, sizeOk, Read, noRead, readBy, readPlan, readStep}
-use Rattle.store.specs.Scan.{Scanned, without, overPage, recordAt, nextRecord, damagedAt, scanFrom, scanPlan, scanStep}
+use Rattle.store.specs.Segment.{segView, Read, noRead, readBy, readPlan, readStep}
+use Rattle.store.specs.Scan.{Scanned, without, overPage, recordAt, nextRecord, damagedAt, scanFrom}
 use Rattle.store.specs.SoundSegment.{slotOn, SoundSegment}
 use Rattle.store.specs.Laws.Roots.{root-entry}
 use Rattle.store.specs.Laws.SoundPage.{sound-test}
@@ -22,11 +21,11 @@ use Rattle.store.specs.Laws.SoundSegment.{seen-sound}
 use Rattle.store.specs.declared.Slot.{Slot}
 use Rattle.store.specs.declared.Slot.the-variants.{Ordinary, Free, Redirect, Target}
 
-abbrev row : List ℕ → Read
+abbrev pub row : List ℕ → Read
 row bs = record { answer = 0; bytes = bs }
 
 -- the slot found holds a record
-next-record : (m : ℕ) (v : View) (k : ℕ) → nextRecord m v k < k + m → isRecord (v .at (nextRecord m v k)) ≡ true
+pub next-record : (m : ℕ) (v : View) (k : ℕ) → nextRecord m v k < k + m → isRecord (v .at (nextRecord m v k)) ≡ true
 next-record zero v k h = absurd (omega arith)
 next-record (suc m) v k h = go (isRecord (v .at k)) refl h (λ l. next-record m v (k + 1) l)
   where
@@ -35,7 +34,7 @@ next-record (suc m) v k h = go (isRecord (v .at k)) refl h (λ l. next-record m 
     go true e l ih = e
     go false e l ih = ih (omega arith)
 
-next-low : (m : ℕ) (v : View) (k : ℕ) → k ≤ nextRecord m v k
+pub next-low : (m : ℕ) (v : View) (k : ℕ) → k ≤ nextRecord m v k
 next-low zero v k = omega arith
 next-low (suc m) v k = go (isRecord (v .at k)) (next-low m v (k + 1))
   where
@@ -44,10 +43,10 @@ next-low (suc m) v k = go (isRecord (v .at k)) (next-low m v (k + 1))
     go false h = omega arith
 
 module _ (s v : List ℕ) (h : SoundSegment s v) where
-  abbrev Reads : Scanned → Type 0
+  abbrev pub Reads : Scanned → Type 0
   Reads d = d .some ≡ true → readStep s (d .id) ≡ row (d .bytes)
 
-  none : (a p k : ℕ) → Reads (without a p k)
+  pub none : (a p k : ℕ) → Reads (without a p k)
   none a p k e = let z : _≡_ {A = ℕ} 0 1 = cc in absurd (omega arith)
 
   read-by : (i : ℕ) → pageNo i < segView s .pages → readStep s i ≡ readBy (segView s) i (slotOn (segView s) i)
@@ -88,7 +87,7 @@ module _ (s v : List ℕ) (h : SoundSegment s v) where
     record-reads (Redirect t) e r d = let z : _≡_ {A = ℕ} 0 1 = cc in absurd (omega arith)
     record-reads (Target o l) e r d = rw e (by-root o l e)
 
-  from-reads : (m p k : ℕ) → p + m ≤ segView s .pages → Reads (scanFrom m (segView s) p k)
+  pub from-reads : (m p k : ℕ) → p + m ≤ segView s .pages → Reads (scanFrom m (segView s) p k)
   from-reads zero p k l = none 0 p k
   from-reads (suc m) p k l = go (from-reads m (p + 1) 0 (omega arith))
     where
@@ -112,13 +111,3 @@ module _ (s v : List ℕ) (h : SoundSegment s v) where
           (λ a. none 4 overPage 0)
           (λ a. by-test Reads (ltb j (w .slotCount)) (cond (liesWell w j) (recordAt w p j) (without 4 overPage 0)) (scanFrom m (segView s) (p + 1) 0)
           (λ b. by-test Reads (liesWell w j) (recordAt w p j) (without 4 overPage 0) (λ g. at-j b) (λ g. none 4 overPage 0)) (λ b. ih))
-
-  pub scan-reads : (p k : ℕ) → Reads (scanStep s p k)
-  unfolding scanStep scanPlan
-  scan-reads p k =
-      by-test Reads (ltb 32527 p) (without 0 p k) (cond (sizeOk s) (scanPlan (segView s) p k) (without 1 overPage 0)) (λ a. none 0 p k)
-      (λ a. by-test Reads (sizeOk s) (scanPlan (segView s) p k) (without 1 overPage 0) (λ z. within (decLt p (segView s .pages))) (λ z. none 1 overPage 0))
-    where
-      within : Dec (p < segView s .pages) → Reads (scanFrom (segView s .pages - p) (segView s) p k)
-      within (yes l) = from-reads (segView s .pages - p) p k (omega arith)
-      within (no l) = let z : segView s .pages - p ≡ 0 = omega arith in subst (λ (m : ℕ). Reads (scanFrom m (segView s) p k)) (sym z) (none 0 p k)

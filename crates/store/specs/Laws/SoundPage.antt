@@ -1,6 +1,6 @@
 -- The sound-page test, taken apart: a page that passes it shows a sound view.
 use Prim.Native.Nat.{ℕ, zero, suc, _+_, _*_, _/_, _%_, _^_, _≤_, _<_}
-use mathlib.Core.Path.{_≡_, refl, sym, ap, _∙_}
+use mathlib.Core.Path.{_≡_, refl, ap, _∙_}
 use mathlib.Core.Bool.{Bool, true, false, cond, not, _&&_, _||_}
 use mathlib.Core.List.{List, [], _∷_}
 use mathlib.Core.Logic.{_⊎_, inl, inr, _≢_}
@@ -9,12 +9,12 @@ use native.Mathlib.Nat.{not-suc-le-zero}
 use native.Mathlib.Decide.{ℕ-discrete, decLt}
 use lib.ListN.{length, drop, length-take, length-drop}
 use lib.Dec.{ltb, leb, eqb}
-use borrow.Author.Tests.{le-ltb, lt-leb, le-leb, leb-true, eq-eqb, ne-eqb}
+use borrow.Author.Tests.{le-ltb, lt-leb, le-leb, leb-true, eq-eqb, ne-eqb, not-true}
 use Rattle.store.specs.Numbers.{cut, be, all}
 use Rattle.store.specs.Slots.{off, len, isFree, isTarget, slotOf, ofKind}
 use Rattle.store.specs.Page.{View, view, count, slotAt, fresh, pastDirectory, liesWell, apart, soundTests, passes, sound}
 use Rattle.store.specs.PageSteps.{initialised, opened}
-use Rattle.store.specs.Laws.Cases.{tests}
+use Rattle.store.specs.Laws.Cases.{or-in, tests}
 use Rattle.store.specs.Laws.Slots.{Codable}
 use Rattle.store.specs.Laws.Edits.{Apart}
 use Rattle.store.specs.Laws.Views.{Sound, is-free}
@@ -59,10 +59,6 @@ kind-codable zero w h = (omega arith, omega arith)
 kind-codable (suc zero) w h = tt
 kind-codable (suc (suc zero)) w h = h
 kind-codable (suc (suc (suc k))) w h = (omega arith, omega arith)
-
-pub not-true : (b : Bool) → not b ≡ true → b ≡ false
-not-true true e = sym e
-not-true false e = refl
 
 -- what one slot's test says
 module _ (v : View) (k : ℕ) (g : liesWell v k ≡ true) where
@@ -214,10 +210,6 @@ sound-opened p whole e = go (fresh (view p)) refl
 
 -- ---- the other way: a sound view passes the test
 
-or-in : (a b : Bool) → a ≡ true → (a || b) ≡ true
-or-in true b p = refl
-or-in false b p = let z : _≡_ {A = ℕ} 0 1 = cc in absurd (omega arith)
-
 or-out : (a b : Bool) → b ≡ true → (a || b) ≡ true
 or-out true b p = refl
 or-out false b p = p
@@ -225,10 +217,6 @@ or-out false b p = p
 all-in : (n : ℕ) (f : ℕ → Bool) → ((j : ℕ) → j < n → f j ≡ true) → all n f ≡ true
 all-in zero f h = refl
 all-in (suc n) f h = and-in (f n) (all n f) (h n (omega arith)) (all-in n f (λ j l. h j (omega arith)))
-
-not-in : (b : Bool) → b ≡ false → not b ≡ true
-not-in true e = sym e
-not-in false e = refl
 
 module _ (v : View) (s : Sound v) where
   pub good-in : (k : ℕ) → liesWell v k ≡ true
@@ -287,7 +275,7 @@ module _ (v : View) (s : Sound v) where
           and-in (leb (v .firstFree) (v .slotCount)) (isFree (v .at (v .firstFree)) && all (v .firstFree) (λ j. not (isFree (v .at j))))
               (le-leb (v .firstFree) (v .slotCount) (s .first≤))
               (and-in (isFree (v .at (v .firstFree))) (all (v .firstFree) (λ j. not (isFree (v .at j)))) (ap isFree (s .first-free))
-              (all-in (v .firstFree) (λ j. not (isFree (v .at j))) (λ j h. not-in (isFree (v .at j)) (s .lower j h)))),
+              (all-in (v .firstFree) (λ j. not (isFree (v .at j))) (λ j h. ap not (s .lower j h)))),
           (
             and-in (pastDirectory v) (leb (v .dataStart) 16384) (omega (arith, le-leb, s .dir)) (le-leb (v .dataStart) 16384 (s .start≤)),
             (

@@ -1,7 +1,7 @@
--- A sound segment stays sound, whatever the calls; and from one no call answers 4 or 8.
+-- A sound segment stays sound under each plan, and from one no plan answers 4 or 8.
 use Prim.Native.Nat.{ℕ, zero, suc, _+_, _-_, _/_, _%_, _≤_, _<_}
 use mathlib.Core.Path.{_≡_, refl, sym, ap, _∙_, subst}
-use mathlib.Core.Bool.{Bool, true, false, cond, not, _&&_, _||_}
+use mathlib.Core.Bool.{Bool, true, false, cond, not, _&&_}
 use mathlib.Core.List.{List, [], _∷_}
 use mathlib.Core.Logic.{_≢_}
 use native.Mathlib.Omega.{arith}
@@ -14,16 +14,17 @@ use Rattle.store.specs.Page.{View, view, fresh, countFits, soundTests, p
 use Rattle.store.specs.PageSteps.{initialised, opened, plan}
 use Rattle.store.specs.Inventory.{Truth}
 use Rattle.store.specs.Inventory.{foundIn}
-use Rattle.store.specs.Segment.{SegView, segView, pageOf, sizeOk, OnPage, Out, Result, result, carried, step, refuse, insertPlan, Read, noRead}
-use Rattle.store.specs.Segment.{readBy, readPlan, readStep}
+use Rattle.store.specs.Segment.{SegView, segView, pageOf, sizeOk, Out, carried, refuse, insertPlan, Read, noRead}
+use Rattle.store.specs.Segment.{readBy, readPlan}
+use Rattle.store.specs.Laws.Cases.{or-in}
 use Rattle.store.specs.Laws.Roots.{by-sound-root}
 use Rattle.store.specs.Laws.Views.{Sound}
 use Rattle.store.specs.Laws.SoundPage.{and-both, sound-init, sound-opened, sound-test, good-in}
-use Rattle.store.specs.Scan.{Scanned, without, overPage, recordAt, nextRecord, damagedAt, scanFrom, scanPlan, scanStep}
-use Rattle.store.specs.Laws.Segments.{AllExact, AllSound, length-page, settled, settledOn, carried-seen, settled-sound}
+use Rattle.store.specs.Scan.{Scanned, without, overPage, recordAt, nextRecord, damagedAt, scanFrom}
+use Rattle.store.specs.Laws.Segments.{AllExact, AllSound, length-page, settled, carried-seen, settled-sound}
 use Rattle.store.specs.Laws.Calls.{by-test}
-use Rattle.store.specs.Laws.AlikeByKind.{length-carried, Exacting, planOf, called-plan, call-exacting}
-use Rattle.store.specs.Calls.{Call, insert, allocate, write, resize, erase, called, results}
+use Rattle.store.specs.Laws.Plans.{length-carried, planOf}
+use Rattle.store.specs.Calls.{Call, insert, allocate, write, resize, erase}
 use Rattle.store.specs.SoundSegment.{bytesOn, classes, SoundSegment}
 use Rattle.store.specs.Laws.Pairs.{Pairs, tagOn, paired-pairs, pairs-paired}
 use Rattle.store.specs.Laws.Stays.{Stays, wrote, oldBytes, refusal, insert-stays, store-stays, erase-stays, points-back}
@@ -74,25 +75,12 @@ seen-sound s v h =
 
 pub open-sound : (v : View) → sound (opened v) ≡ sound v
 unfolding sound
-open-sound v = by-test (λ w. sound w ≡ sound v) (fresh v) initialised v (λ f. sym (or-left (fresh v) (passes soundTests v) f)) (λ f. refl)
-  where
-    or-left : (a b : Bool) → a ≡ true → (a || b) ≡ true
-    or-left true b e = refl
-    or-left false b e = let z : _≡_ {A = ℕ} 0 1 = cc in absurd (omega arith)
+open-sound v = by-test (λ w. sound w ≡ sound v) (fresh v) initialised v (λ f. sym (or-in (fresh v) (passes soundTests v) f)) (λ f. refl)
 
 pub sound-closed : (v : View) → sound (opened v) ≡ true → sound v ≡ true
 sound-closed v e = sym (open-sound v) ∙ e
 
-pages-settled : (es : List OnPage) (u : SegView) → settled es u .pages ≡ u .pages
-pages-settled [] u = refl
-pages-settled (e ∷ es) u = pages-settled es (settledOn e u)
-
 -- ---- once over the plan
-
-pub record Right (r : Result) : Type 0 where
-  pub sound : SoundSegment (r .seg) (r .inv)
-  pub whole : r .answer ≢ 4
-  pub current : r .answer ≢ 8
 
 pub seen-pages : (s : List ℕ) → segView s .pages ≡ length s / 16384
 unfolding segView
@@ -138,15 +126,6 @@ module _ (s v : List ℕ) (h : SoundSegment s v) (o : Out) (x : AllExact s (o .s
 abbrev pub Staying : (SegView → Out) → (SegView → Read) → List ℕ → Type 0
 Staying plan w v = (s : List ℕ) → Seen s v → Stays (segView s) v (w (segView s)) (plan (segView s))
 
-pub plan-right : (plan : SegView → Out) (w : SegView → Read) (s v : List ℕ) → Exacting plan → Staying plan w v → SoundSegment s v
-    → Right (step s v (plan (segView s)))
-unfolding result
-plan-right plan w s v x k h =
-    let z = sized s (h .whole) in
-    let g = k s (seen-sound s v h) in
-    rw (h .whole, h .page)
-    (record { sound = stays-right s v h (plan (segView s)) (x s (z .few)) (w (segView s)) g; whole = g .whole; current = g .current })
-
 -- ---- the five writing calls
 
 insert-keeps : (s v bs : List ℕ) → Seen s v → Stays (segView s) v (wrote bs) (insertPlan foundIn (segView s) v bs)
@@ -171,21 +150,6 @@ call-staying (write i bs) v z e = store-stays (segView z) (e .sounds) (e .few) v
 call-staying (resize i n) v z e = store-stays (segView z) (e .sounds) (e .few) v (e .one) (e .pairs) (e .truth) i _ _
 call-staying (erase i) v z e = erase-stays (segView z) (e .sounds) (e .few) v (e .one) (e .pairs) (e .truth) i
 
--- a sound segment stays sound, and the answer is neither 4 nor 8
-pub call-right : (c : Call) (s v : List ℕ) → SoundSegment s v → Right (called c s v)
-call-right c s v h = subst Right (sym (called-plan c s v)) (plan-right (planOf c v) (rowOf c) s v (call-exacting c v) (call-staying c v) h)
-
--- any sequence of calls
-abbrev pub AllRight : List Result → Type 0
-AllRight [] = Unit {0}
-AllRight (r ∷ rs) = Right r × AllRight rs
-
-pub calls-right : (cs : List Call) (s v : List ℕ) → SoundSegment s v → AllRight (results cs s v)
-calls-right [] s v h = tt
-calls-right (c ∷ cs) s v h =
-    let r = call-right c s v h in
-    (r, calls-right cs (called c s v .seg) (called c s v .inv) (r .sound))
-
 -- ---- reads and scans
 
 -- on a sound page no position is damaged
@@ -195,7 +159,7 @@ undamaged w t k =
     (λ e. ap not (le-leb (w .slotCount) 2046 (t .few)))
 
 module _ (s v : List ℕ) (h : SoundSegment s v) where
-  read-whole : (i : ℕ) → readPlan (segView s) i .answer ≢ 4
+  pub read-whole : (i : ℕ) → readPlan (segView s) i .answer ≢ 4
   unfolding readPlan
   read-whole i =
       let e = seen-sound s v h in
@@ -209,11 +173,7 @@ module _ (s v : List ℕ) (h : SoundSegment s v) where
       go e l (Redirect t) q = rw (points-back (segView s) (e .sounds) (e .few) v (e .one) (e .pairs) (e .truth) i t l q) (λ x. omega arith)
       go e l (Target o k) q = λ x. omega arith
 
-  pub read-right : (i : ℕ) → readStep s i .answer ≢ 4
-  unfolding readStep
-  read-right i = rw (h .whole) (read-whole i)
-
-  scan-whole : (m p k : ℕ) → scanFrom m (segView s) p k .answer ≢ 4
+  pub scan-whole : (m p k : ℕ) → scanFrom m (segView s) p k .answer ≢ 4
   scan-whole zero p k = λ x. omega arith
   scan-whole (suc m) p k = go (scan-whole m (p + 1) 0)
     where
@@ -234,11 +194,3 @@ module _ (s v : List ℕ) (h : SoundSegment s v) where
           rw (undamaged w t k, good-in w t j)
           (by-test (λ (d : Scanned). d .answer ≢ 4) (ltb j (w .slotCount)) (recordAt w p j) (scanFrom m (segView s) (p + 1) 0)
           (λ a. record-whole) (λ a. ih))
-
-  -- wherever the scan stands
-  pub scan-right : (p k : ℕ) → scanStep s p k .answer ≢ 4
-  unfolding scanStep scanPlan
-  scan-right p k =
-      by-test (λ (d : Scanned). d .answer ≢ 4) (ltb 32527 p) (without 0 p k) (cond (sizeOk s) (scanPlan (segView s) p k) (without 1 overPage 0))
-      (λ a x. omega arith)
-      (λ a. rw (h .whole) (scan-whole (segView s .pages - p) p k))

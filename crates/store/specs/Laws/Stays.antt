@@ -4,12 +4,12 @@ use Prim.Native.Nat.{ℕ, _+_, _-_, _*_, _^_, _≤_, _<_}
 use mathlib.Core.Path.{_≡_, refl, sym, ap, _∙_, subst}
 use mathlib.Core.Bool.{Bool, true, false, cond, not, _||_}
 use mathlib.Core.List.{List, [], _∷_, _++_}
-use mathlib.Core.Logic.{_⊎_, inl, inr, ⊎-elim, _≢_}
+use mathlib.Core.Logic.{_⊎_, ⊎-elim, _≢_}
 use native.Mathlib.Omega.{arith}
 use native.Mathlib.Decide.{ℕ-discrete, decLt}
 use lib.ListN.{length, take, drop}
 use lib.Dec.{eqb, ltb}
-use borrow.Author.Tests.{eq-eqb, ne-eqb, lt-ltb, eqb-true, eqb-false, ltb-true, ltb-false}
+use borrow.Author.Tests.{eq-eqb, ne-eqb, lt-ltb, eqb-true, eqb-false}
 use Rattle.store.specs.Numbers.{be, toBE, zeros, upd, sum, pageNo, slotNo, idOf}
 use Rattle.store.specs.Laws.Roots.{by-sound-root}
 use Rattle.store.specs.Laws.Slots.{tag}
@@ -17,7 +17,7 @@ use Rattle.store.specs.Slots.{off, len, isFree, isTarget, placed}
 use Rattle.store.specs.Page.{View, sound}
 use Rattle.store.specs.PageSteps.{move, Plan, withSlot, Alloc, noRoom, got, eraseForRedirect, Relocated, refused, moved, relocate, filled, plan}
 use Rattle.store.specs.PageSteps.{allocate, erase}
-use Rattle.store.specs.Inventory.{classOf, entryFor, entryAt, Truth, update, foundIn}
+use Rattle.store.specs.Inventory.{classOf, entryFor, Truth, update, foundIn}
 use Rattle.store.specs.Refusals.{NOPAGE, LONG}
 use Rattle.store.specs.Segment.{SegView, OnPage, on, Out, done, refuse, Found, nowhere, found, taken, findOn, needFor, find, inserted}
 use Rattle.store.specs.Segment.{insertPlan, pointsBack, targeted, forwarded, fromOrdinary, forwardedAgain, atTarget, atHome, fromRedirect}
@@ -28,12 +28,13 @@ use Rattle.store.specs.Laws.Truth.{truth-by}
 use Rattle.store.specs.Laws.Views.{Sound}
 use Rattle.store.specs.Laws.SoundPage.{sound-test}
 use Rattle.store.specs.Laws.Segments.{settledOn, settled}
-use Rattle.store.specs.Laws.Calls.{by-test}
+use Rattle.store.specs.Laws.Calls.{by-test, target-taken, named-tells}
+use Rattle.store.specs.Laws.Cases.{or-true, or-false}
 use Rattle.store.specs.Laws.OneSlot.{cost-most}
 use Rattle.store.specs.Laws.Changes.{Writes, Headed, Changes, retag, fill-changes, alloc-changes, AllocChanges, erase-changes, redirect-changes}
 use Rattle.store.specs.Laws.Changes.{entry-changes, Relocates, relocate-changes}
-use Rattle.store.specs.SoundSegment.{slotOn, bytesOn, nibbleOf, classes}
-use Rattle.store.specs.Laws.Pairs.{PairOk, Pairs, tagOn, tag-target, moves-by, Moves, look, rowAt, Root, Plain, pairs-one, pairs-target}
+use Rattle.store.specs.SoundSegment.{slotOn, bytesOn, Root, nibbleOf, classes}
+use Rattle.store.specs.Laws.Pairs.{PairOk, Pairs, tagOn, tag-target, moves-by, Moves, look, rowAt, Plain, pairs-one, pairs-target}
 use Rattle.store.specs.Laws.Pairs.{pairs-home, pairs-again, pairs-forward}
 use Rattle.store.specs.Laws.Settled.{page-else, tags-step, bytes-step, classes-step, classes-same, classes-bounded, changed-bounded}
 use Rattle.store.specs.Laws.Settled.{changed-swap, update-true, length-update}
@@ -102,10 +103,6 @@ slot-of p k h = omega arith
 back-read : (i : ℕ) (xs : List ℕ) → i < 256 ^ 8 → be (take 8 (toBE 8 i ++ xs)) ≡ i
 back-read i xs h = be-toBE 8 h
 
-or-true : (a b : Bool) → (a || b) ≡ true → (a ≡ true) ⊎ (b ≡ true)
-or-true true b e = inl refl
-or-true false b e = inr e
-
 module _ (u : SegView) (sounds : (p : ℕ) → Sound (u .page p)) (few : u .pages ≤ 32527) (v : List ℕ) (one : length v ≡ 16384)
     (pairs : Pairs (u .pages) (tagOn u) (bytesOn u)) (truth : Truth (classes u) (u .pages) v) where
   pub refusal : (w : Read) (a : ℕ) → a ≢ 0 → a ≢ 4 → a ≢ 8 → Stays u v w (refuse v a)
@@ -123,13 +120,28 @@ module _ (u : SegView) (sounds : (p : ℕ) → Sound (u .page p)) (few : u .page
     current = g;
   }
 
+  -- a plan that is carried out: steps that are right, an inventory that is true, and what they make of the ids
+  carried-out : (w : Read) (i : ℕ) → pageNo i < u .pages → (es : List OnPage) (x : List ℕ) → AllSteps u es → Truth (classes (settled es u)) (u .pages) x
+      → length x ≡ length v → Moves (u .pages) (tagOn u) (bytesOn u) (tagOn (settled es u)) (bytesOn (settled es u)) i w → Stays u v w (done i es x)
+  carried-out w i at-id es x steps inv long g =
+      record {
+        steps = steps;
+        pairs = g .pairs;
+        own = λ e. g .own;
+        others = λ j l n r. g .others j l (n refl) r;
+        plain = λ e. g .plain;
+        rows = λ j l n. g .rows j l (n refl);
+        below = λ e. at-id;
+        truth = inv;
+        long = long;
+        whole = λ e. omega arith;
+        current = λ e. omega arith;
+      }
+
   -- ---- one, two and three steps
 
   module _ (w : Read) (i : ℕ) (at-id : pageNo i < u .pages) (p k : ℕ) (x : Slot) (bs : List ℕ) (a : Plan) (below : p < u .pages)
       (c : Changes (u .page p) k x bs a) (d : ℕ) (is : idOf p k ≡ d) where
-    u1 : SegView
-    u1 = settledOn (on p a) u
-
     truth1 : Truth (classes (settledOn (on p a) u)) (u .pages) (update v (u .pages) p (a .after .freeSpace))
     truth1 =
         truth-by _ (classes (settledOn (on p a) u)) (u .pages) _ (sym (classes-step u p a below (c .used)))
@@ -138,20 +150,8 @@ module _ (u : SegView) (sounds : (p : ℕ) → Sound (u .page p)) (few : u .page
     one-step : Moves (u .pages) (tagOn u) (bytesOn u) (upd (tagOn u) d x) (upd (bytesOn u) d bs) i w
         → Stays u v w (done i (on p a ∷ []) (update v (u .pages) p (a .after .freeSpace)))
     one-step h =
-        let g = moves-by (u .pages) (tagOn u) (bytesOn u) _ _ _ _ i w (tags-step u p k x bs a c d is) (bytes-step u p k x bs a c d is) h in
-        record {
-          steps = (step-ok (u .page p) k x bs a c, tt);
-          pairs = g .pairs;
-          own = λ e. g .own;
-          others = λ j l n r. g .others j l (n refl) r;
-          plain = λ e. g .plain;
-          rows = λ j l n. g .rows j l (n refl);
-          below = λ e. at-id;
-          truth = truth1;
-          long = length-update v (u .pages) p (a .after .freeSpace);
-          whole = λ e. omega arith;
-          current = λ e. omega arith;
-        }
+        carried-out w i at-id (on p a ∷ []) _ (step-ok (u .page p) k x bs a c, tt) truth1 (length-update v (u .pages) p (a .after .freeSpace))
+        (moves-by (u .pages) (tagOn u) (bytesOn u) _ _ _ _ i w (tags-step u p k x bs a c d is) (bytes-step u p k x bs a c d is) h)
 
     module _ (q j : ℕ) (y : Slot) (cs : List ℕ) (b : Plan) (below′ : q < u .pages) (c′ : Changes (u .page q) j y cs b) (n : q ≢ p) (d′ : ℕ)
         (is′ : idOf q j ≡ d′) where
@@ -183,47 +183,27 @@ module _ (u : SegView) (sounds : (p : ℕ) → Sound (u .page p)) (few : u .page
       two-steps : Moves (u .pages) (tagOn u) (bytesOn u) (upd (upd (tagOn u) d x) d′ y) (upd (upd (bytesOn u) d bs) d′ cs) i w
           → Stays u v w (done i (on p a ∷ on q b ∷ []) (update (update v (u .pages) p (a .after .freeSpace)) (u .pages) q (b .after .freeSpace)))
       two-steps h =
-          let g = moves-by (u .pages) (tagOn u) (bytesOn u) _ _ _ _ i w tags2 bytes2 h in
-          record {
-            steps = steps2;
-            pairs = g .pairs;
-            own = λ e. g .own;
-            others = λ j l n r. g .others j l (n refl) r;
-            plain = λ e. g .plain;
-            rows = λ j l n. g .rows j l (n refl);
-            below = λ e. at-id;
-            truth = truth-by _ (classes (settledOn (on q b) (settledOn (on p a) u))) (u .pages) _ (sym classes2)
-                (inv-two (classes u) refl v one truth (a .after .freeSpace) (b .after .freeSpace));
-            long = length-update (update v (u .pages) p (a .after .freeSpace)) (u .pages) q (b .after .freeSpace)
-                ∙ length-update v (u .pages) p (a .after .freeSpace);
-            whole = λ e. omega arith;
-            current = λ e. omega arith;
-          }
+          carried-out w i at-id (on p a ∷ on q b ∷ []) _ steps2
+          (truth-by _ (classes (settledOn (on q b) (settledOn (on p a) u))) (u .pages) _ (sym classes2)
+          (inv-two (classes u) refl v one truth (a .after .freeSpace) (b .after .freeSpace)))
+          (length-update (update v (u .pages) p (a .after .freeSpace)) (u .pages) q (b .after .freeSpace)
+          ∙ length-update v (u .pages) p (a .after .freeSpace))
+          (moves-by (u .pages) (tagOn u) (bytesOn u) _ _ _ _ i w tags2 bytes2 h)
 
       -- the second page is updated first
       two-swapped : Moves (u .pages) (tagOn u) (bytesOn u) (upd (upd (tagOn u) d x) d′ y) (upd (upd (bytesOn u) d bs) d′ cs) i w
           → Stays u v w (done i (on p a ∷ on q b ∷ []) (update (update v (u .pages) q (b .after .freeSpace)) (u .pages) p (a .after .freeSpace)))
       two-swapped h =
-          let g = moves-by (u .pages) (tagOn u) (bytesOn u) _ _ _ _ i w tags2 bytes2 h in
-          record {
-            steps = steps2;
-            pairs = g .pairs;
-            own = λ e. g .own;
-            others = λ j l n r. g .others j l (n refl) r;
-            plain = λ e. g .plain;
-            rows = λ j l n. g .rows j l (n refl);
-            below = λ e. at-id;
-            truth = truth-by _ (classes (settledOn (on q b) (settledOn (on p a) u))) (u .pages) _
-                (sym (classes2 ∙ changed-swap (classes u) p q (classOf (16372 - a .after .freeSpace)) (classOf (16372 - b .after .freeSpace)) n))
-                (update-true (upd (classes u) q (classOf (16372 - b .after .freeSpace))) (u .pages) few (update v (u .pages) q (b .after .freeSpace))
-                (length-update v (u .pages) q (b .after .freeSpace) ∙ one)
-                (changed-bounded (classes u) q (16372 - b .after .freeSpace) (classes-bounded u))
-                (update-true (classes u) (u .pages) few v one (classes-bounded u) truth q (b .after .freeSpace) below′) p (a .after .freeSpace) below);
-            long = length-update (update v (u .pages) q (b .after .freeSpace)) (u .pages) p (a .after .freeSpace)
-                ∙ length-update v (u .pages) q (b .after .freeSpace);
-            whole = λ e. omega arith;
-            current = λ e. omega arith;
-          }
+          carried-out w i at-id (on p a ∷ on q b ∷ []) _ steps2
+          (truth-by _ (classes (settledOn (on q b) (settledOn (on p a) u))) (u .pages) _
+          (sym (classes2 ∙ changed-swap (classes u) p q (classOf (16372 - a .after .freeSpace)) (classOf (16372 - b .after .freeSpace)) n))
+          (update-true (upd (classes u) q (classOf (16372 - b .after .freeSpace))) (u .pages) few (update v (u .pages) q (b .after .freeSpace))
+          (length-update v (u .pages) q (b .after .freeSpace) ∙ one)
+          (changed-bounded (classes u) q (16372 - b .after .freeSpace) (classes-bounded u))
+          (update-true (classes u) (u .pages) few v one (classes-bounded u) truth q (b .after .freeSpace) below′) p (a .after .freeSpace) below))
+          (length-update (update v (u .pages) q (b .after .freeSpace)) (u .pages) p (a .after .freeSpace)
+          ∙ length-update v (u .pages) q (b .after .freeSpace))
+          (moves-by (u .pages) (tagOn u) (bytesOn u) _ _ _ _ i w tags2 bytes2 h)
 
       -- the first page keeps its free space and is not updated
       module _ (was : 0 < u .page p .slotCount) (kept : a .after .freeSpace ≡ u .page p .freeSpace) (r m : ℕ) (z : Slot) (ds : List ℕ) (g : Plan)
@@ -248,31 +228,21 @@ module _ (u : SegView) (sounds : (p : ℕ) → Sound (u .page p)) (few : u .page
             tags-step u2 r m z ds g last d″ is″ ∙ ap (λ (T : ℕ → Slot). upd T d″ z) tags2 in
             let bt : bytesOn (settledOn (on r g) u2) ≡ upd (upd (upd (bytesOn u) d bs) d′ cs) d″ ds =
             bytes-step u2 r m z ds g last d″ is″ ∙ ap (λ (B : ℕ → List ℕ). upd B d″ ds) bytes2 in
-            let gm = moves-by (u .pages) (tagOn u) (bytesOn u) _ _ _ _ i w tg bt h in
-            record {
-              steps = (steps2 .0, (steps2 .1 .0, (step-ok (u2 .page r) m z ds g last, tt)));
-              pairs = gm .pairs;
-              own = λ e. gm .own;
-              others = λ j l n r. gm .others j l (n refl) r;
-              plain = λ e. gm .plain;
-              rows = λ j l n. gm .rows j l (n refl);
-              below = λ e. at-id;
-              truth = truth-by _ (classes (settledOn (on r g) u2)) (u .pages) _ (sym cl)
-                  (update-true (upd (classes u) q (classOf (16372 - b .after .freeSpace))) (u .pages) few
-                  (update v (u .pages) q (b .after .freeSpace)) (length-update v (u .pages) q (b .after .freeSpace) ∙ one)
-                  (changed-bounded (classes u) q (16372 - b .after .freeSpace) (classes-bounded u))
-                  (update-true (classes u) (u .pages) few v one (classes-bounded u) truth q (b .after .freeSpace) below′) r (g .after .freeSpace) below″);
-              long = length-update (update v (u .pages) q (b .after .freeSpace)) (u .pages) r (g .after .freeSpace)
-                  ∙ length-update v (u .pages) q (b .after .freeSpace);
-              whole = λ e. omega arith;
-              current = λ e. omega arith;
-            }
+            carried-out w i at-id (on p a ∷ on q b ∷ on r g ∷ []) _ (steps2 .0, (steps2 .1 .0, (step-ok (u2 .page r) m z ds g last, tt)))
+            (truth-by _ (classes (settledOn (on r g) u2)) (u .pages) _ (sym cl)
+            (update-true (upd (classes u) q (classOf (16372 - b .after .freeSpace))) (u .pages) few
+            (update v (u .pages) q (b .after .freeSpace)) (length-update v (u .pages) q (b .after .freeSpace) ∙ one)
+            (changed-bounded (classes u) q (16372 - b .after .freeSpace) (classes-bounded u))
+            (update-true (classes u) (u .pages) few v one (classes-bounded u) truth q (b .after .freeSpace) below′) r (g .after .freeSpace) below″))
+            (length-update (update v (u .pages) q (b .after .freeSpace)) (u .pages) r (g .after .freeSpace)
+            ∙ length-update v (u .pages) q (b .after .freeSpace))
+            (moves-by (u .pages) (tagOn u) (bytesOn u) _ _ _ _ i w tg bt h)
 
   -- ---- the page that a true inventory names has room to spare
 
-  abbrev NamedFits : ℕ → Named → Type 0
-  NamedFits need Full = Unit {0}
-  NamedFits need (At p) = (p < u .pages) × (need ≤ u .page p .freeSpace) × (0 < u .page p .slotCount → need < u .page p .freeSpace)
+  abbrev NamedRoomy : ℕ → Named → Type 0
+  NamedRoomy need Full = Unit {0}
+  NamedRoomy need (At p) = (p < u .pages) × (need ≤ u .page p .freeSpace) × (0 < u .page p .slotCount → need < u .page p .freeSpace)
 
   roomy-page : (p need : ℕ) → need ≤ 16372 → p < u .pages → classes u p ≤ entryFor need
       → (need ≤ u .page p .freeSpace) × (0 < u .page p .slotCount → need < u .page p .freeSpace)
@@ -291,19 +261,17 @@ module _ (u : SegView) (sounds : (p : ℕ) → Sound (u .page p)) (few : u .page
           let m : classOf (16372 - u .page p .freeSpace) ≤ entryFor need = rw (ne-eqb (u .page p .slotCount) 0 e) at nibble in
           absurd (omega (arith, class-mono (16372 - need) (16372 - u .page p .freeSpace) (omega arith), class-low (16372 - need)))
 
-  named-fits : (need : ℕ) → NamedFits need (foundIn v (u .pages) need)
-  unfolding foundIn
-  named-fits need =
-      let c : ℕ = entryFor need in
-      let e : ℕ = entryAt v c in
-      by-test (NamedFits need) (ltb 16372 need) Full (cond (ltb e (u .pages)) (At e) Full) (λ t. tt)
-      (λ t. by-test (NamedFits need) (ltb e (u .pages)) (At e) Full
-      (λ l.
-      let b = ltb-true e (u .pages) l in
-      let low = truth .entries c (omega (arith, class-top (16372 - need), class-low (16372 - need))) in
-      let y = roomy-page e need (ltb-false 16372 need t) b (low .here b) in
-      (b, y .0, y .1))
-      (λ l. tt))
+  named-roomy : (need : ℕ) → NamedRoomy need (foundIn v (u .pages) need)
+  named-roomy need = go (foundIn v (u .pages) need) refl
+    where
+      go : (m : Named) → foundIn v (u .pages) need ≡ m → NamedRoomy need m
+      go Full e = tt
+      go (At p) e =
+          let n = named-tells v (u .pages) need p e in
+          let low = truth .entries (entryFor need) (omega (arith, class-top (16372 - need), class-low (16372 - need))) in
+          let y = roomy-page p need (n .most) (n .below) (subst (λ (q : ℕ). classes u q ≤ entryFor need) (n .entry)
+          (low .here (subst (λ (q : ℕ). q < u .pages) (sym (n .entry)) (n .below)))) in
+          (n .below, y .0, y .1)
 
   abbrev FoundFits : ℕ → (ℕ → Bool) → Found → Type 0
   FoundFits m ex (nowhere a) = a ≡ 7
@@ -313,14 +281,14 @@ module _ (u : SegView) (sounds : (p : ℕ) → Sound (u .page p)) (few : u .page
   find-fits : (m : ℕ) (ex : ℕ → Bool) → ((q : ℕ) → ex q ≡ true → (0 < u .page q .slotCount) × (u .page q .freeSpace ≤ needFor m))
       → FoundFits m ex (find foundIn u v m ex)
   unfolding find
-  find-fits m ex out = go (foundIn v (u .pages) (needFor m)) (named-fits (needFor m))
+  find-fits m ex out = go (foundIn v (u .pages) (needFor m)) (named-roomy (needFor m))
     where
       placed-in : (p : ℕ) → p < u .pages → ex p ≡ false → needFor m ≤ u .page p .freeSpace → (a : Alloc) → AllocChanges (u .page p) (sounds p) m a
           → FoundFits m ex (taken p a)
       placed-in p l x r noRoom h = absurd (omega (arith, cost-most (u .page p) m .0))
       placed-in p l x r (got k a) h = (l, x, h .0, h .1, h .2)
 
-      go : (n : Named) → NamedFits (needFor m) n → FoundFits m ex (findOn u m ex n)
+      go : (n : Named) → NamedRoomy (needFor m) n → FoundFits m ex (findOn u m ex n)
       go Full h = refl
       go (At p) h =
           by-test (FoundFits m ex) (not (sound (u .page p))) (nowhere 4) (cond (ex p) (nowhere 8) (taken p (allocate (u .page p) m)))
@@ -330,8 +298,11 @@ module _ (u : SegView) (sounds : (p : ℕ) → Sound (u .page p)) (few : u .page
           (λ x. absurd (omega (arith, out p x .1, h .2 (out p x .0))))
           (λ x. placed-in p (h .0) x (h .1) (allocate (u .page p) m) (alloc-changes (u .page p) (sounds p) m)))
 
+  free-slot : (q j : ℕ) → j < 65536 → u .page q .at j ≡ Free → slotOn u (idOf q j) ≡ Free
+  free-slot q j l e = (λ i. u .page (page-of q j l i) .at (slot-of q j l i)) ∙ e
+
   free-tag : (q j : ℕ) → j < 65536 → u .page q .at j ≡ Free → tagOn u (idOf q j) ≡ Free
-  free-tag q j l e = (λ i. tag (u .page (page-of q j l i) .at (slot-of q j l i))) ∙ ap tag e
+  free-tag q j l e = ap tag (free-slot q j l e)
 
   -- ---- insert and allocate
 
@@ -352,16 +323,16 @@ module _ (u : SegView) (sounds : (p : ℕ) → Sound (u .page p)) (few : u .page
           (subst Plain (sym (free-tag q j (o .3 .small) (o .2))) tt) tt refl)
 
   -- an id that is handed out was free
-  pub insert-new : (bs : List ℕ) → insertPlan foundIn u v bs .answer ≡ 0 → tagOn u (insertPlan foundIn u v bs .id) ≡ Free
+  pub insert-new : (bs : List ℕ) → insertPlan foundIn u v bs .answer ≡ 0 → slotOn u (insertPlan foundIn u v bs .id) ≡ Free
   unfolding insertPlan
   insert-new bs =
-      by-test (λ (o : Out). o .answer ≡ 0 → tagOn u (o .id) ≡ Free) (ltb 16364 (length bs)) (refuse v 3)
+      by-test (λ (o : Out). o .answer ≡ 0 → slotOn u (o .id) ≡ Free) (ltb 16364 (length bs)) (refuse v 3)
       (inserted u v bs (find foundIn u v (length bs) (λ p. false))) (λ e x. absurd (omega arith))
       (λ e. go (find foundIn u v (length bs) (λ p. false)) (find-fits (length bs) (λ p. false) (λ q x. let z : _≡_ {A = ℕ} 0 1 = cc in absurd (omega arith))))
     where
-      go : (f : Found) → FoundFits (length bs) (λ p. false) f → inserted u v bs f .answer ≡ 0 → tagOn u (inserted u v bs f .id) ≡ Free
+      go : (f : Found) → FoundFits (length bs) (λ p. false) f → inserted u v bs f .answer ≡ 0 → slotOn u (inserted u v bs f .id) ≡ Free
       go (nowhere a) o x = absurd (omega arith)
-      go (found q j a) o x = free-tag q j (o .3 .small) (o .2)
+      go (found q j a) o x = free-slot q j (o .3 .small) (o .2)
 
   -- ---- a redirect of a sound segment leads to its target
 
@@ -382,17 +353,11 @@ module _ (u : SegView) (sounds : (p : ℕ) → Sound (u .page p)) (few : u .page
           eq-eqb (be (take 8 (u .page (pageNo t) .bytes (slotNo t)))) i (partner .3),
         )
 
-    target-taken : isFree (slotOn u t) ≡ false
-    target-taken = go (slotOn u t) is-target
-      where
-        go : (x : Slot) → isTarget x ≡ true → isFree x ≡ false
-        go (Ordinary o l) e = refl
-        go Free e = sym e
-        go (Redirect i) e = refl
-        go (Target o l) e = refl
+    target-used : isFree (slotOn u t) ≡ false
+    target-used = target-taken (slotOn u t) is-target
 
     target-counted : slotNo t < u .page (pageNo t) .slotCount
-    target-counted = counted (u .page (pageNo t)) (sounds (pageNo t)) (slotNo t) target-taken
+    target-counted = counted (u .page (pageNo t)) (sounds (pageNo t)) (slotNo t) target-used
 
     root-taken : isFree (slotOn u i) ≡ false
     root-taken = ap isFree here
@@ -401,7 +366,7 @@ module _ (u : SegView) (sounds : (p : ℕ) → Sound (u .page p)) (few : u .page
     root-counted = counted (u .page (pageNo i)) (sounds (pageNo i)) (slotNo i) root-taken
 
     target-erased : Changes (u .page (pageNo t)) (slotNo t) Free [] (erase (u .page (pageNo t)) (slotNo t))
-    target-erased = erase-changes (u .page (pageNo t)) (sounds (pageNo t)) (slotNo t) target-counted target-taken
+    target-erased = erase-changes (u .page (pageNo t)) (sounds (pageNo t)) (slotNo t) target-counted target-used
 
     placed-target : (m : ℕ) → placed (slotOn u t) 0 m ≡ Target 0 m
     placed-target m = go (slotOn u t) is-target
@@ -453,9 +418,6 @@ module _ (u : SegView) (sounds : (p : ℕ) → Sound (u .page p)) (few : u .page
     target-new old q j a n c =
         retag (u .page q) j (Ordinary 0 n) (zeros n) a c (Target (off (a .after .at j)) (len (a .after .at j))) (toBE 8 i ++ new old)
         (move j (withSlot (a .after) j (Target (off (a .after .at j)) (len (a .after .at j))) (toBE 8 i ++ new old)))
-
-    root-page : View
-    root-page = u .page (pageNo i)
 
     module _ (taken : isFree (slotOn u i) ≡ false) where
       inside : slotNo i < u .page (pageNo i) .slotCount
@@ -513,13 +475,9 @@ module _ (u : SegView) (sounds : (p : ℕ) → Sound (u .page p)) (few : u .page
             (subst (λ (p : ℕ). p < u .pages) (sym (page-of q j h)) (o .0)) (λ e. ni (sym (page-of q j h) ∙ e))
             (λ e. nt (sym (page-of q j h) ∙ ap pageNo e)) (free-tag q j h (o .2))
             (back-read i (new old) small-id))
-          where
-            or-false : (x y : Bool) → (x || y) ≡ false → (x ≡ false) × (y ≡ false)
-            or-false true y e = let z : _≡_ {A = ℕ} 0 1 = cc in absurd (omega arith)
-            or-false false y e = (refl, e)
 
         at-target-stays : (old : List ℕ) → u .page (pageNo i) .freeSpace < size → (r : Relocated)
-            → Relocates (u .page (pageNo t)) (sounds (pageNo t)) (slotNo t) (target-counted i t below here) (target-taken i t below here) (size + 8) r
+            → Relocates (u .page (pageNo t)) (sounds (pageNo t)) (slotNo t) (target-counted i t below here) (target-used i t below here) (size + 8) r
             → Stays u v (wrote (new old)) (atTarget foundIn u v i size new t old r)
         at-target-stays old short (moved a) m =
             let bs : List ℕ = toBE 8 i ++ new old in
@@ -550,7 +508,7 @@ module _ (u : SegView) (sounds : (p : ℕ) → Sound (u .page p)) (few : u .page
             (ap (λ (x : Slot). look (λ m. new old) i (placed x 0 size)) here))
         home-stays old refused m =
             at-target-stays old m (relocate (u .page (pageNo t)) (slotNo t) (size + 8))
-            (relocate-changes (u .page (pageNo t)) (sounds (pageNo t)) (slotNo t) (target-counted i t below here) (target-taken i t below here) (size + 8))
+            (relocate-changes (u .page (pageNo t)) (sounds (pageNo t)) (slotNo t) (target-counted i t below here) (target-used i t below here) (size + 8))
 
   pub store-stays : (i size : ℕ) (new : List ℕ → List ℕ) → Stays u v (wrote (new (oldBytes u i))) (storePlan foundIn u v i size new)
   unfolding storePlan

@@ -52,20 +52,12 @@ first-agree f g c q k e a h = record {
   here = λ l. omega (arith, a e (h .low) l, h .here l);
 }
 
--- ---- the lowest page: one, falling as the class rises, and found by a search from page 0
+-- ---- the lowest page falls as the class rises
 
 module _ (f : ℕ → ℕ) (n : ℕ) where
   pub lowest-falls : (a b d e : ℕ) → a ≤ b → Lowest f n a d → Lowest f n b e → e ≤ d
   lowest-falls a b d e l p q =
       ⊎-elim (λ lt. omega (arith, p .here (omega (arith, q .within)), q .before d lt)) (λ le. le) (lt-or-le d e)
-
-  pub lowest-one : (c d e : ℕ) → Lowest f n c d → Lowest f n c e → d ≡ e
-  lowest-one c d e p q = omega (arith, lowest-falls c c d e (omega arith) p q, lowest-falls c c e d (omega arith) q p)
-
-  pub lowest-found : (c : ℕ) → Lowest f n c (firstFrom f c 0 n)
-  lowest-found c =
-      let h = first-is f c 0 n in
-      record { within = omega (arith, h .high); before = λ k l. h .before k (omega arith) l; here = λ l. h .here (omega arith) }
 
 -- ---- what the steps of an update do to each entry and nibble
 

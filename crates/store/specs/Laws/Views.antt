@@ -3,7 +3,7 @@ use Prim.Native.Nat.{ℕ, zero, suc, _+_, _-_, _*_, _≤_, _<_, min}
 use mathlib.Core.Path.{_≡_, refl, sym, ap, _∙_}
 use mathlib.Core.Bool.{Bool, true, false, cond}
 use mathlib.Core.List.{List, []}
-use mathlib.Core.Logic.{_⊎_, inl, inr, _≢_}
+use mathlib.Core.Logic.{_⊎_, inl, inr, ⊎-elim, _≢_}
 use native.Mathlib.Omega.{arith}
 use native.Mathlib.Nat.{not-suc-le-zero}
 use native.Mathlib.Decide.{ℕ-discrete, decLt}
@@ -33,22 +33,19 @@ upd-same f k x = rw (eq-eqb k k refl)
 pub upd-other {ℓ} : {A : Type ℓ} (f : ℕ → A) (k : ℕ) (x : A) (j : ℕ) → j ≢ k → upd f k x j ≡ f j
 upd-other f k x j n = rw (ne-eqb j k n)
 
+-- two records are apart in either order
+pub apart-flip : (c d : Slot) → Apart c d → Apart d c
+apart-flip c d h p q = ⊎-elim inr inl (h q p)
+
 -- slots one of which is new stay apart, and as long as their bytes
 pub upd-apart : (f : ℕ → Slot) (k : ℕ) (x : Slot) → ((j : ℕ) → j ≢ k → Apart x (f j)) → ((i j : ℕ) → i ≢ j → Apart (f i) (f j))
     → (i j : ℕ) → i ≢ j → Apart (upd f k x i) (upd f k x j)
 upd-apart f k x a b i j n = go (ℕ-discrete i k) (ℕ-discrete j k)
   where
-    flip : (c d : Slot) → Apart c d → Apart d c
-    flip c d h p q = turn (h q p)
-      where
-        turn : (off c + len c ≤ off d) ⊎ (off d + len d ≤ off c) → (off d + len d ≤ off c) ⊎ (off c + len c ≤ off d)
-        turn (inl y) = inr y
-        turn (inr y) = inl y
-
     go : Dec (i ≡ k) → Dec (j ≡ k) → Apart (upd f k x i) (upd f k x j)
     go (yes d) (yes e) = absurd (n (d ∙ sym e))
     go (yes d) (no e) = rw (eq-eqb i k d, ne-eqb j k e) (a j e)
-    go (no d) (yes e) = rw (ne-eqb i k d, eq-eqb j k e) (flip x (f i) (a i d))
+    go (no d) (yes e) = rw (ne-eqb i k d, eq-eqb j k e) (apart-flip x (f i) (a i d))
     go (no d) (no e) = rw (ne-eqb i k d, ne-eqb j k e) (b i j n)
 
 pub upd-lens : (f : ℕ → Slot) (g : ℕ → List ℕ) (k : ℕ) (x : Slot) (bs : List ℕ) → length bs ≡ len x → ((j : ℕ) → length (g j) ≡ len (f j))

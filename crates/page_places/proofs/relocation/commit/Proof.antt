@@ -13,7 +13,10 @@ same-length : tie.Need-same-length
 same-length c = search needs
 
 returns : tie.Need-returns
-returns c = rw (c .before .before .write-slot .ensures, c .before .before .before .before .before .before .set-header .ensures)
+returns c =
+    let entered = c .before .before in
+    let headed = entered .before .before .before .before in
+    rw (entered .write-slot .ensures, headed .set-header .ensures)
 
 pub commit-spec : {M : Type 1} → statement M
 commit-spec = tie.close (tie.spec set-header-requires write-slot-requires same-length returns)

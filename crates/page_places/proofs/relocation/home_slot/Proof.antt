@@ -13,9 +13,10 @@ same-length c = search needs
 
 returns : tie.Need-returns
 returns c =
-    let r = c .before in
-    let a = r .before .before .before .args in
-    let y = home-none (view (a .page .now)) (a .k) (a .size) (r .get-free-space .result) (a .page .now) (r .get-free-space .ensures .0) (c .if1 .taken) in
+    let free = c .before in
+    let a = free .before .before .before .args in
+    let y = home-none (view (a .page .now)) (a .k) (a .size) (free .get-free-space .result) (a .page .now) (free .get-free-space .ensures .0)
+    (c .if1 .taken) in
     (y .0, y .1, tt)
 
 put-under-requires : tie.Need-put-under-requires
@@ -26,13 +27,13 @@ same-length-2 c = search needs
 
 returns-2 : tie.Need-returns-2
 returns-2 c =
-    let u = c .before .before in
-    let e = u .before .before in
-    let r = e .before in
-    let a = r .before .before .before .args in
-    let y = home-done (view (a .page .now)) (a .k) (a .size) (r .get-free-space .result) (a .page .now) (r .get-free-space .ensures .0)
-    (u .put-under .result) (u .put-under .last .0) (e .if1 .left) (u .put-under .ensures .0) (u .put-under .ensures .1) in
-    (y .0, y .1, u .put-under .ensures .2)
+    let under = c .before .before in
+    let enough = under .before .before in
+    let free = enough .before in
+    let a = free .before .before .before .args in
+    let y = home-done (view (a .page .now)) (a .k) (a .size) (free .get-free-space .result) (a .page .now) (free .get-free-space .ensures .0)
+    (under .put-under .result) (under .put-under .last .0) (enough .if1 .left) (under .put-under .ensures .0) (under .put-under .ensures .1) in
+    (y .0, y .1, under .put-under .ensures .2)
 
 pub home-slot-spec : {M : Type 1} → statement M
 home-slot-spec =

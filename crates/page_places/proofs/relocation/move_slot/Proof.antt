@@ -6,6 +6,9 @@ use borrow.Author.Needs.{needs}
 use Rattle.page_places.proofs.relocation.move_slot.Statement.{statement}
 use Rattle.page_places.proofs.relocation.move_slot.Tie as tie
 
+abbrev entry : tie.After-get-slot → tie.Start
+entry c = c .before .before .before
+
 get-slot-requires : tie.Need-get-slot-requires
 get-slot-requires c κs = search needs
 
@@ -17,11 +20,11 @@ same-length c = search needs
 
 returns : tie.Need-returns
 returns c =
-    let f = c .before in
-    let g = f .before in
-    let a = g .before .before .before .args in
-    rw (is-free-slot (view (a .page .now)) (a .k) (a .size) (g .get-slot .result) (g .get-slot .ensures .0)
-    (sym (c .if1 .taken) ∙ f .is-free .ensures)) (refl, refl, tt)
+    let free = c .before in
+    let slot = free .before in
+    let a = entry slot .args in
+    rw (is-free-slot (view (a .page .now)) (a .k) (a .size) (slot .get-slot .result) (slot .get-slot .ensures .0)
+    (sym (c .if1 .taken) ∙ free .is-free .ensures)) (refl, refl, tt)
 
 is-record-requires : tie.Need-is-record-requires
 is-record-requires c κs = search needs
@@ -34,13 +37,13 @@ same-length-2 c = search needs
 
 returns-2 : tie.Need-returns-2
 returns-2 c =
-    let z = c .before .before in
-    let h = z .before .before in
-    let r = h .before in
-    let g = r .before .before .before in
-    let a = g .before .before .before .args in
-    rw (is-record-slot (view (a .page .now)) (a .k) (a .size) (g .get-slot .result) (g .get-slot .ensures .0)
-    (sym (h .if2 .taken) ∙ r .is-record .ensures)) (z .resize-slot .ensures)
+    let done = c .before .before in
+    let branch = done .before .before in
+    let tested = branch .before in
+    let slot = tested .before .before .before in
+    let a = entry slot .args in
+    rw (is-record-slot (view (a .page .now)) (a .k) (a .size) (slot .get-slot .result) (slot .get-slot .ensures .0)
+    (sym (branch .if2 .taken) ∙ tested .is-record .ensures)) (done .resize-slot .ensures)
 
 home-slot-requires : tie.Need-home-slot-requires
 home-slot-requires c κs = search needs
@@ -50,15 +53,15 @@ same-length-3 c = search needs
 
 returns-3 : tie.Need-returns-3
 returns-3 c =
-    let z = c .before .before in
-    let h = z .before .before in
-    let r = h .before in
-    let e = r .before in
-    let f = e .before in
-    let g = f .before in
-    let a = g .before .before .before .args in
-    rw (is-redirect-slot (view (a .page .now)) (a .k) (a .size) (g .get-slot .result) (g .get-slot .ensures .0)
-    (sym (e .if1 .left) ∙ f .is-free .ensures) (sym (h .if2 .left) ∙ r .is-record .ensures)) (z .home-slot .ensures)
+    let done = c .before .before in
+    let branch = done .before .before in
+    let tested = branch .before in
+    let taken = tested .before in
+    let free = taken .before in
+    let slot = free .before in
+    let a = entry slot .args in
+    rw (is-redirect-slot (view (a .page .now)) (a .k) (a .size) (slot .get-slot .result) (slot .get-slot .ensures .0)
+    (sym (taken .if1 .left) ∙ free .is-free .ensures) (sym (branch .if2 .left) ∙ tested .is-record .ensures)) (done .home-slot .ensures)
 
 pub move-slot-spec : {M : Type 1} → statement M
 move-slot-spec =

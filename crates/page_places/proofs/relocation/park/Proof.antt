@@ -26,13 +26,17 @@ same-length c = search needs
 
 returns : tie.Need-returns
 returns c =
-    let z = c .before .before in
+    let done = c .before .before in
+    let free = done .before .before in
+    let begin = free .before .before in
+    let first = begin .before .before in
+    let count = first .before .before in
     rw (
-      z .commit .ensures,
-      z .before .before .get-free-space .ensures .0,
-      z .before .before .before .before .get-data-start .ensures .0,
-      z .before .before .before .before .before .before .get-first-free-slot .ensures .0,
-      z .before .before .before .before .before .before .before .before .get-slot-count .ensures .0,
+      done .commit .ensures,
+      free .get-free-space .ensures .0,
+      begin .get-data-start .ensures .0,
+      first .get-first-free-slot .ensures .0,
+      count .get-slot-count .ensures .0,
     )
 
 pub park-spec : {M : Type 1} → statement M

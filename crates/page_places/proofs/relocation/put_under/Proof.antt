@@ -36,21 +36,20 @@ same-length c = search needs
 
 returns : tie.Need-returns
 returns c =
-    let z = c .before .before in
-    let t = z .before in
-    let r = t .before .before .before .before in
-    let m = r .before .before in
-    let f = m .before .before in
-    let n = f .before .before in
-    let b = n .before .before .before in
-    let a = b .args in (
-      under-made (a .page .now) (a .k) (a .size) (n .get-slot-count .result) (f .get-first-free-slot .result) (m .get-free-space .result)
-          (r .make-room .result) (a .s) (t .placed-slot .result)
-          (r .make-room .last .0) (z .commit .last .0) (b .pre .1)
-          (n .get-slot-count .ensures .0) (f .get-first-free-slot .ensures .0) (m .get-free-space .ensures .0) (r .make-room .ensures)
-          (t .placed-slot .ensures .0) (z .commit .ensures),
-      ap (λ (x : ℕ). x - a .size) (r .make-room .ensures .begins),
-      omega (arith, r .make-room .ensures),
+    let done = c .before .before in
+    let slot = done .before in
+    let room = slot .before .before .before .before in
+    let free = room .before .before in
+    let first = free .before .before in
+    let count = first .before .before in
+    let start = count .before .before .before in
+    let a = start .args in (
+      under-made (a .page .now) (a .k) (a .size) (count .get-slot-count .result) (first .get-first-free-slot .result) (free .get-free-space .result)
+          (room .make-room .result) (a .s) (slot .placed-slot .result) (room .make-room .last .0) (done .commit .last .0) (start .pre .0 .sound)
+          (count .get-slot-count .ensures .0) (first .get-first-free-slot .ensures .0) (free .get-free-space .ensures .0) (room .make-room .ensures)
+          (slot .placed-slot .ensures .0) (done .commit .ensures),
+      ap (λ (x : ℕ). x - a .size) (room .make-room .ensures .begins),
+      omega (arith, room .make-room .ensures),
     )
 
 pub put-under-spec : {M : Type 1} → statement M

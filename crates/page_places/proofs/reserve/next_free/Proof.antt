@@ -26,10 +26,12 @@ is-free-requires c κs = omega arith
 
 returns : tie.Need-returns Inv-loop μ-loop
 returns c =
-    let l = c .before .before .before .before .loop in
-    let s = c .before .before .before .before .before .before .args in
-    let e = sym (c .if1 .taken) ∙ c .before .is-free .ensures ∙ ap isFree (c .before .before .get-slot .ensures .0) in
-    sym (next-here (view (s .page .now) .at) (s .c) (l .i) (omega arith) e) ∙ l .inv .1
+    let free = c .before in
+    let slot = free .before in
+    let head = slot .before .before in
+    let a = head .before .before .args in
+    let e = sym (c .if1 .taken) ∙ free .is-free .ensures ∙ ap isFree (slot .get-slot .ensures .0) in
+    sym (next-here (view (a .page .now) .at) (a .c) (head .loop .i) (omega arith) e) ∙ head .loop .inv .1
 
 add-i : tie.Need-add-i Inv-loop μ-loop
 add-i c = omega arith
@@ -39,16 +41,18 @@ loop-less c = omega arith
 
 loop-again : tie.Need-loop-again Inv-loop μ-loop
 loop-again c =
-    let l = c .before .before .before .before .loop in
-    let s = c .before .before .before .before .before .before .args in
-    let e = sym (c .if1 .left) ∙ c .before .is-free .ensures ∙ ap isFree (c .before .before .get-slot .ensures .0) in
-    (omega arith, sym (next-past (view (s .page .now) .at) (s .c) (l .i) (omega arith) e) ∙ l .inv .1)
+    let free = c .before in
+    let slot = free .before in
+    let head = slot .before .before in
+    let a = head .before .before .args in
+    let e = sym (c .if1 .left) ∙ free .is-free .ensures ∙ ap isFree (slot .get-slot .ensures .0) in
+    (omega arith, sym (next-past (view (a .page .now) .at) (a .c) (head .loop .i) (omega arith) e) ∙ head .loop .inv .1)
 
 returns-2 : tie.Need-returns-2 Inv-loop μ-loop
 returns-2 c =
-    let l = c .before .loop in
-    let s = c .before .before .before .args in
-    sym (next-end (view (s .page .now) .at) (s .c) (l .i) (omega arith)) ∙ l .inv .1
+    let head = c .before in
+    let a = head .before .before .args in
+    sym (next-end (view (a .page .now) .at) (a .c) (head .loop .i) (omega arith)) ∙ head .loop .inv .1
 
 pub next-free-spec : {M : Type 1} → statement M
 next-free-spec =

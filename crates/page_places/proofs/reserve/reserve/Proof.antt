@@ -26,15 +26,14 @@ same-length c = search needs
 
 returns : tie.Need-returns
 returns c =
-    let a = c .before in
-    let g = a .before in
-    let f = g .before .before in
-    let n = f .before .before in
-    let s = n .before .before .before .args in
-    let y = reserve-none (view (s .page .now)) (s .size) (n .get-slot-count .result) (f .get-first-free-slot .result) (g .get-free-space .result)
-    (a .added-for .result)
-    (n .get-slot-count .ensures .0) (f .get-first-free-slot .ensures .0) (g .get-free-space .ensures .0) (a .added-for .ensures .0) (s .page .now)
-    (c .if1 .taken) in
+    let added = c .before in
+    let free = added .before in
+    let first = free .before .before in
+    let count = first .before .before in
+    let a = count .before .before .before .args in
+    let y = reserve-none (view (a .page .now)) (a .size) (count .get-slot-count .result) (first .get-first-free-slot .result) (free .get-free-space .result)
+    (added .added-for .result) (count .get-slot-count .ensures .0) (first .get-first-free-slot .ensures .0) (free .get-free-space .ensures .0)
+    (added .added-for .ensures .0) (a .page .now) (c .if1 .taken) in
     (y .0, y .1, tt, tt)
 
 add-next-free : tie.Need-add-next-free
@@ -72,23 +71,28 @@ same-length-2 c = search needs
 
 returns-2 : tie.Need-returns-2
 returns-2 c =
-    let w = c .before .before in
-    let h = w .before .before .before .before in
-    let r = h .before .before .before .before in
-    let x = r .before .before in
-    let e = x .before .before in
-    let a = e .before in
-    let g = a .before in
-    let f = g .before .before in
-    let n = f .before .before in
-    let b = n .before .before .before in
-    let s = b .args in
-    let y = reserve-done (view (s .page .now)) (s .size) (n .get-slot-count .result) (f .get-first-free-slot .result) (g .get-free-space .result)
-    (a .added-for .result)
-    (n .get-slot-count .ensures .0) (f .get-first-free-slot .ensures .0) (g .get-free-space .ensures .0) (a .added-for .ensures .0) (b .pre .1)
-    (r .make-room .result) (x .next-free .result) (s .page .now) (r .make-room .last .0) (h .set-header .last .0) (w .write-slot .last .0)
-    (e .if1 .left) (x .next-free .ensures) (r .make-room .ensures .is) (r .make-room .ensures .begins) (h .set-header .ensures) (w .write-slot .ensures) in
-    (y .0, y .1, omega (arith, r .make-room .ensures), omega (arith, r .make-room .ensures, a .added-for .ensures, n .get-slot-count .ensures))
+    let entered = c .before .before in
+    let headed = entered .before .before .before .before in
+    let room = headed .before .before .before .before in
+    let next = room .before .before in
+    let enough = next .before .before in
+    let added = enough .before in
+    let free = added .before in
+    let first = free .before .before in
+    let count = first .before .before in
+    let start = count .before .before .before in
+    let a = start .args in
+    let y = reserve-done (view (a .page .now)) (a .size) (count .get-slot-count .result) (first .get-first-free-slot .result) (free .get-free-space .result)
+    (added .added-for .result) (count .get-slot-count .ensures .0) (first .get-first-free-slot .ensures .0) (free .get-free-space .ensures .0)
+    (added .added-for .ensures .0) (start .pre .0 .sound)
+    (room .make-room .result) (next .next-free .result) (a .page .now) (room .make-room .last .0) (headed .set-header .last .0)
+    (entered .write-slot .last .0) (enough .if1 .left) (next .next-free .ensures) (room .make-room .ensures .is) (room .make-room .ensures .begins)
+    (headed .set-header .ensures) (entered .write-slot .ensures) in (
+      y .0,
+      y .1,
+      omega (arith, room .make-room .ensures),
+      omega (arith, room .make-room .ensures, added .added-for .ensures, count .get-slot-count .ensures),
+    )
 
 pub reserve-spec : {M : Type 1} → statement M
 reserve-spec =

@@ -11,11 +11,11 @@ use Rattle.store.specs.Slots.{off, len, isFree, isTarget}
 use Rattle.store.specs.PageSteps.{filled, relocate}
 use Rattle.store.specs.Segment.{segView, on}
 use Rattle.store.specs.Laws.Numbers.{length-put}
-use Rattle.store.specs.Laws.Relocate.{length-fit}
+use Rattle.store.specs.Laws.Fit.{length-fit}
 use Rattle.store.specs.Laws.Calls.{PageOk, page-ok}
 use Rattle.store.specs.declared.Slot.{Slot}
 use Rattle.slotted_page.specs.Words.{wasMoved}
-use Rattle.segment_steps.specs.After.{no-target}
+use Rattle.segment_steps.proofs.After.{no-target}
 use Rattle.segment_write.proofs.Stored.{Moves, moves, unmoved, told-asks, ForwardAsks, saved, slot-cut, by-root, by-forward}
 use borrow.Author.Needs.{needs}
 use Rattle.segment_write.proofs.resize.resize_ordinary.Statement.{statement}

@@ -11,9 +11,9 @@ use Rattle.store.specs.Page.{view}
 use Rattle.store.specs.PageSteps.{filled, relocate}
 use Rattle.store.specs.Inventory.{update}
 use Rattle.store.specs.Segment.{segView, pageOf, on}
-use Rattle.store.specs.Laws.Relocate.{length-fit}
+use Rattle.store.specs.Laws.Fit.{length-fit}
 use Rattle.slotted_page.specs.Words.{wasMoved}
-use Rattle.segment_steps.specs.After.{target-length}
+use Rattle.segment_steps.proofs.After.{target-length}
 use Rattle.segment_write.proofs.Stored.{Moves, movedOn, moves, unmoved, told-asks, target-asks, again-asks, by-home, by-stay, by-again}
 use borrow.Author.Needs.{needs}
 use Rattle.segment_write.proofs.resize.resize_saved.Statement.{statement}

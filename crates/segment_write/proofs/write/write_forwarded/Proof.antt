@@ -13,7 +13,7 @@ use Rattle.store.specs.PageSteps.{filled, relocate}
 use Rattle.store.specs.Inventory.{update}
 use Rattle.store.specs.Segment.{segView, pageOf, pointsBack, on}
 use Rattle.slotted_page.specs.Words.{wasMoved}
-use Rattle.segment_steps.specs.After.{target-length}
+use Rattle.segment_steps.proofs.After.{target-length}
 use Rattle.slotted_page.specs.Plans.{fit-all}
 use Rattle.segment_write.proofs.Stored.{Moves, movedOn, moves, unmoved, told-asks, target-asks, again-asks, by-damaged, by-home, by-stay, by-again}
 use borrow.Author.Needs.{needs}

@@ -8,9 +8,9 @@ use lib.ListN.{length}
 use Rattle.store.specs.Numbers.{fit, pageNo, slotNo}
 use Rattle.store.specs.PageSteps.{filled, relocate}
 use Rattle.store.specs.Segment.{segView, on}
-use Rattle.store.specs.Laws.Relocate.{length-fit}
+use Rattle.store.specs.Laws.Fit.{length-fit}
 use Rattle.slotted_page.specs.Words.{wasMoved}
-use Rattle.segment_steps.specs.After.{no-target}
+use Rattle.segment_steps.proofs.After.{no-target}
 use Rattle.slotted_page.specs.Plans.{fit-all}
 use Rattle.segment_write.proofs.Stored.{Moves, moves, unmoved, told-asks, ForwardAsks, by-root, by-forward}
 use borrow.Author.Needs.{needs}

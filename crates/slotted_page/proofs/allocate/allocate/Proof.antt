@@ -1,69 +1,70 @@
 -- `slotted_page::allocate::allocate` meets its contract.
+use mathlib.Core.Path.{sym, _∙_}
+use mathlib.Core.List.{List}
+use Prim.Native.Nat.{ℕ}
 use native.Mathlib.Omega.{arith}
-use Rattle.slotted_page.proofs.OpenLaws.{init-sound, fresh-done, used-sound, used-done}
+use Rattle.slotted_page.proofs.FreshLaws.{init-sound, fresh-done, used-sound, used-done}
 use borrow.Author.Needs.{needs}
 use Rattle.slotted_page.proofs.allocate.allocate.Statement.{statement}
 use Rattle.slotted_page.proofs.allocate.allocate.Tie as tie
 
-get-slot-count-requires : tie.Need-get-slot-count-requires
-get-slot-count-requires c κs = search needs
+abbrev entry : tie.After-is-fresh → tie.Start
+entry c = c .before .before .before
+
+abbrev page-lent : tie.After-is-fresh → List ℕ
+page-lent c = entry c .args .page .now
+
+is-fresh-requires : tie.Need-is-fresh-requires
+is-fresh-requires c κs = search needs
 
 initialize-requires : tie.Need-initialize-requires
 initialize-requires c κs = search needs
 
 reserve-requires : tie.Need-reserve-requires
 reserve-requires c κs =
-    let i = c .before .before .before in
-    let b = c .before .before .before .before .before .before .before .before .before in
-    let x = init-sound (b .args .page .now) (i .initialize .last .0) (b .pre .0) (i .initialize .ensures) in
-    (x .0, x .1, omega arith)
+    let init = c .before .before .before in
+    let test = init .before .before .before in
+    (init-sound (page-lent test) (init .initialize .last .0) (entry test .pre .0) (init .initialize .ensures), omega arith)
 
 same-length : tie.Need-same-length
 same-length c = search needs
 
 returns : tie.Need-returns
 returns c =
-    let z = c .before .before in
-    let i = z .before .before .before .before in
-    let e = i .before .before in
-    let n = e .before in
-    let b = n .before .before .before in
-    let a = b .args in
-    let y = fresh-done (a .page .now) (a .size) (n .get-slot-count .result) (n .get-slot-count .ensures .0) (i .initialize .last .0)
-    (z .reserve .last .0) (z .reserve .result) (b .pre .0) (b .pre .2) (e .if1 .taken)
-    (i .initialize .ensures) (z .reserve .ensures .0, z .reserve .ensures .1) in
-    (y .0, y .1, z .reserve .ensures .2, z .reserve .ensures .3)
+    let made = c .before .before in
+    let init = made .before .before .before .before in
+    let branch = init .before .before in
+    let test = branch .before in
+    let start = entry test in
+    let y = fresh-done (page-lent test) (start .args .size) (init .initialize .last .0) (made .reserve .last .0) (made .reserve .result)
+    (sym (test .is-fresh .ensures) ∙ branch .if1 .taken) (start .pre .0) (start .pre .2) (init .initialize .ensures)
+    (made .reserve .ensures .0, made .reserve .ensures .1) in
+    (y .0, y .1, made .reserve .ensures .2, made .reserve .ensures .3)
 
 reserve-requires-2 : tie.Need-reserve-requires-2
 reserve-requires-2 c κs =
-    let n = c .before .before in
-    let b = n .before .before .before in
-    let a = b .args in (
-      b .pre .0,
-      used-sound (a .page .now) (a .size) (n .get-slot-count .result) (n .get-slot-count .ensures .0) (b .pre .0) (b .pre .1)
-          (c .before .if1 .left),
-      omega arith,
-    )
+    let branch = c .before in
+    let test = branch .before in
+    let start = entry test in
+    (used-sound (page-lent test) (sym (test .is-fresh .ensures) ∙ branch .if1 .left) (start .pre .0) (start .pre .1), omega arith)
 
 same-length-2 : tie.Need-same-length-2
 same-length-2 c = search needs
 
 returns-2 : tie.Need-returns-2
 returns-2 c =
-    let z = c .before .before in
-    let e = z .before .before in
-    let n = e .before in
-    let b = n .before .before .before in
-    let a = b .args in
-    let y = used-done (a .page .now) (a .size) (n .get-slot-count .result) (n .get-slot-count .ensures .0) (z .reserve2 .last .0)
-    (z .reserve2 .result) (e .if1 .left) (z .reserve2 .ensures .0, z .reserve2 .ensures .1) in
-    (y .0, y .1, z .reserve2 .ensures .2, z .reserve2 .ensures .3)
+    let made = c .before .before in
+    let branch = made .before .before in
+    let test = branch .before in
+    let y = used-done (page-lent test) (entry test .args .size) (made .reserve2 .last .0) (made .reserve2 .result)
+    (sym (test .is-fresh .ensures) ∙ branch .if1 .left) (made .reserve2 .ensures .0, made .reserve2 .ensures .1) in
+    (y .0, y .1, made .reserve2 .ensures .2, made .reserve2 .ensures .3)
 
 pub allocate-spec : {M : Type 1} → statement M
 allocate-spec =
     tie.close
     (tie.spec
-    get-slot-count-requires
+    is-fresh-requires
     initialize-requires
     reserve-requires
     same-length

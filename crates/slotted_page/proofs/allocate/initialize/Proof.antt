@@ -1,6 +1,6 @@
 -- `slotted_page::allocate::initialize` meets its contract.
 use mathlib.Core.Path.{_∙_}
-use Rattle.slotted_page.proofs.OpenLaws.{head-init}
+use Rattle.slotted_page.proofs.FreshLaws.{head-init}
 use borrow.Author.Needs.{needs}
 use Rattle.slotted_page.proofs.allocate.initialize.Statement.{statement}
 use Rattle.slotted_page.proofs.allocate.initialize.Tie as tie
@@ -12,7 +12,7 @@ same-length : tie.Need-same-length
 same-length c = search needs
 
 returns : tie.Need-returns
-returns c = c .before .before .set-header .ensures ∙ head-init (c .before .before .before .before .before .args .page .now)
+returns c = let headed = c .before .before in headed .set-header .ensures ∙ head-init (headed .before .before .before .args .page .now)
 
 pub initialize-spec : {M : Type 1} → statement M
 initialize-spec = tie.close (tie.spec set-header-requires same-length returns)

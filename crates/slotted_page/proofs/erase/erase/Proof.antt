@@ -1,5 +1,6 @@
 -- `slotted_page::erase::erase` meets its contract.
 use mathlib.Core.Path.{_∙_, ap}
+use Prim.Native.Nat.{ℕ, _≤_, min}
 use native.Mathlib.Omega.{arith}
 use Rattle.store.specs.Slots.{len}
 use Rattle.store.specs.Page.{view}
@@ -7,6 +8,16 @@ use Rattle.slotted_page.proofs.EraseLaws.{erase-done, start-done}
 use borrow.Author.Needs.{needs}
 use Rattle.slotted_page.proofs.erase.erase.Statement.{statement}
 use Rattle.slotted_page.proofs.erase.erase.Tie as tie
+
+abbrev count : tie.After-get-data-start → tie.After-get-slot-count
+count c = c .before .before .before .before
+
+abbrev entry : tie.After-get-slot → tie.Start
+entry c = count (c .before .before .before .before) .before .before .before
+
+-- the record lies in the page
+inside : (c : tie.After-get-slot) → len (c .get-slot .result) ≤ 16384
+inside c = let start = entry c in omega (arith, start .pre .sound .high (start .args .k), ap len (c .get-slot .ensures .0))
 
 get-slot-count-requires : tie.Need-get-slot-count-requires
 get-slot-count-requires c κs = search needs
@@ -30,10 +41,7 @@ off-of-requires : tie.Need-off-of-requires
 off-of-requires c κs = search needs
 
 start-without-requires : tie.Need-start-without-requires
-start-without-requires c κs =
-    let g = c .before .before in
-    let a = g .before .before .before .before .before .before .before .before .before .before .before in
-    omega (arith, a .pre .1 .high (a .args .k), a .pre .1 .sums, ap len (g .get-slot .ensures .0))
+start-without-requires c κs = let slot = c .before .before in omega (arith, inside slot, entry slot .pre .sound .sums)
 
 pruned-by-requires : tie.Need-pruned-by-requires
 pruned-by-requires c κs = search needs
@@ -44,20 +52,18 @@ sub-set-header c = search needs
 lower-requires : tie.Need-lower-requires
 lower-requires c κs = search needs
 
+-- where the header is written, back to the slot that was read
+abbrev read : tie.After-lower → tie.After-get-slot
+read c = let pruned = c .before .before in pruned .before .before .before .before .before
+
 add-set-header : tie.Need-add-set-header
-add-set-header c =
-    let g = c .before .before .before .before .before .before .before in
-    let a = g .before .before .before .before .before .before .before .before .before .before .before in
-    omega (arith, a .pre .1 .high (a .args .k), a .pre .1 .sums, ap len (g .get-slot .ensures .0))
+add-set-header c = omega (arith, inside (read c), entry (read c) .pre .sound .sums)
 
 mul-set-header : tie.Need-mul-set-header
 mul-set-header c = search needs
 
 add-set-header-2 : tie.Need-add-set-header-2
-add-set-header-2 c =
-    let g = c .before .before .before .before .before .before .before in
-    let a = g .before .before .before .before .before .before .before .before .before .before .before in
-    omega (arith, a .pre .1 .high (a .args .k), a .pre .1 .sums, ap len (g .get-slot .ensures .0))
+add-set-header-2 c = omega (arith, inside (read c), entry (read c) .pre .sound .sums)
 
 set-header-requires : tie.Need-set-header-requires
 set-header-requires c κs = search needs
@@ -70,28 +76,29 @@ same-length c = search needs
 
 returns : tie.Need-returns
 returns c =
-    let z = c .before .before in
-    let h = z .before .before .before .before in
-    let w = h .before in
-    let m = w .before .before in
-    let u = m .before .before in
-    let o = u .before in
-    let l = o .before in
-    let g = l .before in
-    let r = g .before .before in
-    let d = r .before .before in
-    let f = d .before .before in
-    let n = f .before .before in
-    let a = n .before .before .before .args in
+    let entered = c .before .before in
+    let headed = entered .before .before .before .before in
+    let low = headed .before in
+    let pruned = low .before .before in
+    let up = pruned .before .before in
+    let offset = up .before in
+    let length = offset .before in
+    let slot = length .before in
+    let free = slot .before .before in
+    let begin = free .before .before in
+    let first = begin .before .before in
+    let counted = count begin in
+    let a = entry slot .args in
     let v = view (a .page .now) in
-    erase-done v (a .k) (n .get-slot-count .result) (r .get-free-space .result) (l .len-of .result) (m .pruned-by .result) (u .start-without .result)
-    (w .lower .result)
-    (a .page .now) (h .set-header .last .0) (z .write-slot .last .0)
-    (n .get-slot-count .ensures .0) (r .get-free-space .ensures .0) (l .len-of .ensures ∙ ap len (g .get-slot .ensures .0))
-    (start-done v (a .k) (o .off-of .result) (l .len-of .result) (d .get-data-start .result) (u .start-without .result) (g .get-slot .result)
-    (g .get-slot .ensures .0) (o .off-of .ensures) (l .len-of .ensures) (d .get-data-start .ensures .0) (u .start-without .ensures))
-    (m .pruned-by .ensures .0) (w .lower .ensures ∙ rw (f .get-first-free-slot .ensures .0))
-    (h .set-header .ensures) (z .write-slot .ensures)
+    erase-done v (a .k) (counted .get-slot-count .result) (free .get-free-space .result) (length .len-of .result) (pruned .pruned-by .result)
+    (up .start-without .result) (low .lower .result)
+    (a .page .now) (headed .set-header .last .0) (entered .write-slot .last .0)
+    (counted .get-slot-count .ensures .0) (free .get-free-space .ensures .0) (length .len-of .ensures ∙ ap len (slot .get-slot .ensures .0))
+    (start-done v (a .k) (offset .off-of .result) (length .len-of .result) (begin .get-data-start .result) (up .start-without .result)
+    (slot .get-slot .result) (slot .get-slot .ensures .0) (offset .off-of .ensures) (length .len-of .ensures) (begin .get-data-start .ensures .0)
+    (up .start-without .ensures))
+    (pruned .pruned-by .ensures .0) (low .lower .ensures ∙ ap (λ (x : ℕ). min x (a .k)) (first .get-first-free-slot .ensures .0))
+    (headed .set-header .ensures) (entered .write-slot .ensures)
 
 pub erase-spec : {M : Type 1} → statement M
 erase-spec =

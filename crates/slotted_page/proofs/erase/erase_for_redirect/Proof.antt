@@ -1,13 +1,23 @@
 -- `slotted_page::erase::erase_for_redirect` meets its contract.
-use mathlib.Core.Path.{_∙_}
+use mathlib.Core.Path.{ap, _∙_}
 use Rattle.store.specs.Page.{view}
 use Rattle.store.specs.Slots.{len}
 use Rattle.slotted_page.proofs.EraseLaws.{redirect-done, start-done}
-use mathlib.Core.Path.{ap}
+use Prim.Native.Nat.{_≤_}
 use native.Mathlib.Omega.{arith}
 use borrow.Author.Needs.{needs}
 use Rattle.slotted_page.proofs.erase.erase_for_redirect.Statement.{statement}
 use Rattle.slotted_page.proofs.erase.erase_for_redirect.Tie as tie
+
+abbrev count : tie.After-get-data-start → tie.After-get-slot-count
+count c = c .before .before .before .before
+
+abbrev entry : tie.After-get-slot → tie.Start
+entry c = count (c .before .before .before .before) .before .before .before
+
+-- the record lies in the page
+inside : (c : tie.After-get-slot) → len (c .get-slot .result) ≤ 16384
+inside c = let start = entry c in omega (arith, start .pre .0 .sound .high (start .args .k), ap len (c .get-slot .ensures .0))
 
 get-slot-count-requires : tie.Need-get-slot-count-requires
 get-slot-count-requires c κs = search needs
@@ -31,16 +41,10 @@ off-of-requires : tie.Need-off-of-requires
 off-of-requires c κs = search needs
 
 start-without-requires : tie.Need-start-without-requires
-start-without-requires c κs =
-    let g = c .before .before in
-    let a = g .before .before .before .before .before .before .before .before .before .before .before in
-    omega (arith, a .pre .1 .high (a .args .k), ap len (g .get-slot .ensures .0))
+start-without-requires c κs = omega (arith, inside (c .before .before))
 
 add-set-header : tie.Need-add-set-header
-add-set-header c =
-    let g = c .before .before .before .before in
-    let a = g .before .before .before .before .before .before .before .before .before .before .before in
-    omega (arith, a .pre .1 .high (a .args .k), ap len (g .get-slot .ensures .0))
+add-set-header c = omega (arith, inside (c .before .before .before .before))
 
 set-header-requires : tie.Need-set-header-requires
 set-header-requires c κs = search needs
@@ -53,25 +57,27 @@ same-length c = search needs
 
 returns : tie.Need-returns
 returns c =
-    let z = c .before .before in
-    let h = z .before .before .before .before in
-    let u = h .before .before in
-    let o = u .before in
-    let l = o .before in
-    let g = l .before in
-    let r = g .before .before in
-    let d = r .before .before in
-    let f = d .before .before in
-    let n = f .before .before in
-    let a = n .before .before .before .args in
+    let entered = c .before .before in
+    let headed = entered .before .before .before .before in
+    let up = headed .before .before in
+    let offset = up .before in
+    let length = offset .before in
+    let slot = length .before in
+    let free = slot .before .before in
+    let begin = free .before .before in
+    let first = begin .before .before in
+    let counted = count begin in
+    let a = entry slot .args in
     let v = view (a .page .now) in
-    redirect-done v (a .k) (a .id) (n .get-slot-count .result) (f .get-first-free-slot .result) (r .get-free-space .result) (l .len-of .result)
-    (u .start-without .result)
-    (a .page .now) (h .set-header .last .0) (z .write-slot .last .0)
-    (n .get-slot-count .ensures .0) (f .get-first-free-slot .ensures .0) (r .get-free-space .ensures .0) (l .len-of .ensures ∙ ap len (g .get-slot .ensures .0))
-    (start-done v (a .k) (o .off-of .result) (l .len-of .result) (d .get-data-start .result) (u .start-without .result) (g .get-slot .result)
-    (g .get-slot .ensures .0) (o .off-of .ensures) (l .len-of .ensures) (d .get-data-start .ensures .0) (u .start-without .ensures))
-    (h .set-header .ensures) (z .write-slot .ensures)
+    redirect-done v (a .k) (a .id) (counted .get-slot-count .result) (first .get-first-free-slot .result) (free .get-free-space .result)
+    (length .len-of .result) (up .start-without .result)
+    (a .page .now) (headed .set-header .last .0) (entered .write-slot .last .0)
+    (counted .get-slot-count .ensures .0) (first .get-first-free-slot .ensures .0) (free .get-free-space .ensures .0)
+    (length .len-of .ensures ∙ ap len (slot .get-slot .ensures .0))
+    (start-done v (a .k) (offset .off-of .result) (length .len-of .result) (begin .get-data-start .result) (up .start-without .result)
+    (slot .get-slot .result) (slot .get-slot .ensures .0) (offset .off-of .ensures) (length .len-of .ensures) (begin .get-data-start .ensures .0)
+    (up .start-without .ensures))
+    (headed .set-header .ensures) (entered .write-slot .ensures)
 
 pub erase-for-redirect-spec : {M : Type 1} → statement M
 erase-for-redirect-spec =

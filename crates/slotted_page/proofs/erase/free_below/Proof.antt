@@ -35,20 +35,24 @@ loop-less c = omega arith
 
 loop-again : tie.Need-loop-again Inv-loop μ-loop
 loop-again c =
-    let l = c .before .before .before .before .loop in
-    let s = c .before .before .before .before .before .before .args in
-    let e = sym (c .if1 .taken) ∙ c .before .is-free .ensures ∙ ap isFree (c .before .before .get-slot .ensures .0) in
-    omega (arith, below-more (view (s .page .now) .at) (l .j) (omega arith) e)
+    let free = c .before in
+    let slot = free .before in
+    let head = slot .before .before in
+    let a = head .before .before .args in
+    let e = sym (c .if1 .taken) ∙ free .is-free .ensures ∙ ap isFree (slot .get-slot .ensures .0) in
+    omega (arith, below-more (view (a .page .now) .at) (head .loop .j) (omega arith) e)
 
 sub-result : tie.Need-sub-result Inv-loop μ-loop
 sub-result c = omega arith
 
 returns : tie.Need-returns Inv-loop μ-loop
 returns c =
-    let l = c .before .before .before .before .loop in
-    let s = c .before .before .before .before .before .before .args in
-    let e = sym (c .if1 .left) ∙ c .before .is-free .ensures ∙ ap isFree (c .before .before .get-slot .ensures .0) in
-    omega (arith, below-ends (view (s .page .now) .at) (l .j) (omega arith) e)
+    let free = c .before in
+    let slot = free .before in
+    let head = slot .before .before in
+    let a = head .before .before .args in
+    let e = sym (c .if1 .left) ∙ free .is-free .ensures ∙ ap isFree (slot .get-slot .ensures .0) in
+    omega (arith, below-ends (view (a .page .now) .at) (head .loop .j) (omega arith) e)
 
 sub-result-2 : tie.Need-sub-result-2 Inv-loop μ-loop
 sub-result-2 c = omega arith

@@ -17,8 +17,9 @@ same-length c = search needs
 
 returns : tie.Need-returns
 returns c =
-    let s = c .before .before .before .before .before .args in
-    c .before .before .write-slot .ensures ∙ sym (move-writes (view (s .page .now)) (s .k) (Redirect (s .id)) [] (s .page .now) ∙ put-nil _ 0)
+    let entered = c .before .before in
+    let a = entered .before .before .before .args in
+    entered .write-slot .ensures ∙ sym (move-writes (view (a .page .now)) (a .k) (Redirect (a .id)) [] (a .page .now) ∙ put-nil _ 0)
 
 pub set-redirect-spec : {M : Type 1} → statement M
 set-redirect-spec = tie.close (tie.spec write-slot-requires same-length returns)

@@ -13,10 +13,10 @@ same-length c = search needs
 
 returns : tie.Need-returns
 returns c =
-    let u = c .before .before in
-    let b = u .before .before .before in
-    let a = b .args in
-    (u .relocate .ensures .0 ∙ again-done (a .page .now) (a .k) (a .size) (b .pre .0) (b .pre .1) (b .pre .2), u .relocate .ensures .1)
+    let moved = c .before .before in
+    let start = moved .before .before .before in
+    let a = start .args in
+    (moved .relocate .ensures .0 ∙ again-done (a .page .now) (a .k) (a .size) (start .pre), moved .relocate .ensures .1)
 
 pub resize-spec : {M : Type 1} → statement M
 resize-spec = tie.close (tie.spec relocate-requires same-length returns)

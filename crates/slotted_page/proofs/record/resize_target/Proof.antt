@@ -1,18 +1,40 @@
 -- `slotted_page::record::resize_target` meets its contract.
-use mathlib.Core.Path.{refl, sym, ap, _∙_}
-use mathlib.Core.List.{_++_}
-use Prim.Native.Nat.{_+_}
+use mathlib.Core.Path.{_≡_, refl, sym, ap, _∙_}
+use mathlib.Core.Bool.{true}
+use mathlib.Core.List.{List, _++_}
+use Prim.Native.Nat.{ℕ, _+_}
 use native.Mathlib.Omega.{arith}
 use lib.ListN.{drop}
 use Rattle.store.specs.Numbers.{toBE, fit}
 use Rattle.store.specs.Slots.{off}
 use Rattle.store.specs.PageSteps.{relocate}
 use Rattle.store.specs.Page.{view}
-use Rattle.slotted_page.proofs.RecordLaws.{target-kept}
+use Rattle.slotted_page.specs.Words.{wasMoved}
+use Rattle.slotted_page.proofs.RecordLaws.{Kept, target-kept}
 use Rattle.slotted_page.proofs.FillLaws.{unmoved-done}
 use borrow.Author.Needs.{needs}
 use Rattle.slotted_page.proofs.record.resize_target.Statement.{statement}
 use Rattle.slotted_page.proofs.record.resize_target.Tie as tie
+
+abbrev entry : tie.After-relocate → tie.Start
+entry c = c .before .before .before
+
+-- where relocate answered that the record was moved
+module _ (c : tie.Then1) where
+  abbrev moved : tie.After-relocate
+  moved = c .before .before .before
+
+  abbrev page : List ℕ
+  page = entry moved .args .page .now
+
+  was-moved : true ≡ wasMoved (relocate (view page) (entry moved .args .k) (entry moved .args .size + 8))
+  was-moved = sym (c .if1 .taken) ∙ moved .relocate .ensures .1
+
+  kept : Kept page (entry moved .args .k) (entry moved .args .size) (relocate (view page) (entry moved .args .k) (entry moved .args .size + 8))
+      (moved .relocate .last .0)
+  kept =
+      let start = entry moved in
+      target-kept page (start .args .k) (start .args .size) (moved .relocate .last .0) (start .pre .0) (moved .relocate .ensures .0) was-moved
 
 add-relocate : tie.Need-add-relocate
 add-relocate c = search needs
@@ -21,56 +43,40 @@ relocate-requires : tie.Need-relocate-requires
 relocate-requires c κs = search needs
 
 get-slot-requires : tie.Need-get-slot-requires
-get-slot-requires c κs =
-    let e = c .before in
-    let u = c .before .before .before .before in
-    let b = u .before .before .before in
-    let a = b .args in
-    let x = target-kept (a .page .now) (a .k) (a .size) (u .relocate .last .0) (b .pre .0) (b .pre .1) (b .pre .2) (u .relocate .ensures .0)
-    (sym (e .if1 .taken) ∙ u .relocate .ensures .1) in
-    (x .whole, x .counted .0, x .counted .1)
+get-slot-requires c κs = let x = kept (c .before) in (x .whole, x .counted .0, x .counted .1)
 
 off-of-requires : tie.Need-off-of-requires
 off-of-requires c κs = search needs
 
 put-u64-requires : tie.Need-put-u64-requires
 put-u64-requires c κs =
-    let g = c .before .before in
-    let e = c .before .before .before .before in
-    let u = c .before .before .before .before .before .before .before in
-    let b = u .before .before .before in
-    let a = b .args in
-    let x = target-kept (a .page .now) (a .k) (a .size) (u .relocate .last .0) (b .pre .0) (b .pre .1) (b .pre .2) (u .relocate .ensures .0)
-    (sym (e .if1 .taken) ∙ u .relocate .ensures .1) in
-    omega (arith, x .whole, x .high, c .off-of .ensures, ap off (g .get-slot .ensures .0))
+    let slot = c .before .before in
+    let x = kept (slot .before .before) in
+    omega (arith, x .whole, x .high, c .off-of .ensures, ap off (slot .get-slot .ensures .0))
 
 same-length : tie.Need-same-length
 same-length c = search needs
 
 returns : tie.Need-returns
 returns c =
-    let z = c .before .before in
-    let o = c .before .before .before in
-    let g = c .before .before .before .before .before in
-    let e = c .before .before .before .before .before .before .before in
-    let u = c .before .before .before .before .before .before .before .before .before .before in
-    let b = u .before .before .before in
-    let a = b .args in
-    let x = target-kept (a .page .now) (a .k) (a .size) (u .relocate .last .0) (b .pre .0) (b .pre .1) (b .pre .2) (u .relocate .ensures .0)
-    (sym (e .if1 .taken) ∙ u .relocate .ensures .1) in
-    let f = o .off-of .ensures ∙ ap off (g .get-slot .ensures .0) in
-    (x .done (toBE 8 (a .id)) (z .put-u64 .last .0) refl (z .put-u64 .ensures ∙ rw f), sym (e .if1 .taken) ∙ u .relocate .ensures .1)
+    let named = c .before .before in
+    let offset = named .before in
+    let slot = offset .before .before in
+    let branch = slot .before .before in
+    let a = entry (moved branch) .args in
+    let f = offset .off-of .ensures ∙ ap off (slot .get-slot .ensures .0) in
+    (kept branch .done (toBE 8 (a .id)) (named .put-u64 .last .0) refl (named .put-u64 .ensures ∙ rw f), was-moved branch)
 
 same-length-2 : tie.Need-same-length-2
 same-length-2 c = search needs
 
 returns-2 : tie.Need-returns-2
 returns-2 c =
-    let u = c .before .before .before in
-    let a = u .before .before .before .args in
-    let e = sym (c .if1 .left) ∙ u .relocate .ensures .1 in (
-      unmoved-done (a .page .now) (u .relocate .last .0) (a .k) (relocate (view (a .page .now)) (a .k) (a .size + 8))
-          (toBE 8 (a .id) ++ fit (a .size) (drop 8 (view (a .page .now) .bytes (a .k)))) e (u .relocate .ensures .0),
+    let stayed = c .before .before .before in
+    let a = entry stayed .args in
+    let e = sym (c .if1 .left) ∙ stayed .relocate .ensures .1 in (
+      unmoved-done (a .page .now) (stayed .relocate .last .0) (a .k) (relocate (view (a .page .now)) (a .k) (a .size + 8))
+          (toBE 8 (a .id) ++ fit (a .size) (drop 8 (view (a .page .now) .bytes (a .k)))) e (stayed .relocate .ensures .0),
       e,
     )
 

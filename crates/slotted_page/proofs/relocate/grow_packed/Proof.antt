@@ -1,5 +1,6 @@
 -- `slotted_page::relocate::grow_packed` meets its contract.
-use mathlib.Core.Path.{sym, ap, subst, _∙_}
+use mathlib.Core.Path.{_≡_, sym, ap, subst, _∙_}
+use Prim.Native.Nat.{_+_, _≤_}
 use native.Mathlib.Omega.{arith}
 use lib.ListN.{length-take, length-replicate, replicate}
 use Rattle.store.specs.Slots.{len, off}
@@ -8,11 +9,39 @@ use Rattle.store.specs.Page.{view}
 use Rattle.store.specs.declared.Place.{Place}
 use Rattle.page_places.specs.Words.{Inside}
 use Rattle.slotted_page.proofs.RecordLaws.{saved-old, old-done}
+use Rattle.store.specs.Answers.{placed}
 use Rattle.slotted_page.proofs.FillLaws.{refused-done}
 use Rattle.store.specs.Laws.Numbers.{length-put}
 use borrow.Author.Needs.{needs}
 use Rattle.slotted_page.proofs.relocate.grow_packed.Statement.{statement}
 use Rattle.slotted_page.proofs.relocate.grow_packed.Tie as tie
+
+-- where the record's length is read
+module _ (c : tie.After-len-of) where
+  abbrev start : tie.Start
+  start = c .before .before
+
+  length-is : c .len-of .result ≡ len (view (start .args .page .now) .at (start .args .k))
+  length-is = c .len-of .ensures ∙ ap len (start .pre .1)
+
+  in-page : off (start .args .s) + c .len-of .result ≤ 16384
+  in-page = omega (arith, start .pre .0 .sound .high (start .args .k), length-is, ap off (start .pre .1))
+
+-- back from the place to the call that made it, from there to the saved bytes, and to the length
+abbrev moving : tie.After-place → tie.After-move-slot
+moving c = c .before .before .before .before
+
+abbrev saving : tie.After-move-slot → tie.After-save
+saving c = c .before .before .before
+
+abbrev reading : tie.After-save → tie.After-len-of
+reading c = c .before .before .before .before
+
+-- the new place lies in the page
+inside : (c : tie.After-place) → c .place .given .0 .1 .0 + start (reading (saving (moving c))) .args .size ≤ 16384
+inside c =
+    let moved = moving c in
+    subst (λ (x : Place). Inside x (start (reading (saving moved)) .args .size)) (c .place .given .1) (moved .move-slot .ensures .2)
 
 len-of-requires : tie.Need-len-of-requires
 len-of-requires c κs = search needs
@@ -25,9 +54,9 @@ slice-aggregate-save c = search needs
 
 save-requires : tie.Need-save-requires
 save-requires c κs =
-    let l = c .before .before .before in
-    let b = l .before .before in
-    omega (arith, b .pre .1 .high (b .args .k), ap len (b .pre .3), ap off (b .pre .3), c .before .off-of .ensures, l .len-of .ensures)
+    let offset = c .before in
+    let length = offset .before .before in
+    omega (arith, in-page length, offset .off-of .ensures)
 
 move-slot-requires : tie.Need-move-slot-requires
 move-slot-requires c κs = search needs
@@ -37,24 +66,18 @@ enum-known-place c = search needs
 
 array-share-prefix-saved : tie.Need-array-share-prefix-saved
 array-share-prefix-saved c =
-    let w = c .before .before .before .before .before .before .before .before .before in
-    let l = c .before .before .before .before .before .before .before .before .before .before .before .before .before in
-    let b = l .before .before in
-    rw (w .save .ensures, length-put, length-replicate) (omega (arith, b .pre .1 .high (b .args .k), ap len (b .pre .3), l .len-of .ensures))
+    let saved = saving (moving (c .before .before)) in
+    rw (saved .save .ensures, length-put, length-replicate) (omega (arith, in-page (reading saved)))
 
 slice-aggregate-fit-in : tie.Need-slice-aggregate-fit-in
 slice-aggregate-fit-in c =
-    let w = c .before .before .before .before .before .before .before .before .before .before in
-    let l = c .before .before .before .before .before .before .before .before .before .before .before .before .before .before in
-    let b = l .before .before in
-    rw (length-take, w .save .ensures, length-put, length-replicate) (omega (arith, b .pre .1 .high (b .args .k), ap len (b .pre .3), l .len-of .ensures))
+    let saved = saving (moving (c .before .before .before)) in
+    rw (length-take, saved .save .ensures, length-put, length-replicate) (omega (arith, in-page (reading saved)))
 
 fit-in-requires : tie.Need-fit-in-requires
 fit-in-requires c κs =
-    let g = c .before .before .before in
-    let u = c .before .before .before .before .before .before .before in
-    let n = c .before .before .before .before .before .before .before .before .before .before .before .before .before .before .before .before .args .size in
-    omega (arith, subst (λ (x : Place). Inside x n) (g .place .given .1) (u .move-slot .ensures .2))
+    let place = c .before .before .before in
+    omega (arith, start (reading (saving (moving place))) .pre .0 .whole, inside place)
 
 enum-told : tie.Need-enum-told
 enum-told c = search needs
@@ -64,31 +87,32 @@ same-length c = search needs
 
 returns : tie.Need-returns
 returns c =
-    let z = c .before .before in
-    let g = c .before .before .before .before .before .before in
-    let u = c .before .before .before .before .before .before .before .before .before .before in
-    let w = c .before .before .before .before .before .before .before .before .before .before .before .before .before in
-    let f = c .before .before .before .before .before .before .before .before .before .before .before .before .before .before .before in
-    let l = c .before .before .before .before .before .before .before .before .before .before .before .before .before .before .before .before .before in
-    let b = l .before .before in
+    let filled = c .before .before in
+    let at = filled .before .before .before .before in
+    let moved = moving at in
+    let saved = saving moved in
+    let offset = saved .before .before in
+    let length = reading saved in
+    let b = start length in
     let a = b .args in
-    let x = saved-old (a .page .now) (a .k) (a .size) (b .pre .0) (b .pre .1) (b .pre .2) (f .off-of .result) (l .len-of .result) (replicate 16384 0)
-    (w .save .last .1 .1 .1 .0)
-    (f .off-of .ensures ∙ ap off (b .pre .3)) (l .len-of .ensures ∙ ap len (b .pre .3))
-    (rw length-replicate (omega (arith, b .pre .1 .high (a .k), ap len (b .pre .3), l .len-of .ensures))) (w .save .ensures) in
-    old-done (a .page .now) (a .k) (a .size) (b .pre .0) (b .pre .1) (b .pre .2) (g .place .given .0 .0) (g .place .given .0 .1 .0)
-    (u .move-slot .last .0) (z .fit-in .last .0)
-    (sym (g .place .given .1) ∙ u .move-slot .ensures .1) (u .move-slot .ensures .0) (z .fit-in .ensures ∙ rw x)
+    let x = saved-old (a .page .now) (a .k) (a .size) (b .pre .0) (offset .off-of .result) (length .len-of .result) (replicate 16384 0)
+    (saved .save .last .1 .1 .1 .0) (offset .off-of .ensures ∙ ap off (b .pre .1)) (length-is length)
+    (rw length-replicate (omega (arith, in-page length))) (saved .save .ensures) in
+    let d = at .place .given .0 .1 .0 in
+    let q = moved .move-slot .last .0 in
+    old-done (a .page .now) (a .k) (a .size) (b .pre .0) (at .place .given .0 .0) d q (filled .fit-in .last .0)
+    (ap placed (sym (at .place .given .1)) ∙ moved .move-slot .ensures .1) (moved .move-slot .ensures .0)
+    (filled .fit-in .ensures ∙ rw x)
 
 same-length-2 : tie.Need-same-length-2
 same-length-2 c = search needs
 
 returns-2 : tie.Need-returns-2
 returns-2 c =
-    let u = c .before .before .before .before in
-    let a = u .before .before .before .before .before .before .before .before .before .args in
-    let y = refused-done (a .page .now) (u .move-slot .last .0) (a .k) (relocate (view (a .page .now)) (a .k) (a .size))
-    (sym (c .enum-told .given .1) ∙ u .move-slot .ensures .1) (u .move-slot .ensures .0) in
+    let moved = c .before .before .before .before in
+    let a = start (reading (saving moved)) .args in
+    let y = refused-done (a .page .now) (moved .move-slot .last .0) (a .k) (relocate (view (a .page .now)) (a .k) (a .size))
+    (ap placed (sym (c .enum-told .given .1)) ∙ moved .move-slot .ensures .1) (moved .move-slot .ensures .0) in
     (y .0, y .1)
 
 pub grow-packed-spec : {M : Type 1} → statement M

@@ -8,6 +8,12 @@ use borrow.Author.Needs.{needs}
 use Rattle.slotted_page.proofs.relocate.relocate.Statement.{statement}
 use Rattle.slotted_page.proofs.relocate.relocate.Tie as tie
 
+abbrev entry : tie.After-get-slot → tie.Start
+entry c = c .before .before .before
+
+length-is : (c : tie.After-len-of) → c .len-of .result ≡ len (view (entry (c .before) .args .page .now) .at (entry (c .before) .args .k))
+length-is c = c .len-of .ensures ∙ ap len (c .before .get-slot .ensures .0)
+
 get-slot-requires : tie.Need-get-slot-requires
 get-slot-requires c κs = search needs
 
@@ -16,11 +22,8 @@ len-of-requires c κs = search needs
 
 settle-requires : tie.Need-settle-requires
 settle-requires c κs =
-    let e = c .before in
-    let l = c .before .before in
-    let g = c .before .before .before in
-    let b = g .before .before .before in
-    (b .pre .0, b .pre .1, b .pre .2, omega (arith, ap len (g .get-slot .ensures .0), l .len-of .ensures, e .if1 .taken))
+    let length = c .before .before in
+    (entry (length .before) .pre, omega (arith, length-is length, c .before .if1 .taken))
 
 same-length : tie.Need-same-length
 same-length c = search needs
@@ -39,14 +42,12 @@ same-length-2 c = search needs
 
 returns-2 : tie.Need-returns-2
 returns-2 c =
-    let f = c .before in
-    let i = f .before .before in
-    let l = i .before in
-    let g = l .before in
-    let b = g .before .before .before in
-    let a = b .args in
-    let e : l .len-of .result ≡ len (view (a .page .now) .at (a .k)) = l .len-of .ensures ∙ ap len (g .get-slot .ensures .0) in
-    rw (relocate-refused (a .page .now) (a .k) (a .size) (b .pre .0) (b .pre .1) (b .pre .2) (omega arith) (omega arith)) (refl, refl)
+    let free = c .before in
+    let length = free .before .before .before in
+    let start = entry (length .before) in
+    let a = start .args in
+    let e = length-is length in
+    rw (relocate-refused (a .page .now) (a .k) (a .size) (start .pre) (omega arith) (omega arith)) (refl, refl)
 
 get-slot-count-requires : tie.Need-get-slot-count-requires
 get-slot-count-requires c κs = search needs
@@ -73,7 +74,12 @@ returns-3 : tie.Need-returns-3
 returns-3 c = search needs
 
 grow-requires : tie.Need-grow-requires
-grow-requires c κs = search needs
+grow-requires c κs =
+    let count = c .before .before .before .before in
+    let free = count .before .before .before in
+    let length = free .before .before .before in
+    let slot = length .before in
+    (entry slot .pre, (slot .get-slot .ensures .0, omega (arith, length .len-of .ensures), omega arith))
 
 same-length-4 : tie.Need-same-length-4
 same-length-4 c = search needs

@@ -1,12 +1,16 @@
 -- `slotted_page::relocate::settle` meets its contract.
-use mathlib.Core.Path.{sym, _∙_}
+use mathlib.Core.Path.{sym, ap, _∙_}
 use Rattle.store.specs.PageSteps.{relocate}
 use Rattle.store.specs.Page.{view}
 use Rattle.slotted_page.proofs.RecordLaws.{settle-done}
+use Rattle.store.specs.Answers.{placed}
 use Rattle.slotted_page.proofs.FillLaws.{refused-done}
 use borrow.Author.Needs.{needs}
 use Rattle.slotted_page.proofs.relocate.settle.Statement.{statement}
 use Rattle.slotted_page.proofs.relocate.settle.Tie as tie
+
+abbrev entry : tie.After-move-slot → tie.Start
+entry c = c .before .before .before
 
 move-slot-requires : tie.Need-move-slot-requires
 move-slot-requires c κs = search needs
@@ -22,22 +26,22 @@ same-length c = search needs
 
 returns : tie.Need-returns
 returns c =
-    let u = c .before .before .before .before in
-    let b = u .before .before .before in
-    let a = b .args in
-    settle-done (a .page .now) (a .k) (a .size) (b .pre .0) (b .pre .1) (b .pre .2) (c .enum-told .given .0 .0) (c .enum-told .given .0 .1 .0)
-    (u .move-slot .last .0) (u .move-slot .last .0)
-    (sym (c .enum-told .given .1) ∙ u .move-slot .ensures .1) (u .move-slot .ensures .0) (b .pre .3)
+    let moved = c .before .before .before .before in
+    let start = entry moved in
+    let a = start .args in
+    settle-done (a .page .now) (a .k) (a .size) (start .pre .0) (c .enum-told .given .0 .0) (c .enum-told .given .0 .1 .0)
+    (moved .move-slot .last .0) (moved .move-slot .last .0)
+    (ap placed (sym (c .enum-told .given .1)) ∙ moved .move-slot .ensures .1) (moved .move-slot .ensures .0) (start .pre .1)
 
 same-length-2 : tie.Need-same-length-2
 same-length-2 c = search needs
 
 returns-2 : tie.Need-returns-2
 returns-2 c =
-    let u = c .before .before .before .before in
-    let a = u .before .before .before .args in
-    let y = refused-done (a .page .now) (u .move-slot .last .0) (a .k) (relocate (view (a .page .now)) (a .k) (a .size))
-    (sym (c .enum-told2 .given .1) ∙ u .move-slot .ensures .1) (u .move-slot .ensures .0) in
+    let moved = c .before .before .before .before in
+    let a = entry moved .args in
+    let y = refused-done (a .page .now) (moved .move-slot .last .0) (a .k) (relocate (view (a .page .now)) (a .k) (a .size))
+    (ap placed (sym (c .enum-told2 .given .1)) ∙ moved .move-slot .ensures .1) (moved .move-slot .ensures .0) in
     (y .0, y .1)
 
 pub settle-spec : {M : Type 1} → statement M

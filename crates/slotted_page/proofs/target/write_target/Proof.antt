@@ -28,13 +28,14 @@ same-length c = search needs
 
 returns : tie.Need-returns
 returns c =
-    let z = c .before .before in
-    let i = z .before .before .before .before in
-    let w = i .before .before .before .before in
-    let a = w .before .before .before .before .args in
-    let bs = toBE 8 (a .id) ++ fit (a .size) (a .bytes .now) in
-    z .fit-in .ensures ∙ rw (i .put-u64 .ensures) (sym (write-append (a .offset) (toBE 8 (a .id)) (fit (a .size) (a .bytes .now)) (w .write-slot .last .0)))
-    ∙ ap (λ (q : List ℕ). put q (a .offset) bs) (w .write-slot .ensures)
+    let filled = c .before .before in
+    let named = filled .before .before .before .before in
+    let entered = named .before .before .before .before in
+    let a = entered .before .before .before .before .args in
+    let i = toBE 8 (a .id) in
+    let bs = fit (a .size) (a .bytes .now) in
+    filled .fit-in .ensures ∙ rw (named .put-u64 .ensures) (sym (write-append (a .offset) i bs (entered .write-slot .last .0)))
+    ∙ ap (λ (q : List ℕ). put q (a .offset) (i ++ bs)) (entered .write-slot .ensures)
 
 pub write-target-spec : {M : Type 1} → statement M
 write-target-spec =

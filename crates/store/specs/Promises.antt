@@ -1,0 +1,13 @@
+pub mod Outcome
+pub mod Refused
+pub mod Sound
+pub mod Ids
+pub mod ReadAfterWrite
+pub mod Parts
+pub mod Scan
+pub mod AlikeByKind
+pub mod Alike
+pub mod Growth
+pub mod Blank
+pub mod Marked
+pub mod Examples

@@ -1,0 +1,103 @@
+-- "Each contract admits a single outcome": the left side of a promise's equation fixes the answer itself, not only its number. Two answers that
+-- give the same left side are the same answer, and the bytes left are the same bytes.
+use Prim.Native.Nat.{ℕ}
+use mathlib.Core.Path.{_≡_, refl, sym, ap, _∙_}
+use mathlib.Core.Bool.{cond}
+use mathlib.Core.List.{List, [], _∷_}
+use lib.ListN.{getD}
+use Rattle.store.specs.Segment.{Result, Located}
+use Rattle.store.specs.Scan.{Scanned}
+use Rattle.store.specs.Answers.{outcome, located, scannedOf, Placed, placed, NamedPage, namedPage}
+use Rattle.store.specs.declared.Place.{Place}
+use Rattle.store.specs.declared.Place.the-variants as place
+use Rattle.store.specs.declared.Named.{Named}
+use Rattle.store.specs.declared.Named.the-variants as named
+use Rattle.store.specs.declared.Answer.{Answer}
+use Rattle.store.specs.declared.Answer.the-variants.{Done, Size, NoPage, Long, Damaged, NoRecord, Forwarded, Full, Stale}
+use Rattle.store.specs.declared.Reading.{Reading}
+use Rattle.store.specs.declared.Reading.the-variants as reading
+use Rattle.store.specs.declared.Step.{Step}
+use Rattle.store.specs.declared.Step.the-variants as scan
+
+-- what can be undone tells two apart
+undone : {A B : Type 0} (f : A → B) (back : B → A) → ((x : A) → back (f x) ≡ x) → (x y : A) → f x ≡ f y → x ≡ y
+undone f back h x y e = sym (h x) ∙ ap back e ∙ h y
+
+-- ---- the calls that write
+
+module _ (r r′ : Answer) (s s′ v v′ : List ℕ) where
+  pub outcome-single : outcome r s v ≡ outcome r′ s′ v′ → (r ≡ r′) × (s ≡ s′) × (v ≡ v′)
+  outcome-single e = (
+    sym (back r s v) ∙ ap answer e ∙ back r′ s′ v′,
+    ap (λ (o : Result). o .seg) e,
+    ap (λ (o : Result). o .inv) e,
+  )
+    where
+      answer : Result → Answer
+      answer o = getD (Done (o .id) ∷ Size ∷ NoPage ∷ Long ∷ Damaged ∷ NoRecord ∷ Forwarded ∷ Full ∷ Stale ∷ []) (o .answer) Size
+
+      back : (a : Answer) (t w : List ℕ) → answer (outcome a t w) ≡ a
+      back (Done i) t w = refl
+      back Size t w = refl
+      back NoPage t w = refl
+      back Long t w = refl
+      back Damaged t w = refl
+      back NoRecord t w = refl
+      back Forwarded t w = refl
+      back Full t w = refl
+      back Stale t w = refl
+
+-- ---- a read
+
+pub located-single : (r r′ : Reading) → located r ≡ located r′ → r ≡ r′
+located-single = undone located answer back
+  where
+    answer : Located → Reading
+    answer d =
+        getD (reading.At (d .part .offset) (d .part .length) ∷ reading.Size ∷ reading.NoPage ∷ reading.Size ∷ reading.Damaged ∷ reading.NoRecord ∷ [])
+        (d .answer) reading.Size
+
+    back : (r : Reading) → answer (located r) ≡ r
+    back (reading.At o l) = refl
+    back reading.Size = refl
+    back reading.NoPage = refl
+    back reading.Damaged = refl
+    back reading.NoRecord = refl
+
+-- ---- a step of a scan of the segment s
+
+pub scanned-single : (s : List ℕ) (r r′ : Step) → scannedOf r s ≡ scannedOf r′ s → r ≡ r′
+scanned-single s = undone (λ r. scannedOf r s) answer back
+  where
+    answer : Scanned → Step
+    answer d =
+        cond (d .some) (scan.Record (d .id) (d .part .offset) (d .part .length) (d .page) (d .slot))
+        (getD (scan.End (d .page) (d .slot) ∷ scan.Size ∷ scan.Size ∷ scan.Size ∷ scan.Damaged ∷ []) (d .answer) scan.Size)
+
+    back : (r : Step) → answer (scannedOf r s) ≡ r
+    back (scan.Record i o l p k) = refl
+    back (scan.End p k) = refl
+    back scan.Size = refl
+    back scan.Damaged = refl
+
+-- ---- inside a call: a place on a page, and a page that the inventory names
+
+pub placed-single : (r r′ : Place) → placed r ≡ placed r′ → r ≡ r′
+placed-single = undone placed answer back
+  where
+    answer : Placed → Place
+    answer d = getD (place.At (d .slot) (d .offset) ∷ []) (d .answer) place.NoRoom
+
+    back : (r : Place) → answer (placed r) ≡ r
+    back (place.At k o) = refl
+    back place.NoRoom = refl
+
+pub named-single : (r r′ : Named) → namedPage r ≡ namedPage r′ → r ≡ r′
+named-single = undone namedPage answer back
+  where
+    answer : NamedPage → Named
+    answer d = getD (named.At (d .page) ∷ []) (d .answer) named.Full
+
+    back : (r : Named) → answer (namedPage r) ≡ r
+    back (named.At p) = refl
+    back named.Full = refl
