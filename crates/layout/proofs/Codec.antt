@@ -1,37 +1,43 @@
 -- The leaves against the store's codec and header.
-use mathlib.Core.Path.{_≡_, refl, sym, _∙_}
+use mathlib.Core.Path.{_≡_, sym, _∙_}
 use mathlib.Core.List.{List, _++_}
-use Prim.Native.Nat.{ℕ, zero, suc, _+_, _*_, _/_, _%_, _^_, _≤_, _<_}
+use Prim.Native.Nat.{ℕ, _+_, _*_, _/_, _%_, _^_, _≤_, _<_}
 use native.Mathlib.Omega.{arith}
 use lib.ListN.{length}
 use borrow.Author.Tests.{lt-ltb}
 use Rattle.store.specs.Numbers.{cut, put, be, toBE}
 use Rattle.store.specs.Slots.{ofKind, slotOf}
 use Rattle.store.specs.Page.{view, count}
-use Rattle.store.specs.declared.Slot.the-variants.{Target}
+use Rattle.store.specs.declared.Slot.the-variants.{Ordinary, Free, Redirect, Target}
 use Rattle.layout.specs.Run.{headOf}
 use Rattle.layout.proofs.Writes.{write-append}
 use Rattle.layout.proofs.Numbers.{num8}
 
-pub kind-three : (k w : ℕ) → 3 ≤ k → ofKind k w ≡ Target (w / 2 ^ 32) (w % 2 ^ 32)
-kind-three zero w h = absurd (omega arith)
-kind-three (suc zero) w h = absurd (omega arith)
-kind-three (suc (suc zero)) w h = absurd (omega arith)
-kind-three (suc (suc (suc k))) w h = refl
-
--- an entry of two halves: its kind is in the higher one
-module _ (h l : ℕ) (small : l < 2 ^ 32) where
-  pub kind-high : slotOf (h * 2 ^ 32 + l) ≡ ofKind (h / 2 ^ 30) (h % 2 ^ 30 * 2 ^ 32 + l)
-  kind-high =
-      let a : (h * 2 ^ 32 + l) / 2 ^ 62 ≡ h / 2 ^ 30 = omega arith in
-      let b : (h * 2 ^ 32 + l) % 2 ^ 62 ≡ h % 2 ^ 30 * 2 ^ 32 + l = omega arith in
+-- an entry in its two halves, h and l: the kind k is in the high one, above the offset o
+module _ (h l o : ℕ) (small : l < 2 ^ 32) (low : o < 2 ^ 30) where
+  of-kind : (k : ℕ) → h ≡ k * 2 ^ 30 + o → slotOf (h * 2 ^ 32 + l) ≡ ofKind k (o * 2 ^ 32 + l)
+  of-kind k e =
+      let a : (h * 2 ^ 32 + l) / 2 ^ 62 ≡ k = omega arith in
+      let b : (h * 2 ^ 32 + l) % 2 ^ 62 ≡ o * 2 ^ 32 + l = omega arith in
       rw (a, b)
 
-  pub half-high : (h * 2 ^ 32 + l) / 2 ^ 32 ≡ h
-  half-high = omega arith
+  offset : (o * 2 ^ 32 + l) / 2 ^ 32 ≡ o
+  offset = omega arith
 
-  pub half-low : (h * 2 ^ 32 + l) % 2 ^ 32 ≡ l
-  half-low = omega arith
+  len : (o * 2 ^ 32 + l) % 2 ^ 32 ≡ l
+  len = omega arith
+
+  pub of-ordinary : h ≡ o → slotOf (h * 2 ^ 32 + l) ≡ Ordinary o l
+  of-ordinary e = of-kind 0 (omega arith) ∙ rw (offset, len)
+
+  pub of-free : h ≡ 2 ^ 30 + o → slotOf (h * 2 ^ 32 + l) ≡ Free
+  of-free e = of-kind 1 (omega arith)
+
+  pub of-redirect : h ≡ 2 * 2 ^ 30 + o → slotOf (h * 2 ^ 32 + l) ≡ Redirect (o * 2 ^ 32 + l)
+  of-redirect e = of-kind 2 (omega arith)
+
+  pub of-target : h ≡ 3 * 2 ^ 30 + o → slotOf (h * 2 ^ 32 + l) ≡ Target o l
+  of-target e = of-kind 3 (omega arith) ∙ rw (offset, len)
 
 -- a slot that is counted
 pub counted-slot : (p : List ℕ) (k h l : ℕ) → 12 + 8 * k + 8 ≤ length p → k < view p .slotCount → h ≡ be (cut p (12 + 8 * k) 4)

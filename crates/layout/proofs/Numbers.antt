@@ -1,16 +1,15 @@
 -- The leaves' numbers against `be` and `toBE`.
-use mathlib.Core.Path.{_≡_, sym, ap, _∙_}
+use mathlib.Core.Path.{_≡_, refl, sym, ap, _∙_}
 use mathlib.Core.List.{List, [], _∷_, _++_}
-use Prim.Native.Nat.{ℕ, suc, _+_, _*_, _/_, _%_, _^_, _≤_, _<_}
-use native.Mathlib.Nat.{div-one, mul-assoc, add-mul, div-div-eq-div-mul}
+use Prim.Native.Nat.{ℕ, suc, _+_, _-_, _*_, _/_, _%_, _^_, _≤_, _<_}
+use native.Mathlib.Nat.{div-one, mul-assoc, add-mul, div-div-eq-div-mul, pow-suc}
 use lib.Bits.{bitOr, or-shifted}
 use lib.Pow.{pow-add, shl-exact, shl-lt}
-use lib.Seq.{take-add, drop-drop, length-take-le}
-use Rattle.layout.proofs.Writes.{write-append}
+use lib.Seq.{take-add, drop-drop}
+use Rattle.layout.proofs.Writes.{write-append, length-cut, cut-snoc}
 use native.Mathlib.Omega.{arith}
-use native.Mathlib.Numerals.{towards-suc}
-use lib.ListN.{length, getD, take, drop, set, length-append, length-drop}
-use Rattle.layout.specs.Run.{Read}
+use native.Mathlib.Numerals.{add-one, towards-suc}
+use lib.ListN.{length, getD, take, drop, set, length-append}
 use Rattle.store.specs.Numbers.{cut, put, be, toBE}
 use Rattle.store.specs.Laws.Numbers.{put-set, put-nil, cut-cons}
 
@@ -47,9 +46,9 @@ be-append (x ∷ a) b =
 
 pub num8 : (at : ℕ) (p : List ℕ) → at + 8 ≤ length p → be (cut p at 8) ≡ be (cut p at 4) * 4294967296 + be (cut p (at + 4) 4)
 num8 at p h =
-    let l : length (take 4 (drop (at + 4) p)) ≡ 4 = length-take-le 4 (drop (at + 4) p) (rw length-drop (omega arith)) in
     let e : cut p at 8 ≡ cut p at 4 ++ cut p (at + 4) 4 = take-add 4 4 (drop at p) ∙ ap (λ (q : List ℕ). cut p at 4 ++ take 4 q) (drop-drop 4 at p) in
-    ap be e ∙ be-append (cut p at 4) (cut p (at + 4) 4) ∙ ap (λ (n : ℕ). be (cut p at 4) * 256 ^ n + be (cut p (at + 4) 4)) l
+    ap be e ∙ be-append (cut p at 4) (cut p (at + 4) 4)
+    ∙ ap (λ (n : ℕ). be (cut p at 4) * 256 ^ n + be (cut p (at + 4) 4)) (length-cut p (at + 4) 4 (omega arith))
 
 pub put8 : (at v : ℕ) (p : List ℕ) → put (put p at (toBE 4 (v / 4294967296))) (at + 4) (toBE 4 v) ≡ put p at (toBE 8 v)
 put8 at v p =
@@ -63,42 +62,21 @@ join x y k z e h l =
     let g : x * 2 ^ (8 + k) ≡ x * 256 * 2 ^ k = ap (λ (m : ℕ). x * m) (pow-add 2 8 k) ∙ sym (mul-assoc x 256 (2 ^ k)) in
     rw (e, f) (or-shifted x (8 + k) (y * 2 ^ k) (shl-lt 8 k h) ∙ ap (λ (m : ℕ). m + y * 2 ^ k) g ∙ sym (add-mul (x * 256) y (2 ^ k)))
 
-pub record Byte (r b : ℕ) : Type 0 where
-  pub is : r ≡ b
-  pub small : r < 256
+-- the number of the first k bytes at `at`, each where eight bytes have it
+pub record High (p : List ℕ) (at k v : ℕ) : Type 0 where
+  pub is : v ≡ be (cut p at k) * 2 ^ (64 - 8 * k)
+  pub small : be (cut p at k) < 256 ^ k
 
-pub joined8 : (at : ℕ) (p : List ℕ) (a b c d e f g h : ℕ) → at + 8 ≤ length p
-    → Byte a (getD p at 0) → Byte b (getD p (at + 1) 0) → Byte c (getD p (at + 2) 0) → Byte d (getD p (at + 3) 0)
-    → Byte e (getD p (at + 4) 0) → Byte f (getD p (at + 5) 0) → Byte g (getD p (at + 6) 0) → Byte h (getD p (at + 7) 0)
-    → Read 8 at p (bitOr (bitOr (bitOr
-    (bitOr (bitOr (bitOr (bitOr (a * 2 ^ 56 % 2 ^ 64) (b * 2 ^ 48 % 2 ^ 64)) (c * 2 ^ 40 % 2 ^ 64)) (d * 2 ^ 32 % 2 ^ 64)) (e * 2 ^ 24 % 2 ^ 64))
-    (f * 2 ^ 16 % 2 ^ 64)) (g * 2 ^ 8 % 2 ^ 64)) h)
-joined8 at p a b c d e f g h l ha hb hc hd he hf hg hh =
-    let z1 = join a b 48 (a * 2 ^ 56 % 2 ^ 64) (shl-exact 8 56 64 (ha .small) (omega arith)) (hb .small) (omega arith) in
-    let z2 = join (a * 256 + b) c 40 _ z1 (hc .small) (omega arith) in
-    let z3 = join ((a * 256 + b) * 256 + c) d 32 _ z2 (hd .small) (omega arith) in
-    let z4 = join (((a * 256 + b) * 256 + c) * 256 + d) e 24 _ z3 (he .small) (omega arith) in
-    let z5 = join ((((a * 256 + b) * 256 + c) * 256 + d) * 256 + e) f 16 _ z4 (hf .small) (omega arith) in
-    let z6 = join (((((a * 256 + b) * 256 + c) * 256 + d) * 256 + e) * 256 + f) g 8 _ z5 (hg .small) (omega arith) in
-    let x : ℕ = ((((((a * 256 + b) * 256 + c) * 256 + d) * 256 + e) * 256 + f) * 256 + g) in
-    let q1 : at + 4 + 1 ≡ at + 5 = omega arith in
-    let q2 : at + 4 + 2 ≡ at + 6 = omega arith in
-    let q3 : at + 4 + 3 ≡ at + 7 = omega arith in
-    let z7 = ap (λ (m : ℕ). bitOr m h) z6 ∙ or-shifted x 8 h (hh .small) in
-    record {
-      is = z7 ∙ omega (
-        arith,
-        num8 at p l,
-        num4 at p (omega arith),
-        rw (q1, q2, q3) at (num4 (at + 4) p (omega arith)),
-        ha .is,
-        hb .is,
-        hc .is,
-        hd .is,
-        he .is,
-        hf .is,
-        hg .is,
-        hh .is,
-      );
-      small = omega (arith, z7, ha .small, hb .small, hc .small, hd .small, he .small, hf .small, hg .small, hh .small);
-    }
+pub high-none : (p : List ℕ) (at : ℕ) → High p at 0 0
+high-none p at = record { is = refl; small = omega arith }
+
+pub high-more : {p : List ℕ} {at k v : ℕ} (b : ℕ) → b ≡ getD p (at + k) 0 → b < 256 → k < 8 → at + k < length p → High p at k v
+    → High p at (k + 1) (bitOr v (b * 2 ^ (56 - 8 * k) % 2 ^ 64))
+high-more {p} {at} {k} {v} b e l w h r =
+    let x : ℕ = be (cut p at k) in
+    let up : 64 - 8 * k ≡ 8 + (56 - 8 * k) = omega arith in
+    let down : 64 - 8 * (k + 1) ≡ 56 - 8 * k = omega arith in
+    let z = join x b (56 - 8 * k) v (r .is ∙ ap (λ (m : ℕ). x * 2 ^ m) up) l (omega arith) in
+    let s : be (cut p at (k + 1)) ≡ x * 256 + b = ap be (cut-snoc p at k b e h) ∙ be-append (cut p at k) (b ∷ []) ∙ omega arith in
+    let t : 256 ^ (k + 1) ≡ 256 ^ k * 256 = rw add-one (pow-suc 256 k) in
+    record { is = rw (s, down) z; small = omega (arith, r .small) }

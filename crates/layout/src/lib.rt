@@ -9,6 +9,9 @@ ghost use lib.ListN.{length};
 ghost use Rattle.store.specs.Numbers.{cut, put, toBE, zeros, fit};
 ghost use Rattle.layout.specs.Run.{Read};
 
+// The weight of the high half of eight bytes.
+const HALF: usize = 1 << 32;
+
 // n zeros from `at` on.
 pub fn zero_fill(page: &mut [u8], at: usize, n: usize)
     requires { ⌜ at + n ≤ length (now page) ⌝ }
@@ -136,19 +139,16 @@ pub fn put_u32(page: &mut [u8], at: usize, v: usize)
     page[at + 3] = (v % 256) as u8;
 }
 
-// The number of eight bytes at `at`, the highest first.
+// The number of eight bytes at `at`, the highest first: the compiler makes one load of the loop.
 pub fn get_u64(page: &[u8], at: usize) -> usize
     requires { ⌜ at + 8 ≤ length (now page) ⌝ }
     ensures { λ r. ⌜ Read 8 at (now (page .entry)) r ⌝ }
 {
-    wide(page[at]) << 56
-        | wide(page[at + 1]) << 48
-        | wide(page[at + 2]) << 40
-        | wide(page[at + 3]) << 32
-        | wide(page[at + 4]) << 24
-        | wide(page[at + 5]) << 16
-        | wide(page[at + 6]) << 8
-        | wide(page[at + 7])
+    let mut v = 0;
+    for k in 0..8 {
+        v = v | wide(page[at + k]) << (56 - 8 * k);
+    }
+    v
 }
 
 // The eight bytes of v to `at`.
@@ -156,6 +156,6 @@ pub fn put_u64(page: &mut [u8], at: usize, v: usize)
     requires { ⌜ at + 8 ≤ length (now page) ⌝ }
     ensures { λ _. ⌜ now (page .exit) ≡ put (now (page .entry)) at (toBE 8 v) ⌝ }
 {
-    put_u32(page, at, v / 4294967296);
+    put_u32(page, at, v / HALF);
     put_u32(page, at + 4, v);
 }

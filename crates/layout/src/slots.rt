@@ -1,4 +1,7 @@
 // The slot codec, and a slot of the page as the view has it.
+use crate::HALF;
+use store::ENTRY;
+use store::HEADER;
 use store::Slot;
 ghost use mathlib.Core.Path.{_≡_};
 ghost use Prim.Native.Nat.{_+_, _*_, _^_, _≤_, _<_};
@@ -8,41 +11,53 @@ ghost use Rattle.store.specs.Slots.{slotWord, slotBytes, slotOf, off, len, isFr
 ghost use Rattle.store.specs.Page.{view};
 ghost use Rattle.store.specs.Laws.Slots.{Codable};
 
+// "The top two bits of a slot tell its kind": from these on the high half of an entry is of the kind, and below the first of them the
+// entry is an ordinary record's.
+pub const FREE: usize = 1 << 30;
+
+pub const REDIRECT: usize = 2 << 30;
+
+pub const TARGET: usize = 3 << 30;
+
+const FREE_ENTRY: usize = FREE << 32;
+
+const REDIRECT_ENTRY: usize = REDIRECT << 32;
+
+const TARGET_ENTRY: usize = TARGET << 32;
+
 fn slot_word(s: Slot) -> usize
     requires { ⌜ Codable s ⌝ }
     ensures { λ r. ⌜ r ≡ slotWord s ⌝ }
 {
     match s {
-        Slot::Ordinary { offset, length } => offset * 4294967296 + length,
-        Slot::Free => 4611686018427387904,
-        Slot::Redirect { id } => 9223372036854775808 + id,
-        Slot::Target { offset, length } => 13835058055282163712 + (offset * 4294967296 + length),
+        Slot::Ordinary { offset, length } => offset * HALF + length,
+        Slot::Free => FREE_ENTRY,
+        Slot::Redirect { id } => REDIRECT_ENTRY + id,
+        Slot::Target { offset, length } => TARGET_ENTRY + (offset * HALF + length),
     }
 }
 
-// An entry's two halves of 32 bits: "the top two bits of a slot tell its kind".
+// An entry in its two halves.
 fn slot_of(high: usize, low: usize) -> Slot
     requires { ⌜ (high < 2 ^ 32) × (low < 2 ^ 32) ⌝ }
     ensures { λ r. ⌜ (r ≡ slotOf (high * 2 ^ 32 + low)) × Codable r ⌝ }
 {
-    let kind = high / 1073741824;
-    let offset = high % 1073741824;
-    if kind == 0 {
+    if high < FREE {
         return Slot::Ordinary {
-            offset,
+            offset: high,
             length: low,
         };
     }
-    if kind == 1 {
+    if high < REDIRECT {
         return Slot::Free;
     }
-    if kind == 2 {
+    if high < TARGET {
         return Slot::Redirect {
-            id: offset * 4294967296 + low,
+            id: (high - REDIRECT) * HALF + low,
         };
     }
     Slot::Target {
-        offset,
+        offset: high - TARGET,
         length: low,
     }
 }
@@ -52,7 +67,7 @@ pub fn get_slot(page: &[u8], k: usize) -> Slot
     requires { ⌜ (length (now page) ≡ 16384) × (k < view (now page) .slotCount) × (k < 2046) ⌝ }
     ensures { λ r. ⌜ (r ≡ view (now (page .entry)) .at k) × Codable r ⌝ }
 {
-    let at = 12 + 8 * k;
+    let at = HEADER + ENTRY * k;
     slot_of(crate::get_u32(page, at), crate::get_u32(page, at + 4))
 }
 
@@ -61,7 +76,7 @@ pub fn write_slot(page: &mut [u8], k: usize, s: Slot)
     ensures { λ _. ⌜ now (page .exit) ≡ put (now (page .entry)) (12 + 8 * k) (slotBytes s) ⌝ }
 {
     let e = slot_word(s);
-    crate::put_u64(page, 12 + 8 * k, e);
+    crate::put_u64(page, HEADER + ENTRY * k, e);
 }
 
 pub fn is_free(s: Slot) -> bool

@@ -3,49 +3,38 @@ use Prim.Native.Nat.{ℕ, _+_, _*_, _≤_, _<_}
 use mathlib.Core.Path.{_≡_, refl, sym, ap, _∙_}
 use mathlib.Core.Bool.{Bool, true, false, _||_}
 use mathlib.Core.List.{List}
-use mathlib.Core.Logic.{inr, ⊎-swap, _≢_}
+use mathlib.Core.Logic.{inr, _≢_}
 use native.Mathlib.Omega.{arith}
 use native.Mathlib.Numerals.{add-one}
 use native.Mathlib.Decide.{decLt, ℕ-discrete}
 use lib.ListN.{length, drop, length-take, length-drop}
 use lib.Dec.{eqb}
+use borrow.Author.Count.{below-more}
 use borrow.Author.Tests.{eq-eqb, ne-eqb}
 use Rattle.store.specs.Numbers.{sum}
 use Rattle.store.specs.Slots.{off, len, isTarget}
 use Rattle.store.specs.Page.{View, view, slotAt, fresh, soundTests, passes, sound}
 use Rattle.store.specs.Laws.Edits.{Apart}
-use Rattle.store.specs.Laws.Views.{Sound}
+use Rattle.store.specs.Laws.Views.{Sound, apart-flip}
 use Rattle.store.specs.Laws.SoundPage.{sound-page, sound-test, past-free, page-codable}
 use Rattle.page_check.specs.Fit.{Allowed, Runs, RecordsFit, Total, HeaderFits}
 use Rattle.page_check.proofs.SlotLaws.{refuted}
 
 -- ---- one more slot
 
-pub fit-none : (v : View) (f d : ℕ) → RecordsFit v 0 f d
-fit-none v f d = record { allowed = λ j h. absurd (omega arith); above = λ j h. absurd (omega arith); apart = λ i j g h. absurd (omega arith) }
+pub records-none : (v : View) (f d : ℕ) → RecordsFit v 0 f d
+records-none v f d = record { allowed = λ j h. absurd (omega arith); above = λ j h. absurd (omega arith); apart = λ i j g h. absurd (omega arith) }
 
-pub fit-lower : (v : View) (n f d e : ℕ) → RecordsFit v n f d → e ≤ d → RecordsFit v n f e
-fit-lower v n f d e r h = record { allowed = r .allowed; above = λ j g p. omega (arith, r .above j g p); apart = r .apart }
+pub records-lower : (v : View) (n f d e : ℕ) → RecordsFit v n f d → e ≤ d → RecordsFit v n f e
+records-lower v n f d e r h = record { allowed = r .allowed; above = λ j g p. omega (arith, r .above j g p); apart = r .apart }
 
-pub fit-more : (v : View) (k f d : ℕ) → RecordsFit v k f d → Allowed (v .at k) k f 16384 → (0 < len (v .at k) → d ≤ off (v .at k))
+pub records-more : (v : View) (k f d : ℕ) → RecordsFit v k f d → Allowed (v .at k) k f 16384 → (0 < len (v .at k) → d ≤ off (v .at k))
     → ((i : ℕ) → i < k → Apart (v .at i) (v .at k)) → RecordsFit v (k + 1) f d
-fit-more v k f d r a o s = record {
-  allowed = λ j h. allowed j h (ℕ-discrete j k);
-  above = λ j h. above j h (ℕ-discrete j k);
-  apart = λ i j g h. apart i j g h (ℕ-discrete j k);
+records-more v k f d r a o s = record {
+  allowed = below-more (λ j. Allowed (v .at j) j f 16384) k (r .allowed) a;
+  above = below-more (λ j. 0 < len (v .at j) → d ≤ off (v .at j)) k (r .above) o;
+  apart = λ i j g h. below-more (λ j. (i : ℕ) → i < j → Apart (v .at i) (v .at j)) k (λ j h i g. r .apart i j g h) s j h i g;
 }
-  where
-    allowed : (j : ℕ) → j < k + 1 → Dec (j ≡ k) → Allowed (v .at j) j f 16384
-    allowed j h (yes e) = rw e a
-    allowed j h (no e) = r .allowed j (omega arith)
-
-    above : (j : ℕ) → j < k + 1 → Dec (j ≡ k) → 0 < len (v .at j) → d ≤ off (v .at j)
-    above j h (yes e) = rw e o
-    above j h (no e) = r .above j (omega arith)
-
-    apart : (i j : ℕ) → i < j → j < k + 1 → Dec (j ≡ k) → Apart (v .at i) (v .at j)
-    apart i j g h (yes e) = rw e (s i (omega arith))
-    apart i j g h (no e) = r .apart i j g (omega arith)
 
 pub total-none : (v : View) → Total v 0 0
 total-none v = record { is = refl; small = omega arith }
@@ -58,10 +47,10 @@ total-more v k t l s e h = record {
 }
 
 -- the record of slot k lies below all before
-pub fit-under : (v : View) (k f low o l : ℕ) → low ≤ 16384 → RecordsFit v k f low → Allowed (v .at k) k f low → Runs (v .at k) low o l
+pub records-under : (v : View) (k f low o l : ℕ) → low ≤ 16384 → RecordsFit v k f low → Allowed (v .at k) k f low → Runs (v .at k) low o l
     → RecordsFit v (k + 1) f o
-fit-under v k f low o l h r a s =
-    fit-more v k f o (fit-lower v k f low o r (omega (arith, s .down)))
+records-under v k f low o l h r a s =
+    records-more v k f o (records-lower v k f low o r (omega (arith, s .down)))
     (record { under = omega (arith, a .under); long = a .long; used = a .used })
     (λ p. omega (arith, s .start (omega (arith, s .size))))
     (λ i g p q. inr (omega (arith, r .above i g p, a .under)))
@@ -120,7 +109,7 @@ module _ {p : List ℕ} {n f d : ℕ} (a : Header p n f d) where
 
     apart : (i j : ℕ) → i ≢ j → Dec (i < j) → Apart (view p .at i) (view p .at j)
     apart i j e (yes g) = ordered i j g (decLt j n)
-    apart i j e (no g) = λ x y. ⊎-swap (ordered j i (omega arith) (decLt i n) y x)
+    apart i j e (no g) = apart-flip (view p .at j) (view p .at i) (ordered j i (omega arith) (decLt i n))
 
     lens : (j : ℕ) → length (view p .bytes j) ≡ len (view p .at j)
     unfolding view

@@ -11,7 +11,7 @@ use lib.Pow.{pow-pos, high, shl-exact, high-ones, pow-mono}
 use lib.ListN.{length, getD, set, replicate, length-replicate, getD-replicate, List·getD-eq-default}
 use lib.Seq.{getD-set-same, getD-set-other}
 use Rattle.page_check.specs.Fit.{Tells}
-use Rattle.page_check.specs.Map.{bit, Mask, mark, Blank, Clear, Claimed}
+use Rattle.page_check.specs.Map.{bit, Mask, mark, Blank, Clear, Claimed, Claims}
 
 -- ---- bits
 
@@ -170,15 +170,15 @@ claimed-join u v w o m e p q s t = record {
 -- the bytes from o on that are claimed so far, and those of one word more
 pub claim-more : (u v w : List ℕ) (o e i a b m : ℕ) (r : Bool) → Mask m a b → b ≤ 64 → i < length v → o ≤ 64 * i + a → a ≤ b → 64 * i + b ≡ e
     → Claimed u v o (64 * i + a)
-    → Tells r (bitAnd (getD v i 0) m ≡ 0) × (r ≡ true → w ≡ set v i (bitOr (getD v i 0) m)) → Tells r (Clear u o e) × (r ≡ true → Claimed u w o e)
-claim-more u v w o e i a b m r mask top inside p q at s t = (
-  record {
+    → Tells r (bitAnd (getD v i 0) m ≡ 0) × (r ≡ true → w ≡ set v i (bitOr (getD v i 0) m)) → Claims r (Clear u o e) u w o e
+claim-more u v w o e i a b m r mask top inside p q at s t = record {
+  tells = record {
     yes = λ x. claimed x .clear;
     back = λ h. t .0 .back (word-clear v i a b m mask top inside
         (λ x f g. s .keeps x (λ c d. omega arith) ∙ h x (omega arith) (omega arith)));
-  },
-  claimed,
-)
+  };
+  claimed = claimed;
+}
   where
     claimed : r ≡ true → Claimed u w o e
     claimed x = rw (t .1 x, ← at) (claimed-join u v (set v i (bitOr (getD v i 0) m)) o (64 * i + a) (64 * i + b) p (omega arith) s

@@ -43,6 +43,11 @@ pub record Total (v : View) (n t : ℕ) : Type 0 where
   pub is : t ≡ sum n (λ k. len (v .at k))
   pub small : t ≤ 16384 * n
 
+-- what a pass over the first n slots answers: whether their records fit, and the sum of their lengths where they do
+pub record Passed (v : View) (n f d : ℕ) (fits : Bool) (total : ℕ) : Type 0 where
+  pub tells : Tells fits (RecordsFit v n f d)
+  pub adds : fits ≡ true → Total v n total
+
 -- The header's numbers fit, and slot f is free; one that is not counted is seen as free.
 pub record HeaderFits (v : View) (n f d : ℕ) : Type 0 where
   pub few : n ≤ 2046

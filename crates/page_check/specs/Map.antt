@@ -1,8 +1,10 @@
 -- One bit for each byte of the page, in 256 words.
 use Prim.Native.Nat.{ℕ, zero, suc, _/_, _%_, _≤_, _<_}
 use mathlib.Core.Path.{_≡_}
+use mathlib.Core.Bool.{Bool, true}
 use mathlib.Core.List.{List}
 use lib.ListN.{getD}
+use Rattle.page_check.specs.Fit.{Tells}
 
 -- bit j of x
 unfoldable pub bit : ℕ → ℕ → ℕ
@@ -30,3 +32,8 @@ pub record Claimed (u v : List ℕ) (o e : ℕ) : Type 0 where
   pub clear : Clear u o e
   pub taken : (i : ℕ) → o ≤ i → i < e → mark v i ≡ 1
   pub keeps : (i : ℕ) → (o ≤ i → i < e → ⊥) → mark v i ≡ mark u i
+
+-- The answer is yes just if A holds, and then they are marked.
+pub record Claims (r : Bool) (A : Type 0) (u v : List ℕ) (o e : ℕ) : Type 0 where
+  pub tells : Tells r A
+  pub claimed : r ≡ true → Claimed u v o e

@@ -4,31 +4,36 @@ mod map;
 mod slot;
 mod sweep;
 
+use store::ENTRY;
+use store::HEADER;
+use store::MOST_SLOTS;
+use store::PAGE_SIZE;
+use store::ROOM;
 use sweep::Pass;
 ghost use mathlib.Core.Path.{_≡_};
-ghost use mathlib.Core.Bool.{true, _&&_};
-ghost use Prim.Native.Nat.{_≤_, _<_};
+ghost use mathlib.Core.Bool.{_&&_};
 ghost use lib.ListN.{length};
 ghost use lib.Dec.{eqb};
 ghost use Rattle.store.specs.Page.{view, sound};
-ghost use Rattle.page_check.specs.Fit.{Tells, HeaderFits, RecordsFit, Total};
+ghost use Rattle.layout.specs.Run.{Counted};
+ghost use Rattle.page_check.specs.Fit.{Tells, HeaderFits, Passed};
 
 // "count at most 2,046", "12 + 8 × count ≤ data start ≤ 16,384", and that the first free slot is free: it is the count if none is.
 // That no slot below it is free is found with the records.
 fn header_fits(page: &[u8], n: usize, f: usize, d: usize) -> bool
-    requires { ⌜ (length (now page) ≡ 16384) × (n ≡ view (now page) .slotCount) × (n < 65536) ⌝ }
+    requires { ⌜ (length (now page) ≡ 16384) × (n ≡ view (now page) .slotCount) ⌝ }
     ensures { λ r. ⌜ Tells r (HeaderFits (view (now (page .entry))) n f d) ⌝ }
 {
-    if 2046 < n {
+    if MOST_SLOTS < n {
         return false;
     }
     if n < f {
         return false;
     }
-    if d < 12 + 8 * n {
+    if d < HEADER + ENTRY * n {
         return false;
     }
-    if 16384 < d {
+    if PAGE_SIZE < d {
         return false;
     }
     if f == n {
@@ -40,14 +45,14 @@ fn header_fits(page: &[u8], n: usize, f: usize, d: usize) -> bool
 // Whether the n records lie well and apart, and the sum of their lengths. Where they lie in the order of their slots, as inserts leave
 // them, no map is needed; where they do not, the map decides.
 fn records_fit(page: &[u8], n: usize, f: usize, d: usize) -> Pass
-    requires { ⌜ (length (now page) ≡ 16384) × (n ≡ view (now page) .slotCount) × (n ≤ 2046) ⌝ }
-    ensures { λ r. ⌜ Tells (r .fits) (RecordsFit (view (now (page .entry))) n f d) × (r .fits ≡ true → Total (view (now (page .entry))) n (r .total)) ⌝ }
+    requires { ⌜ Counted (now page) n ⌝ }
+    ensures { λ r. ⌜ Passed (view (now (page .entry))) n f d (r .fits) (r .total) ⌝ }
 {
     let swept = sweep::sweep(page, n, f, d);
     if swept.fits {
         return swept;
     }
-    let mut used = [0usize; 256];
+    let mut used = [0usize; map::WORDS];
     map::claim_all(page, n, f, d, &mut used)
 }
 
@@ -69,14 +74,14 @@ pub fn is_sound(page: &[u8]) -> bool
     if !records.fits {
         return false;
     }
-    layout::header::get_free_space(page) + 8 * n + records.total == 16372
+    layout::header::get_free_space(page) + ENTRY * n + records.total == ROOM
 }
 
 // The same of any bytes: a page has 16,384.
 pub fn is_sound_page(bytes: &[u8]) -> bool
     ensures { λ r. ⌜ r ≡ (eqb (length (now (bytes .entry))) 16384 && sound (view (now (bytes .entry)))) ⌝ }
 {
-    if bytes.len() != 16384 {
+    if bytes.len() != PAGE_SIZE {
         return false;
     }
     is_sound(bytes)

@@ -1,21 +1,31 @@
 // Records in any order: a map of one bit for each byte of the page, on which each record claims its own. A record that is refused ends
 // the check, so what the map then holds is never read.
 use crate::sweep::Pass;
+use store::ENTRY;
+use store::HEADER;
+use store::PAGE_SIZE;
 ghost use mathlib.Core.Path.{_≡_};
 ghost use mathlib.Core.Bool.{true};
 ghost use Prim.Native.Nat.{_+_, _≤_, _<_};
 ghost use lib.ListN.{length, getD, set};
 ghost use lib.Bits.{bitAnd, bitOr};
 ghost use Rattle.store.specs.Page.{view};
-ghost use Rattle.page_check.specs.Fit.{Tells, RecordsFit, Total};
-ghost use Rattle.page_check.specs.Map.{Mask, Clear, Claimed, Blank};
+ghost use Rattle.layout.specs.Run.{Counted};
+ghost use Rattle.page_check.specs.Fit.{Tells, Passed};
+ghost use Rattle.page_check.specs.Map.{Mask, Clear, Claims, Blank};
+
+// One bit for each byte of a page.
+pub const WORDS: usize = PAGE_SIZE / 64;
+
+// A word with every bit set.
+const ONES: usize = 18446744073709551615;
 
 // The bits of a word from a on.
 fn bits_from(a: usize) -> usize
     requires { ⌜ a < 64 ⌝ }
     ensures { λ r. ⌜ Mask r a 64 ⌝ }
 {
-    18446744073709551615 - ((1 << a) - 1)
+    ONES - ((1 << a) - 1)
 }
 
 // The bits of a word up to b.
@@ -23,7 +33,7 @@ fn bits_to(b: usize) -> usize
     requires { ⌜ b < 64 ⌝ }
     ensures { λ r. ⌜ Mask r 0 (b + 1) ⌝ }
 {
-    18446744073709551615 >> (63 - b)
+    ONES >> (63 - b)
 }
 
 // Sets the bits m of word i, if none of them is set.
@@ -43,7 +53,7 @@ fn claim_word(used: &mut [usize], i: usize, m: usize) -> bool
 // Claims the bytes from o on below `end`, word by word: the first from o's bit on, the last up to that of the last byte.
 fn claim(used: &mut [usize], o: usize, end: usize) -> bool
     requires { ⌜ (length (now used) ≡ 256) × (o < end) × (end ≤ 16384) ⌝ }
-    ensures { λ r. ⌜ Tells r (Clear (now (used .entry)) o end) × (r ≡ true → Claimed (now (used .entry)) (now (used .exit)) o end) ⌝ }
+    ensures { λ r. ⌜ Claims r (Clear (now (used .entry)) o end) (now (used .entry)) (now (used .exit)) o end ⌝ }
 {
     let last = (end - 1) / 64;
     let mut m = bits_from(o % 64);
@@ -52,7 +62,7 @@ fn claim(used: &mut [usize], o: usize, end: usize) -> bool
         if !claim_word(used, i, m) {
             return false;
         }
-        m = 18446744073709551615;
+        m = ONES;
         i += 1;
     }
     claim_word(used, last, m & bits_to((end - 1) % 64))
@@ -61,7 +71,7 @@ fn claim(used: &mut [usize], o: usize, end: usize) -> bool
 // Puts the record of l bytes at o on the map. One of no bytes claims none, and lies anywhere.
 fn claim_record(used: &mut [usize], d: usize, o: usize, l: usize) -> bool
     requires { ⌜ (length (now used) ≡ 256) × (o + l ≤ 16384) ⌝ }
-    ensures { λ r. ⌜ Tells r ((0 < l → d ≤ o) × Clear (now (used .entry)) o (o + l)) × (r ≡ true → Claimed (now (used .entry)) (now (used .exit)) o (o + l)) ⌝ }
+    ensures { λ r. ⌜ Claims r ((0 < l → d ≤ o) × Clear (now (used .entry)) o (o + l)) (now (used .entry)) (now (used .exit)) o (o + l) ⌝ }
 {
     if l == 0 {
         return true;
@@ -75,14 +85,15 @@ fn claim_record(used: &mut [usize], d: usize, o: usize, l: usize) -> bool
 // "every record of positive length lies between data start and 16,384 and overlaps no other; a record of length 0 has an offset of at
 // most 16,384; a target has length 8 or more": every slot is looked at, so a no is as good as a yes.
 pub fn claim_all(page: &[u8], n: usize, f: usize, d: usize, used: &mut [usize]) -> Pass
-    requires { ⌜ (length (now page) ≡ 16384) × (n ≡ view (now page) .slotCount) × (n ≤ 2046) × (length (now used) ≡ 256) × Blank (now used) ⌝ }
-    ensures { λ r. ⌜ Tells (r .fits) (RecordsFit (view (now (page .entry))) n f d) × (r .fits ≡ true → Total (view (now (page .entry))) n (r .total)) ⌝ }
+    requires { ⌜ Counted (now page) n × (length (now used) ≡ 256) × Blank (now used) ⌝ }
+    ensures { λ r. ⌜ Passed (view (now (page .entry))) n f d (r .fits) (r .total) ⌝ }
 {
     let mut total = 0;
     let mut k = 0;
-    let mut o = layout::get_u32(page, 12);
+    let mut o = layout::get_u32(page, HEADER);
     while k < n {
-        let run = crate::slot::run_of(o, layout::get_u32(page, 16 + 8 * k), k, f, 16384);
+        let l = layout::get_u32(page, HEADER + ENTRY * k + 4);
+        let run = crate::slot::run_of(o, l, k, f, PAGE_SIZE);
         if !run.fits {
             return Pass {
                 fits: false,
@@ -97,7 +108,7 @@ pub fn claim_all(page: &[u8], n: usize, f: usize, d: usize, used: &mut [usize]) 
         }
         total += run.size;
         k += 1;
-        o = layout::get_u32(page, 12 + 8 * k);
+        o = layout::get_u32(page, HEADER + ENTRY * k);
     }
     Pass { fits: true, total }
 }

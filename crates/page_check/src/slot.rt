@@ -1,4 +1,8 @@
 // One slot's record, as the check of a page sees it.
+use layout::slots::FREE;
+use layout::slots::REDIRECT;
+use layout::slots::TARGET;
+use store::BACK;
 ghost use mathlib.Core.Path.{_≡_};
 ghost use Prim.Native.Nat.{_+_, _*_, _^_, _≤_, _<_};
 ghost use Rattle.store.specs.Slots.{slotOf};
@@ -24,7 +28,7 @@ fn no_bytes(fits: bool, low: usize) -> Run
 
 // Slot k's entry in its two halves, for a record that has to end at or below `low`; f is the first free slot. The first half, with the
 // kind in its top two bits, is small for an ordinary record alone: the first test passes for no other kind, and it is the only one
-// that such a record needs. Then the kinds in order, ordinary, free and redirect, each below a multiple of 2^30, and target.
+// that such a record needs. Then the kinds in order.
 pub fn run_of(o: usize, l: usize, k: usize, f: usize, low: usize) -> Run
     requires { ⌜ (o < 4294967296) × (l < 4294967296) × (low ≤ 16384) ⌝ }
     ensures { λ r. ⌜ Found (slotOf (o * 2 ^ 32 + l)) k f low (r .fits) (r .start) (r .size) ⌝ }
@@ -36,21 +40,21 @@ pub fn run_of(o: usize, l: usize, k: usize, f: usize, low: usize) -> Run
             size: l,
         };
     }
-    if o < 1073741824 {
+    if o < FREE {
         return no_bytes(false, low);
     }
-    if o < 2147483648 {
+    if o < REDIRECT {
         return no_bytes(f <= k, low);
     }
-    if o < 3221225472 {
+    if o < TARGET {
         return no_bytes(true, low);
     }
-    if l < 8 {
+    if l < BACK {
         return no_bytes(false, low);
     }
     Run {
-        fits: o - 3221225472 + l <= low,
-        start: o - 3221225472,
+        fits: o - TARGET + l <= low,
+        start: o - TARGET,
         size: l,
     }
 }

@@ -1,13 +1,18 @@
 // Compactify: every record against the page's end.
+use crate::table::kind_in;
+use crate::table::len_in;
+use crate::table::offset_in;
+use crate::table::slot_in;
+use store::PAGE_SIZE;
 use store::Slot;
 ghost use mathlib.Core.Path.{_≡_};
-ghost use Prim.Native.Nat.{_+_, _≤_, _<_};
+ghost use Prim.Native.Nat.{_≤_, _<_};
 ghost use lib.ListN.{length, take};
 ghost use Rattle.store.specs.Laws.Slots.{Codable};
 ghost use Rattle.store.specs.Page.{view};
 ghost use Rattle.store.specs.PageSteps.{pack, compactify, run};
 ghost use Rattle.store.specs.Laws.Views.{Sound};
-ghost use Rattle.page_compactify.specs.Keys.{offsetIn, lenIn, slotIn, live, moveKey, slotsOf, Ready};
+ghost use Rattle.page_compactify.specs.Keys.{live, Movable, moveKey, slotsOf, Ready};
 
 pub fn live_slot(kind: usize, d: usize, n: usize) -> Slot
     requires { ⌜ (d < 1073741824) × (n < 4294967296) ⌝ }
@@ -27,12 +32,12 @@ pub fn live_slot(kind: usize, d: usize, n: usize) -> Slot
 
 // The entry of key e's record at d, then its bytes.
 fn place(page: &mut [u8], e: usize, d: usize)
-    requires { ⌜ (length (now page) ≡ 16384) × (offsetIn e + lenIn e ≤ 16384) × (slotIn e < 2046) × (d + lenIn e ≤ 16384) ⌝ }
+    requires { ⌜ Movable e d (now page) ⌝ }
     ensures { λ _. ⌜ now (page .exit) ≡ moveKey e d (now (page .entry)) ⌝ }
 {
-    let len = e / 4096 % 32768;
-    layout::slots::write_slot(page, e / 2 % 2048, live_slot(e % 2, d, len));
-    layout::move_within(page, e / 134217728, len, d);
+    let len = len_in(e);
+    layout::slots::write_slot(page, slot_in(e), live_slot(kind_in(e), d, len));
+    layout::move_within(page, offset_in(e), len, d);
 }
 
 // The records of the first n keys, packed; the last place.
@@ -41,11 +46,11 @@ fn pack(page: &mut [u8], t: &[usize], n: usize) -> usize
     ensures { λ r. ⌜ (now (page .exit) ≡ run (pack (slotsOf (take n (now (t .entry)))) 16384 (view (now (page .entry))) .edits) (now (page .entry)))
         × (r ≡ pack (slotsOf (take n (now (t .entry)))) 16384 (view (now (page .entry))) .after .dataStart) ⌝ }
 {
-    let mut d = 16384;
+    let mut d = PAGE_SIZE;
     let mut j = 0;
     while j < n {
         let e = t[j];
-        d -= e / 4096 % 32768;
+        d -= len_in(e);
         place(page, e, d);
         j += 1;
     }
@@ -63,7 +68,7 @@ pub fn compactify(page: &mut [u8]) -> usize
         × (r ≡ compactify (view (now (page .entry))) .after .dataStart) ⌝ }
 {
     let count = layout::header::get_slot_count(page);
-    let mut table = [0usize; 2046];
+    let mut table = [0usize; store::MOST_SLOTS];
     let n = crate::table::collect(page, &mut table, count);
     pack(page, &table, n)
 }

@@ -1,4 +1,6 @@
 // Room on a page: "If the gap between directory and data start is too small for what is added, the page is compactified first; otherwise it isn't."
+use store::ENTRY;
+use store::HEADER;
 ghost use mathlib.Core.Path.{_≡_};
 ghost use Prim.Native.Nat.{_≤_};
 ghost use lib.ListN.{length};
@@ -13,7 +15,7 @@ pub fn make_room(page: &mut [u8], n: usize) -> usize
 {
     let c = layout::header::get_slot_count(page);
     let d = layout::header::get_data_start(page);
-    if d - (12 + 8 * c) < n {
+    if d - (HEADER + ENTRY * c) < n {
         return crate::compact::compactify(page);
     }
     d

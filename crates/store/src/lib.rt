@@ -1,5 +1,5 @@
-// The kinds of a slot's entry, and the answers of the calls: declarations alone. What they mean is defined in specs/, and document
-// 01's number of each answer stands in specs/Answers.antt.
+// Document 01's sizes, the kinds of a slot's entry, and the answers of the calls: declarations alone. What they mean is defined in
+// specs/, and document 01's number of each answer stands in specs/Answers.antt.
 
 // "page 16,384 bytes"; "an id is page × 65,536 + slot"; "new size above 16,364"; "count at most 2,046"; "n from 0 to 32,527"
 pub const PAGE_SIZE: usize = 16384;
@@ -11,6 +11,15 @@ pub const LONGEST: usize = 16364;
 pub const MOST_SLOTS: usize = 2046;
 
 pub const MOST_PAGES: usize = 32527;
+
+// The bytes of a page's header, of a slot's entry, and of the id in front of a target's record; what a page has beside its header.
+pub const HEADER: usize = 12;
+
+pub const ENTRY: usize = 8;
+
+pub const BACK: usize = 8;
+
+pub const ROOM: usize = PAGE_SIZE - HEADER;
 
 pub enum Slot {
     Ordinary { offset: usize, length: usize },

@@ -3,12 +3,13 @@ use mathlib.Core.Path.{_≡_, sym, ap, _∙_}
 use mathlib.Core.List.{List, _++_, append-nil}
 use Prim.Native.Nat.{ℕ, _+_, _-_}
 use native.Mathlib.Omega.{arith}
-use lib.ListN.{length, take, drop, length-drop}
-use lib.Seq.{take-length, drop-length, length-take-le}
+use lib.ListN.{length, take, drop}
+use lib.Seq.{take-length, drop-length}
 use borrow.Rule.Slice.PartMut.{putMid}
 use borrow.Author.Needs.{needs}
 use Rattle.store.specs.Numbers.{cut}
 use Rattle.store.specs.Laws.Numbers.{lent}
+use Rattle.layout.proofs.Writes.{length-cut}
 use Rattle.layout.proofs.copy_in.Statement.{statement}
 use Rattle.layout.proofs.copy_in.Tie as tie
 
@@ -36,14 +37,15 @@ same-length c = search needs
 
 returns : tie.Need-returns
 returns c =
-    let z = c .before .before .before .before .before .before in
-    let q : List ℕ = z .args .page .now in
-    let s : List ℕ = z .args .src .now in
-    let a : ℕ = z .args .at in
+    let copied = c .before .before in
+    let entry = copied .before .before .before .before in
+    let q : List ℕ = entry .args .page .now in
+    let s : List ℕ = entry .args .src .now in
+    let a : ℕ = entry .args .at in
     let e : ℕ = a + length s in
-    let full : length (cut q a (e - a)) ≡ length s = length-take-le (e - a) (drop a q) (rw length-drop (omega (arith, z .pre))) ∙ omega arith in
-    ap (λ (r : List ℕ). putMid a (e - a) q r) (c .before .before .copy .ensures .1 ∙ over s (cut q a (e - a)) full)
-    ∙ lent q a e s (omega arith) (z .pre) (omega arith)
+    let full : length (cut q a (e - a)) ≡ length s = length-cut q a (e - a) (omega (arith, entry .pre)) ∙ omega arith in
+    ap (λ (r : List ℕ). putMid a (e - a) q r) (copied .copy .ensures .1 ∙ over s (cut q a (e - a)) full)
+    ∙ lent q a e s (omega arith) (entry .pre) (omega arith)
 
 pub copy-in-spec : {M : Type 1} → statement M
 copy-in-spec = tie.close (tie.spec add-e sub-copy part-copy-start part-copy-end copy-requires same-length returns)

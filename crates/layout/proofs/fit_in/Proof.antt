@@ -9,6 +9,9 @@ use borrow.Author.Needs.{needs}
 use Rattle.layout.proofs.fit_in.Statement.{statement}
 use Rattle.layout.proofs.fit_in.Tie as tie
 
+abbrev entry : tie.After-shared-slice-known → tie.Start
+entry c = c .before .before
+
 slice-aggregate-copy-in : tie.Need-slice-aggregate-copy-in
 slice-aggregate-copy-in c = rw length-take (omega arith)
 
@@ -29,18 +32,22 @@ same-length c = search needs
 
 returns : tie.Need-returns
 returns c =
-    let s = c .before .before .before .before .before .before .before .before .args in
-    c .before .before .copy-in .ensures ∙ rw (fit-cut (s .size) (s .src .now) (omega arith))
+    let copied = c .before .before in
+    let cut-off = copied .before .before .before in
+    let a = entry (cut-off .before) .args in
+    copied .copy-in .ensures ∙ rw (fit-cut (a .size) (a .src .now) (omega arith))
 
 same-length-2 : tie.Need-same-length-2
 same-length-2 c = search needs
 
 returns-2 : tie.Need-returns-2
 returns-2 c =
-    let s = c .before .before .before .before .before .before .before .before .before .before .before .args in
-    c .before .before .zero-fill .ensures
-    ∙ rw (c .before .before .before .before .before .before .copy-in2 .ensures, fit-filled (s .size) (s .src .now) (omega arith))
-    (sym (write-append (s .at) (s .src .now) (zeros (s .size - length (s .src .now))) (s .page .now)))
+    let filled = c .before .before in
+    let copied = filled .before .before .before .before in
+    let a = entry (copied .before .before .before) .args in
+    filled .zero-fill .ensures
+    ∙ rw (copied .copy-in2 .ensures, fit-filled (a .size) (a .src .now) (omega arith))
+    (sym (write-append (a .at) (a .src .now) (zeros (a .size - length (a .src .now))) (a .page .now)))
 
 pub fit-in-spec : {M : Type 1} → statement M
 fit-in-spec =

@@ -58,7 +58,10 @@ add-result-2 c = search needs
 
 returns : tie.Need-returns
 returns c =
-    let s = c .before .before .before .before .before .before .before .before .before .args in
+    let at-third = c .before .before in
+    let at-second = at-third .before .before in
+    let at-first = at-second .before .before in
+    let s = at-first .before .before .before .args in
     record { is = omega (arith, num4 (s .at) (s .page .now) (omega arith)); small = omega arith }
 
 pub get-u32-spec : {M : Type 1} → statement M

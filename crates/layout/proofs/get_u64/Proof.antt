@@ -1,122 +1,71 @@
 -- `layout::get_u64` meets its contract.
+use Prim.Native.Nat.{_-_, _≤_}
+use mathlib.Core.Path.{_≡_}
 use native.Mathlib.Omega.{arith}
-use Rattle.layout.proofs.Numbers.{joined8}
 use borrow.Author.Needs.{needs}
+use Rattle.layout.proofs.Numbers.{High, high-none, high-more}
 use Rattle.layout.proofs.get_u64.Statement.{statement}
 use Rattle.layout.proofs.get_u64.Tie as tie
 
-shared-slice-read-wide : tie.Need-shared-slice-read-wide
-shared-slice-read-wide c = search needs
+abbrev Inv-loop : tie.InvT-loop
+Inv-loop page at v₀ k₀ v k = (k ≤ 8) × High page at k v
 
-wide-requires : tie.Need-wide-requires
-wide-requires c κs = search needs
+abbrev μ-loop : tie.MeasureT-loop
+μ-loop page at v₀ k₀ v k = 8 - k
 
-add-wide : tie.Need-add-wide
+loop-holds : tie.Need-loop-holds Inv-loop μ-loop
+loop-holds c = (omega arith, high-none _ _)
+
+add-wide : tie.Need-add-wide Inv-loop μ-loop
 add-wide c = search needs
 
-shared-slice-read-wide-2 : tie.Need-shared-slice-read-wide-2
-shared-slice-read-wide-2 c = search needs
+shared-slice-read-wide : tie.Need-shared-slice-read-wide Inv-loop μ-loop
+shared-slice-read-wide c = search needs
 
-wide-requires-2 : tie.Need-wide-requires-2
-wide-requires-2 c κs = search needs
+wide-requires : tie.Need-wide-requires Inv-loop μ-loop
+wide-requires c κs = search needs
 
-add-wide-2 : tie.Need-add-wide-2
-add-wide-2 c = search needs
+mul-v : tie.Need-mul-v Inv-loop μ-loop
+mul-v c = search needs
 
-shared-slice-read-wide-3 : tie.Need-shared-slice-read-wide-3
-shared-slice-read-wide-3 c = search needs
+sub-v : tie.Need-sub-v Inv-loop μ-loop
+sub-v c = search needs
 
-wide-requires-3 : tie.Need-wide-requires-3
-wide-requires-3 c κs = search needs
+shl-v : tie.Need-shl-v Inv-loop μ-loop
+shl-v c = search needs
 
-add-wide-3 : tie.Need-add-wide-3
-add-wide-3 c = search needs
+add-k : tie.Need-add-k Inv-loop μ-loop
+add-k c = search needs
 
-shared-slice-read-wide-4 : tie.Need-shared-slice-read-wide-4
-shared-slice-read-wide-4 c = search needs
+loop-less : tie.Need-loop-less Inv-loop μ-loop
+loop-less c = search needs
 
-wide-requires-4 : tie.Need-wide-requires-4
-wide-requires-4 c κs = search needs
+loop-again : tie.Need-loop-again Inv-loop μ-loop
+loop-again c =
+    let turn = c .before .before in
+    (omega arith, high-more (c .wide .result) (c .wide .ensures .0) (c .wide .ensures .1) (turn .loop-test .taken) (omega arith) (turn .before .loop .inv .1))
 
-add-wide-4 : tie.Need-add-wide-4
-add-wide-4 c = search needs
-
-shared-slice-read-wide-5 : tie.Need-shared-slice-read-wide-5
-shared-slice-read-wide-5 c = search needs
-
-wide-requires-5 : tie.Need-wide-requires-5
-wide-requires-5 c κs = search needs
-
-add-wide-5 : tie.Need-add-wide-5
-add-wide-5 c = search needs
-
-shared-slice-read-wide-6 : tie.Need-shared-slice-read-wide-6
-shared-slice-read-wide-6 c = search needs
-
-wide-requires-6 : tie.Need-wide-requires-6
-wide-requires-6 c κs = search needs
-
-add-wide-6 : tie.Need-add-wide-6
-add-wide-6 c = search needs
-
-shared-slice-read-wide-7 : tie.Need-shared-slice-read-wide-7
-shared-slice-read-wide-7 c = search needs
-
-wide-requires-7 : tie.Need-wide-requires-7
-wide-requires-7 c κs = search needs
-
-add-wide-7 : tie.Need-add-wide-7
-add-wide-7 c = search needs
-
-shared-slice-read-wide-8 : tie.Need-shared-slice-read-wide-8
-shared-slice-read-wide-8 c = search needs
-
-wide-requires-8 : tie.Need-wide-requires-8
-wide-requires-8 c κs = search needs
-
-returns : tie.Need-returns
+returns : tie.Need-returns Inv-loop μ-loop
 returns c =
-    let w1 = c .before .before .before .before .before .before .before .before .before .before .before .before .before .before in
-    let w2 = c .before .before .before .before .before .before .before .before .before .before .before .before in
-    let w3 = c .before .before .before .before .before .before .before .before .before .before in
-    let w4 = c .before .before .before .before .before .before .before .before in
-    let w5 = c .before .before .before .before .before .before in
-    let w6 = c .before .before .before .before in
-    let w7 = c .before .before in
-    let w8 = c in
-    let s = c .before .before .before .before .before .before .before .before .before .before .before .before .before .before .before .before .before .args in
-    joined8 (s .at) (s .page .now) (w1 .wide .result) (w2 .wide2 .result) (w3 .wide3 .result) (w4 .wide4 .result) (w5 .wide5 .result)
-    (w6 .wide6 .result) (w7 .wide7 .result) (w8 .wide8 .result) (omega arith)
-    (record { is = w1 .wide .ensures .0; small = w1 .wide .ensures .1 }) (record { is = w2 .wide2 .ensures .0; small = w2 .wide2 .ensures .1 })
-    (record { is = w3 .wide3 .ensures .0; small = w3 .wide3 .ensures .1 }) (record { is = w4 .wide4 .ensures .0; small = w4 .wide4 .ensures .1 })
-    (record { is = w5 .wide5 .ensures .0; small = w5 .wide5 .ensures .1 }) (record { is = w6 .wide6 .ensures .0; small = w6 .wide6 .ensures .1 })
-    (record { is = w7 .wide7 .ensures .0; small = w7 .wide7 .ensures .1 }) (record { is = w8 .wide8 .ensures .0; small = w8 .wide8 .ensures .1 })
+    let l = c .before .loop in
+    let e : l .k ≡ 8 = omega arith in
+    let h = rw e at (l .inv .1) in
+    record { is = omega (arith, h .is); small = omega (arith, h .is, h .small) }
 
 pub get-u64-spec : {M : Type 1} → statement M
 get-u64-spec =
     tie.close
     (tie.spec
+    Inv-loop
+    μ-loop
+    loop-holds
+    add-wide
     shared-slice-read-wide
     wide-requires
-    add-wide
-    shared-slice-read-wide-2
-    wide-requires-2
-    add-wide-2
-    shared-slice-read-wide-3
-    wide-requires-3
-    add-wide-3
-    shared-slice-read-wide-4
-    wide-requires-4
-    add-wide-4
-    shared-slice-read-wide-5
-    wide-requires-5
-    add-wide-5
-    shared-slice-read-wide-6
-    wide-requires-6
-    add-wide-6
-    shared-slice-read-wide-7
-    wide-requires-7
-    add-wide-7
-    shared-slice-read-wide-8
-    wide-requires-8
+    mul-v
+    sub-v
+    shl-v
+    add-k
+    loop-less
+    loop-again
     returns)

@@ -4,18 +4,20 @@ use Prim.Native.Nat.{_≤_, _-_}
 use native.Mathlib.Omega.{arith}
 use lib.ListN.{length, take, length-set}
 use lib.Seq.{take-all}
-use Rattle.layout.proofs.Writes.{write, part, write-none, move-down-more, length-part}
+use Rattle.store.specs.Numbers.{cut, put}
+use Rattle.store.specs.Laws.Numbers.{put-nil}
+use Rattle.layout.proofs.Writes.{move-down-more, length-cut}
 use Rattle.layout.proofs.move_down.Statement.{statement}
 use Rattle.layout.proofs.move_down.Tie as tie
 
 abbrev Inv-loop : tie.InvT-loop
-Inv-loop page₀ from n to j₀ page j = (page ≡ write to (take j (part from n page₀)) page₀) × (j ≤ n) × (length page ≡ length page₀)
+Inv-loop page₀ from n to j₀ page j = (page ≡ put page₀ to (take j (cut page₀ from n))) × (j ≤ n) × (length page ≡ length page₀)
 
 abbrev μ-loop : tie.MeasureT-loop
 μ-loop page₀ from n to j₀ page j = n - j
 
 loop-holds : tie.Need-loop-holds Inv-loop μ-loop
-loop-holds c = (sym (write-none _ _), omega arith, refl)
+loop-holds c = (sym (put-nil _ _), omega arith, refl)
 
 add-page : tie.Need-add-page Inv-loop μ-loop
 add-page c = omega arith
@@ -50,8 +52,8 @@ same-length c = omega arith
 returns : tie.Need-returns Inv-loop μ-loop
 returns c =
     let s = c .before .before .args in
-    let e = length-part (s .from) (s .n) (s .page .now) (omega arith) in
-    rw (take-all (c .before .loop .j) (part (s .from) (s .n) (s .page .now)) (omega arith)) at (c .before .loop .inv .0)
+    let e = length-cut (s .page .now) (s .from) (s .n) (omega arith) in
+    rw (take-all (c .before .loop .j) (cut (s .page .now) (s .from) (s .n)) (omega arith)) at (c .before .loop .inv .0)
 
 pub move-down-spec : {M : Type 1} → statement M
 move-down-spec =

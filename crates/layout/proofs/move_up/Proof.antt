@@ -4,12 +4,14 @@ use Prim.Native.Nat.{_+_, _≤_}
 use native.Mathlib.Omega.{arith}
 use native.Mathlib.Nat.{add-zero}
 use lib.ListN.{length, drop, length-set, drop-of-length-le}
-use Rattle.layout.proofs.Writes.{write, part, write-none, move-up-more, length-part}
+use Rattle.store.specs.Numbers.{cut, put}
+use Rattle.store.specs.Laws.Numbers.{put-nil}
+use Rattle.layout.proofs.Writes.{move-up-more, length-cut}
 use Rattle.layout.proofs.move_up.Statement.{statement}
 use Rattle.layout.proofs.move_up.Tie as tie
 
 abbrev Inv-loop : tie.InvT-loop
-Inv-loop page₀ from n to j₀ page j = (page ≡ write (to + j) (drop j (part from n page₀)) page₀) × (j ≤ n) × (length page ≡ length page₀)
+Inv-loop page₀ from n to j₀ page j = (page ≡ put page₀ (to + j) (drop j (cut page₀ from n))) × (j ≤ n) × (length page ≡ length page₀)
 
 abbrev μ-loop : tie.MeasureT-loop
 μ-loop page₀ from n to j₀ page j = j
@@ -17,8 +19,8 @@ abbrev μ-loop : tie.MeasureT-loop
 loop-holds : tie.Need-loop-holds Inv-loop μ-loop
 loop-holds c =
     let s = c .args in
-    let e = length-part (s .from) (s .n) (s .page .now) (omega arith) in
-    (rw (drop-of-length-le (part (s .from) (s .n) (s .page .now)) {i = s .n} (omega arith)) (sym (write-none _ _)), omega arith, refl)
+    let e = length-cut (s .page .now) (s .from) (s .n) (omega arith) in
+    (rw (drop-of-length-le (cut (s .page .now) (s .from) (s .n)) {i = s .n} (omega arith)) (sym (put-nil _ _)), omega arith, refl)
 
 sub-j : tie.Need-sub-j Inv-loop μ-loop
 sub-j c = omega arith

@@ -18,8 +18,10 @@ same-length c = search needs
 
 returns : tie.Need-returns
 returns c =
-    let s = c .before .before .before .before .before .before .before .before .before .args in
-    cc (put8 (s .at) (s .v) (s .page .now))
+    let low = c .before .before in
+    let high = low .before .before .before .before in
+    let a = high .before .before .before .args in
+    cc (put8 (a .at) (a .v) (a .page .now))
 
 pub put-u64-spec : {M : Type 1} → statement M
 put-u64-spec = tie.close (tie.spec put-u32-requires add-put-u32 put-u32-requires-2 same-length returns)

@@ -26,9 +26,10 @@ same-length c = search needs
 
 returns : tie.Need-returns
 returns c =
-    let s = c .before .before .before .before .before .before .before .args in
-    let h : s .at + s .n - s .at ≡ s .n = omega arith in
-    rw h at (c .before .before .copy-in .ensures)
+    let copied = c .before .before in
+    let a = copied .before .before .before .before .before .args in
+    let h : a .at + a .n - a .at ≡ a .n = omega arith in
+    rw h at (copied .copy-in .ensures)
 
 pub save-spec : {M : Type 1} → statement M
 save-spec =

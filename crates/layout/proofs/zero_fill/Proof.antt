@@ -3,18 +3,20 @@ use mathlib.Core.Path.{_≡_, refl, sym}
 use Prim.Native.Nat.{_≤_, _-_}
 use native.Mathlib.Omega.{arith}
 use lib.ListN.{length, length-set}
-use Rattle.layout.proofs.Writes.{cleared, write-none, cleared-more}
+use Rattle.store.specs.Numbers.{put, zeros}
+use Rattle.store.specs.Laws.Numbers.{put-nil}
+use Rattle.layout.proofs.Writes.{cleared-more}
 use Rattle.layout.proofs.zero_fill.Statement.{statement}
 use Rattle.layout.proofs.zero_fill.Tie as tie
 
 abbrev Inv-loop : tie.InvT-loop
-Inv-loop page₀ at n j₀ page j = (page ≡ cleared at j page₀) × (j ≤ n) × (length page ≡ length page₀)
+Inv-loop page₀ at n j₀ page j = (page ≡ put page₀ at (zeros j)) × (j ≤ n) × (length page ≡ length page₀)
 
 abbrev μ-loop : tie.MeasureT-loop
 μ-loop page₀ at n j₀ page j = n - j
 
 loop-holds : tie.Need-loop-holds Inv-loop μ-loop
-loop-holds c = (sym (write-none _ _), omega arith, refl)
+loop-holds c = (sym (put-nil _ _), omega arith, refl)
 
 add-page : tie.Need-add-page Inv-loop μ-loop
 add-page c = omega arith

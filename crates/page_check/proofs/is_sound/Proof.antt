@@ -6,7 +6,7 @@ use denote.Ref.{now}
 use borrow.Author.Needs.{needs}
 use borrow.Author.Tests.{not-true, not-false}
 use Rattle.store.specs.Page.{view, fresh}
-use Rattle.page_check.proofs.SlotLaws.{told}
+use Rattle.page_check.proofs.SlotLaws.{not-both}
 use Rattle.page_check.proofs.FitLaws.{Header, sound-header, sound-records, unsound, sound-space, fresh-sound}
 use Rattle.page_check.proofs.is_sound.Statement.{statement}
 use Rattle.page_check.proofs.is_sound.Tie as tie
@@ -61,12 +61,12 @@ returns-2 : tie.Need-returns-2
 returns-2 c =
     let at-header = c .before .before in
     let h = header at-header in
-    unsound h (not-fresh (used at-header)) (λ s. told _ (c .before .header-fits .ensures) (not-true _ (c .if2 .taken)) (sound-header h s))
+    unsound h (not-fresh (used at-header)) (λ s. not-both (c .before .header-fits .ensures .back (sound-header h s)) (not-true _ (c .if2 .taken)))
 
 records-fit-requires : tie.Need-records-fit-requires
 records-fit-requires c κs =
     let h = header (read c) in
-    (h .whole, h .slots, c .before .header-fits .ensures .yes (not-false _ (c .if2 .left)) .few)
+    record { whole = h .whole; counted = omega arith; few = c .before .header-fits .ensures .yes (not-false _ (c .if2 .left)) .few }
 
 returns-3 : tie.Need-returns-3
 returns-3 c =
@@ -74,7 +74,7 @@ returns-3 c =
     let at-header = read (at-records .before) in
     let h = header at-header in
     let w = at-records .records-fit .ensures in
-    unsound h (not-fresh (used at-header)) (λ s. told _ (w .0) (not-true _ (c .if3 .taken)) (sound-records h s))
+    unsound h (not-fresh (used at-header)) (λ s. not-both (w .tells .back (sound-records h s)) (not-true _ (c .if3 .taken)))
 
 get-free-space-requires : tie.Need-get-free-space-requires
 get-free-space-requires c κs = search needs
@@ -88,7 +88,7 @@ add-result c = search needs
 add-result-2 : tie.Need-add-result-2
 add-result-2 c =
     let at-fits = c .before .before in
-    let t = at-fits .before .before .records-fit .ensures .1 (not-false _ (at-fits .if3 .left)) in
+    let t = at-fits .before .before .records-fit .ensures .adds (not-false _ (at-fits .if3 .left)) in
     omega (arith, t .small)
 
 returns-4 : tie.Need-returns-4
@@ -100,7 +100,7 @@ returns-4 c =
     let w = at-fits .before .before .records-fit .ensures in
     let e = not-false _ (at-fits .if3 .left) in
     let fits = at-header-fits .before .header-fits .ensures .yes (not-false _ (at-header-fits .if2 .left)) in
-    sound-space (header at-header) fits (w .0 .yes e) (not-fresh (used at-header)) _ _ (at-space .get-free-space .ensures .0) (w .1 e)
+    sound-space (header at-header) fits (w .tells .yes e) (not-fresh (used at-header)) _ _ (at-space .get-free-space .ensures .0) (w .adds e)
 
 pub is-sound-spec : {M : Type 1} → statement M
 is-sound-spec =

@@ -13,15 +13,13 @@ returns : tie.Need-returns
 returns c =
     let e = c .if1 .taken in
     let w = c .before .sweep .ensures e in
-    (record { yes = λ _. w .0; back = λ _. e }, λ _. w .1)
+    record { tells = record { yes = λ _. w .0; back = λ _. e }; adds = λ _. w .1 }
 
 slice-aggregate-claim-all : tie.Need-slice-aggregate-claim-all
 slice-aggregate-claim-all c = search needs
 
 claim-all-requires : tie.Need-claim-all-requires
-claim-all-requires c κs =
-    let s = c .before .before .before .before .pre in
-    (s .0, s .1, s .2, length-replicate {A = ℕ} 256 0, blank)
+claim-all-requires c κs = (c .before .before .before .before .pre, length-replicate {A = ℕ} 256 0, blank)
 
 returns-2 : tie.Need-returns-2
 returns-2 c = search needs

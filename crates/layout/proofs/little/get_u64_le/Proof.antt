@@ -3,7 +3,7 @@ use Prim.Native.Nat.{_-_, _≤_}
 use mathlib.Core.Path.{_≡_}
 use native.Mathlib.Omega.{arith}
 use borrow.Author.Needs.{needs}
-use Rattle.layout.specs.Little.{Low, low-none, low-more}
+use Rattle.layout.proofs.LittleEndian.{Low, low-none, low-more}
 use Rattle.layout.proofs.little.get_u64_le.Statement.{statement}
 use Rattle.layout.proofs.little.get_u64_le.Tie as tie
 

@@ -7,7 +7,7 @@ use lib.ListN.{length, set}
 use borrow.Author.Needs.{needs}
 use Rattle.store.specs.Numbers.{put, toLE}
 use Rattle.store.specs.Laws.Numbers.{length-put, length-toLE, put-nil}
-use Rattle.layout.specs.Little.{toLE-more}
+use Rattle.layout.proofs.LittleEndian.{toLE-more}
 use Rattle.layout.proofs.Writes.{write-snoc}
 use Rattle.layout.proofs.little.put_u64_le.Statement.{statement}
 use Rattle.layout.proofs.little.put_u64_le.Tie as tie

@@ -23,8 +23,10 @@ same-length c = search needs
 
 returns : tie.Need-returns
 returns c =
-    let a = c .before .before .before .before .before .before .args in
-    c .before .before .put-u64 .ensures ∙ ap (λ (n : ℕ). put (a .page .now) (12 + 8 * a .k) (toBE 8 n)) (c .before .before .before .before .slot-word .ensures)
+    let written = c .before .before in
+    let coded = written .before .before in
+    let a = coded .before .before .args in
+    written .put-u64 .ensures ∙ ap (λ (n : ℕ). put (a .page .now) (12 + 8 * a .k) (toBE 8 n)) (coded .slot-word .ensures)
 
 pub write-slot-spec : {M : Type 1} → statement M
 write-slot-spec =

@@ -5,6 +5,10 @@ use borrow.Author.Needs.{needs}
 use Rattle.page_check.proofs.slot.run_of.Statement.{statement}
 use Rattle.page_check.proofs.slot.run_of.Tie as tie
 
+-- where all kinds but a target's are told
+abbrev entry : tie.Else4 → tie.Start
+entry c = c .before .before .before .before
+
 add-if1 : tie.Need-add-if1
 add-if1 c = search needs
 
@@ -45,7 +49,7 @@ no-bytes-requires-4 c κs = search needs
 
 returns-5 : tie.Need-returns-5
 returns-5 c =
-    let a = c .before .before .before .before .before .before .args in
+    let a = entry (c .before .before) .args in
     let w = c .no-bytes4 .ensures in
     rw (w .0, w .1, w .2) (found-short (a .o) (a .l) (omega arith) (a .k) (a .f) (a .low) (omega arith) (omega arith) (omega arith) (a .low) 0)
 
@@ -54,7 +58,7 @@ add-t9 c = search needs
 
 returns-6 : tie.Need-returns-6
 returns-6 c =
-    let a = c .before .before .before .before .before .args in
+    let a = entry (c .before) .args in
     found-target (a .o) (a .l) (omega arith) (a .k) (a .f) (a .low) (omega arith) (omega arith) (omega arith)
 
 pub run-of-spec : {M : Type 1} → statement M

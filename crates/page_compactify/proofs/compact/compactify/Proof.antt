@@ -11,13 +11,26 @@ use borrow.Author.Needs.{needs}
 use Rattle.page_compactify.proofs.compact.compactify.Statement.{statement}
 use Rattle.page_compactify.proofs.compact.compactify.Tie as tie
 
+-- ---- the places: the slots are counted, the keys are collected
+
+abbrev entry : tie.After-get-slot-count → tie.Start
+entry c = c .before .before .before
+
+abbrev counted : tie.After-collect → tie.After-get-slot-count
+counted c = c .before .before .before
+
 -- the table's first entries are the keys of the page's records
 listed : (c : tie.After-collect) →
-    let v = view (c .before .before .before .before .before .before .args .page .now) in
+    let v = view (entry (counted c) .args .page .now) in
     take (c .collect .result) (c .collect .last .1 .0) ≡ keys (v .slotCount) (v .at)
 listed c =
-    let v = view (c .before .before .before .before .before .before .args .page .now) in
-    c .collect .ensures .0 .firstFree ∙ ap (λ (n : ℕ). keys n (v .at)) (c .before .before .before .get-slot-count .ensures .0)
+    let v = view (entry (counted c) .args .page .now) in
+    c .collect .ensures .0 .front ∙ ap (λ (n : ℕ). keys n (v .at)) (counted c .get-slot-count .ensures .0)
+
+abbrev collected : tie.After-table3 → tie.After-collect
+collected c = c .before .before .before
+
+-- ---- the needs
 
 get-slot-count-requires : tie.Need-get-slot-count-requires
 get-slot-count-requires c κs = search needs
@@ -33,9 +46,8 @@ slice-aggregate-pack c = search needs
 
 pack-requires : tie.Need-pack-requires
 pack-requires c κs =
-    let b = c .before .before .before in
-    let s = b .before .before .before .before .before .before in
-    (omega arith, omega arith, rw (listed b) (keys-ready (view (s .args .page .now)) (s .pre .1)))
+    let s = entry (counted (collected c)) in
+    (omega arith, omega arith, rw (listed (collected c)) (keys-ready (view (s .args .page .now)) (s .pre .1)))
 
 same-length : tie.Need-same-length
 same-length c = search needs
@@ -43,9 +55,10 @@ same-length c = search needs
 returns : tie.Need-returns
 unfolding compactify
 returns c =
-    let b = c .before .before .before .before .before .before in
-    let s = b .before .before .before .before .before .before in
-    rw (listed b, keys-slots (view (s .args .page .now)) (s .pre .1)) at (c .before .before .pack .ensures)
+    let packed = c .before .before in
+    let keyed = collected (packed .before) in
+    let s = entry (counted keyed) in
+    rw (listed keyed, keys-slots (view (s .args .page .now)) (s .pre .1)) at (packed .pack .ensures)
 
 pub compactify-spec : {M : Type 1} → statement M
 compactify-spec =

@@ -5,6 +5,10 @@ use borrow.Author.Needs.{needs}
 use Rattle.page_compactify.proofs.room.make_room.Statement.{statement}
 use Rattle.page_compactify.proofs.room.make_room.Tie as tie
 
+-- where the header is read
+abbrev entry : tie.After-get-data-start → tie.Start
+entry c = c .before .before .before .before .before
+
 get-slot-count-requires : tie.Need-get-slot-count-requires
 get-slot-count-requires c κs = search needs
 
@@ -28,19 +32,19 @@ same-length c = search needs
 
 returns : tie.Need-returns
 returns c =
-    let s = c .before .before .before .before .before .before .before .before .before .before in
-    let z = c .before .before in
-    room-made (s .args .page .now) (s .args .n) (z .compactify .result) (s .pre .0) (s .pre .1) (z .compactify .last .0) (s .pre .2) (omega arith)
-    (z .compactify .ensures .0) (z .compactify .ensures .1)
+    let packed = c .before .before in
+    let s = entry (packed .before .before .before) in
+    let w = packed .compactify in
+    room-made (s .args .page .now) (s .args .n) (w .result) (s .pre .0) (s .pre .1) (w .last .0) (s .pre .2) (omega arith) (w .ensures .0) (w .ensures .1)
 
 same-length-2 : tie.Need-same-length-2
 same-length-2 c = search needs
 
 returns-2 : tie.Need-returns-2
 returns-2 c =
-    let s = c .before .before .before .before .before .before in
-    room-there (s .args .page .now) (s .args .n) (c .before .get-data-start .result) (s .pre .0) (s .pre .1) (omega arith)
-    (c .before .get-data-start .ensures .0)
+    let s = entry (c .before) in
+    let d = c .before .get-data-start in
+    room-there (s .args .page .now) (s .args .n) (d .result) (s .pre .0) (s .pre .1) (omega arith) (d .ensures .0)
 
 pub make-room-spec : {M : Type 1} → statement M
 make-room-spec =

@@ -6,17 +6,17 @@ use native.Mathlib.Nat.{pow-suc, mul-le-mul-right}
 use native.Mathlib.Numerals.{add-one}
 use native.Mathlib.Omega.{arith}
 use lib.Bits.{bitOr, or-shifted-r}
-use lib.ListN.{length, drop, getD, length-reverse, length-drop}
+use lib.ListN.{length, getD, length-reverse}
 use lib.Pow.{pow-add, shl-exact}
-use lib.Seq.{take-suc, getD-drop, length-take-le}
 use Rattle.store.specs.Numbers.{cut, be, toBE, le, toLE}
+use Rattle.layout.proofs.Writes.{length-cut, cut-snoc}
 
--- a byte's place, as a power of 256 and as a shift
-place : (k : ℕ) → 256 ^ k ≡ 2 ^ (8 * k)
-place zero = refl
-place (suc k) =
+-- a byte's weight, as a power of 256 and as a shift
+weight : (k : ℕ) → 256 ^ k ≡ 2 ^ (8 * k)
+weight zero = refl
+weight (suc k) =
     let e : 8 * suc k ≡ 8 * k + 8 = omega arith in
-    pow-suc 256 k ∙ ap (λ (x : ℕ). x * 256) (place k) ∙ sym (ap (λ (n : ℕ). 2 ^ n) e ∙ pow-add 2 (8 * k) 8)
+    pow-suc 256 k ∙ ap (λ (x : ℕ). x * 256) (weight k) ∙ sym (ap (λ (n : ℕ). 2 ^ n) e ∙ pow-add 2 (8 * k) 8)
 
 -- ---- reading
 
@@ -37,17 +37,14 @@ pub low-more : {p : List ℕ} {at k v : ℕ} (b : ℕ) → b ≡ getD p (at + k)
 low-more {p} {at} {k} {v} b e l w h r =
     let x : bitOr v (b * 2 ^ (8 * k) % 2 ^ 64) ≡ b * 2 ^ (8 * k) + v =
     ap (bitOr v) (shl-exact 8 (8 * k) 64 l (omega arith)) ∙ or-shifted-r b (8 * k) v (r .small) in
-    let n : length (cut p at k) ≡ k = length-take-le k (drop at p) (simp length-drop (omega arith)) in
-    let c : cut p at (suc k) ≡ cut p at k ++ (b ∷ []) =
-    take-suc (drop at p) k 0 (simp length-drop (omega arith)) ∙ ap (λ (y : ℕ). cut p at k ++ (y ∷ [])) (getD-drop at p k 0 ∙ sym e) in
-    let s : le (cut p at (suc k)) ≡ b * 2 ^ (8 * k) + v =
-    ap le c ∙ le-snoc (cut p at k) b ∙ ap (λ (m : ℕ). b * 256 ^ m + le (cut p at k)) n ∙ rw (place k, r .is) in
-    let t : 2 ^ (8 * suc k) ≡ 2 ^ (8 * k) * 256 = sym (place (suc k)) ∙ pow-suc 256 k ∙ ap (λ (y : ℕ). y * 256) (place k) in
+    let s : le (cut p at (k + 1)) ≡ b * 2 ^ (8 * k) + v =
+    ap le (cut-snoc p at k b e h) ∙ le-snoc (cut p at k) b ∙ rw (length-cut p at k (omega arith), weight k, r .is) in
+    let t : 2 ^ (8 * suc k) ≡ 2 ^ (8 * k) * 256 = sym (weight (suc k)) ∙ pow-suc 256 k ∙ ap (λ (y : ℕ). y * 256) (weight k) in
     let u : b * 2 ^ (8 * k) ≤ 255 * 2 ^ (8 * k) = mul-le-mul-right (2 ^ (8 * k)) (omega arith) in
-    rw (x, add-one) (record { is = sym s; small = omega (arith, r .small) })
+    rw x (record { is = sym s; small = rw add-one (omega (arith, r .small)) })
 
 -- ---- writing
 
 -- one byte more of v, above the k that are written
 pub toLE-more : (k v : ℕ) → toLE (k + 1) v ≡ toLE k v ++ (v / 2 ^ (8 * k) % 256 ∷ [])
-toLE-more k v = rw add-one (reverse-cons (v / 256 ^ k % 256) (toBE k v) ∙ ap (λ (n : ℕ). toLE k v ++ (v / n % 256 ∷ [])) (place k))
+toLE-more k v = rw add-one (reverse-cons (v / 256 ^ k % 256) (toBE k v) ∙ ap (λ (n : ℕ). toLE k v ++ (v / n % 256 ∷ [])) (weight k))
