@@ -24,22 +24,16 @@ read-entry-requires c κs = omega (arith, class-top (16372 - c .before .before .
 returns-2 : tie.Need-returns-2
 unfolding foundIn
 returns-2 c =
-    rw (
-      le-ltb _ _ (c .before .before .before .if1 .left),
-      ← c .before .before .class-of .ensures,
-      ← c .before .read-entry .ensures,
-      lt-ltb _ _ (c .if2 .taken),
-    )
+    let entry = c .before in
+    let class = entry .before in
+    rw (le-ltb _ _ (class .before .if1 .left), ← class .class-of .ensures, ← entry .read-entry .ensures, lt-ltb _ _ (c .if2 .taken))
 
 returns-3 : tie.Need-returns-3
 unfolding foundIn
 returns-3 c =
-    rw (
-      le-ltb _ _ (c .before .before .before .if1 .left),
-      ← c .before .before .class-of .ensures,
-      ← c .before .read-entry .ensures,
-      le-ltb _ _ (c .if2 .left),
-    )
+    let entry = c .before in
+    let class = entry .before in
+    rw (le-ltb _ _ (class .before .if1 .left), ← class .class-of .ensures, ← entry .read-entry .ensures, le-ltb _ _ (c .if2 .left))
 
 pub find-page-spec : {M : Type 1} → statement M
 find-page-spec =

@@ -23,12 +23,13 @@ add-write-nibble : tie.Need-add-write-nibble
 add-write-nibble c = search needs
 
 write-nibble-requires : tie.Need-write-nibble-requires
-write-nibble-requires c κs = omega (arith, class-le _ _ (c .before .before .before .before .class-of .ensures))
+write-nibble-requires c κs = let class = c .before .before .before .before in omega (arith, class-le _ _ (class .class-of .ensures))
 
 run-end-requires : tie.Need-run-end-requires
 run-end-requires c κs =
-    let w = c .before .before .before in
-    omega (arith, class-le _ _ (w .before .before .before .before .before .class-of .ensures))
+    let marked = c .before .before .before in
+    let class = marked .before .before .before .before .before in
+    omega (arith, class-le _ _ (class .class-of .ensures))
 
 move-entries-requires : tie.Need-move-entries-requires
 move-entries-requires c κs = search needs
@@ -42,15 +43,16 @@ same-length c = search needs
 returns : tie.Need-returns
 unfolding update
 returns c =
-    let l = c .before .before in
-    let v = l .before .before .before .before in
-    let e = v .before .before in
-    let m = e .before .before .before .before in
-    let t = m .before .before in
-    let k = t .before .before .before .class-of in
-    update-some _ _ _ _ _ (t .before .read-nibble .ensures .0) (t .if1 .taken) _ _ _ _ (m .write-nibble .ensures) (e .run-end .ensures .0)
-    (v .move-entries .ensures) (l .pull-entries .ensures)
-    ∙ ap (updated _ _ _) (k .ensures)
+    let pulled = c .before .before in
+    let moved = pulled .before .before .before .before in
+    let ended = moved .before .before in
+    let marked = ended .before .before .before .before in
+    let changed = marked .before .before in
+    let old = changed .before in
+    let class = old .before .before in
+    update-some _ _ _ _ _ (old .read-nibble .ensures .0) (changed .if1 .taken) _ _ _ _ (marked .write-nibble .ensures) (ended .run-end .ensures .0)
+    (moved .move-entries .ensures) (pulled .pull-entries .ensures)
+    ∙ ap (updated _ _ _) (class .class-of .ensures)
 
 same-length-2 : tie.Need-same-length-2
 same-length-2 c = search needs
@@ -58,8 +60,9 @@ same-length-2 c = search needs
 returns-2 : tie.Need-returns-2
 unfolding update
 returns-2 c =
-    let k = c .before .before .before .class-of in
-    update-none _ _ _ _ _ (c .before .read-nibble .ensures .0) (c .if1 .left) ∙ ap (updated _ _ _) (k .ensures)
+    let old = c .before in
+    let class = old .before .before in
+    update-none _ _ _ _ _ (old .read-nibble .ensures .0) (c .if1 .left) ∙ ap (updated _ _ _) (class .class-of .ensures)
 
 pub update-page-size-spec : {M : Type 1} → statement M
 update-page-size-spec =
