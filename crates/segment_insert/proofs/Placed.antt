@@ -1,130 +1,102 @@
 -- Insert and allocate: what the code did is what the plan says.
-use Prim.Native.Nat.{ℕ, zero, suc, _+_, _-_, _*_, _/_, _≤_, _<_}
+use Prim.Native.Nat.{ℕ, _+_, _*_, _/_, _≤_, _<_}
 use mathlib.Core.Path.{_≡_, refl, sym, ap, subst, _∙_}
-use mathlib.Core.Bool.{true, false, _&&_}
+use mathlib.Core.Bool.{Bool, true, false, cond, _&&_}
 use mathlib.Core.List.{List, []}
-use native.Mathlib.Omega.{arith}
 use lib.ListN.{length, length-replicate}
+use lib.Dec.{ltb}
 use borrow.Author.Tests.{le-ltb, lt-ltb}
 use Rattle.store.specs.Numbers.{put, idOf, zeros, fit}
 use Rattle.store.specs.Page.{view, sound}
 use Rattle.store.specs.PageSteps.{Plan, filled, Alloc, noRoom, got, allocate}
+use Rattle.store.specs.Refusals.{DONE, LONG}
 use Rattle.store.specs.Inventory.{foundIn, update}
-use Rattle.store.specs.Segment.{segView, pageOf, sizeOk, invOk, OnPage, on, result, taken, find, findOn, inserted, insertPlan, insertStep, allocateStep}
+use Rattle.store.specs.Segment.{segView, pageOf, sizeOk, invOk, Out, on, refuse, refuseIf, result, step, find, insertPlan, insertStep, allocateStep}
 use Rattle.store.specs.Answers.{outcome}
-use Rattle.store.specs.Laws.Numbers.{put-own}
-use Rattle.store.specs.Laws.Segments.{length-page, ExactOn}
+use Rattle.store.specs.Laws.Segments.{length-page}
+use Rattle.store.specs.Laws.Fit.{length-fit, fit-all, fit-none}
 use Rattle.store.specs.Laws.Relocate.{fill-exact}
-use Rattle.store.specs.Laws.Calls.{NamedOk, named-ok, AllocOk, alloc-ok}
+use Rattle.store.specs.Laws.Lent.{SoundOn}
+use Rattle.store.specs.Laws.Calls.{AllocOk, alloc-ok}
 use Rattle.store.specs.declared.Named.{Named}
 use Rattle.store.specs.declared.Named.the-variants.{At, Full}
-use Rattle.store.specs.declared.Place.the-variants as place
 use Rattle.store.specs.declared.Answer.the-variants as answer
-use Rattle.slotted_page.specs.Words.{pageAfter, placeOf, filledAt}
-use Rattle.segment_steps.proofs.After.{Took, took-length, left-own, left-room, left-update, GotAt, got-at, got-none}
-use Rattle.segment_insert.specs.Words.{insertOn}
+use Rattle.slotted_page.specs.Words.{pageAfter, filledAt}
+use Rattle.segment_steps.proofs.After.{Took, took-length, left-own, left-update}
+use Rattle.segment_insert.specs.Words.{sizedOn, sizedPlan, sizedStep}
 
--- ---- before a page is named: 1, 3 and 7
+module _ (s v bs : List ℕ) (n : ℕ) where
+  -- ---- before a page is named: 1, 3 and 7
 
-pub insert-size : (s v bs : List ℕ) → (sizeOk s && invOk v) ≡ false → outcome answer.Size s v ≡ insertStep s v bs
-unfolding insertStep result
-insert-size s v bs e = rw e
+  pub sized-size : (sizeOk s && invOk v) ≡ false → outcome answer.Size s v ≡ sizedStep s v bs n
+  unfolding result
+  sized-size e = rw e
 
-pub allocate-size : (s v : List ℕ) (n : ℕ) → (sizeOk s && invOk v) ≡ false → outcome answer.Size s v ≡ allocateStep s v n
-unfolding allocateStep result
-allocate-size s v n e = rw e
-
-module _ (s v : List ℕ) (ok : (sizeOk s && invOk v) ≡ true) where
-  pub insert-long : (bs : List ℕ) → 16364 < length bs → outcome answer.Long s v ≡ insertStep s v bs
-  unfolding insertStep result insertPlan
-  insert-long bs l = rw (ok, lt-ltb 16364 (length bs) l)
-
-  pub allocate-long : (n : ℕ) → 16364 < n → outcome answer.Long s v ≡ allocateStep s v n
-  unfolding allocateStep result
-  allocate-long n l = rw (ok, lt-ltb 16364 n l)
-
-  -- a size that may be had: allocate is insert of zeros
-  pub allocate-is : (n : ℕ) → n ≤ 16364 → allocateStep s v n ≡ insertStep s v (zeros n)
-  unfolding allocateStep insertStep
-  allocate-is n h = rw (le-ltb 16364 n h)
-
-  module _ (bs : List ℕ) (n : ℕ) (size : length bs ≡ n) (short : n ≤ 16364) where
-    named-plan : (m : Named) → foundIn v (length s / 16384) (n + 8) ≡ m
-        → insertStep s v bs ≡ result s (inserted (segView s) v bs (findOn (segView s) (length bs) (λ q. false) m))
-    unfolding insertStep insertPlan find segView
-    named-plan m e =
-        let g : foundIn v (length s / 16384) (length bs + 8) ≡ m = ap (λ (k : ℕ). foundIn v (length s / 16384) (k + 8)) size ∙ e in
-        rw (ok, le-ltb 16364 (length bs) (omega arith), g)
-
-    pub insert-full : foundIn v (length s / 16384) (n + 8) ≡ Full → outcome answer.Full s v ≡ insertStep s v bs
+  module _ (ok : (sizeOk s && invOk v) ≡ true) where
+    pub sized-long : 16364 < n → outcome answer.Long s v ≡ sizedStep s v bs n
     unfolding result
-    insert-full e = sym (named-plan Full e)
+    sized-long l = rw (ok, lt-ltb 16364 n l)
 
-    pub insert-named : (p : ℕ) → foundIn v (length s / 16384) (n + 8) ≡ At p → insertOn s v bs p ≡ insertStep s v bs
-    insert-named p e = sym (named-plan (At p) e)
+    pub sized-named : n ≤ 16364 → (m : Named) → foundIn v (length s / 16384) (n + 8) ≡ m → sizedOn s v bs n m ≡ sizedStep s v bs n
+    unfolding find segView
+    sized-named short m e = sym (rw (ok, le-ltb 16364 n short, e))
 
-pub named-fits : (s v : List ℕ) (need p : ℕ) → foundIn v (length s / 16384) need ≡ At p → p * 16384 + 16384 ≤ length s
-named-fits s v need p e = let h = subst (λ (m : Named). NamedOk (length s / 16384) m) e (named-ok v (length s / 16384) need) in omega arith
+  pub on-none : outcome answer.Full s v ≡ sizedOn s v bs n Full
+  unfolding result
+  on-none = refl
 
--- ---- on the page named: 4, then 8 or done
+  -- ---- on the page named: 4, then 8 or done
 
-pub at-damaged : (s v bs : List ℕ) (p : ℕ) → sound (segView s .page p) ≡ false → outcome answer.Damaged s v ≡ insertOn s v bs p
-unfolding result
-at-damaged s v bs p e = rw e
-
-module _ (s v bs : List ℕ) (n : ℕ) (size : length bs ≡ n) (p : ℕ) (fits : p * 16384 + 16384 ≤ length s) (ok : sound (segView s .page p) ≡ true) where
-  found-at : insertOn s v bs p ≡ result s (inserted (segView s) v bs (taken p (allocate (segView s .page p) n)))
-  found-at = rw (ok, size)
-
-  got-ok : AllocOk (pageOf s p) n (allocate (segView s .page p) n)
-  unfolding segView
-  got-ok = alloc-ok (pageOf s p) n (length-page s p fits) ok
-
-  exact-at : (k : ℕ) (a : Plan) → AllocOk (pageOf s p) n (got k a) → ExactOn s (on p (filled a k bs))
-  exact-at k a o = record { inside = fits; exact = fill-exact (pageOf s p) a (length-page s p fits) (o .0) k (o .1) (o .2) bs (size ∙ sym (o .3)) }
-
-  -- t is what was left, and the page answered with no place or with slot k
-  module _ (t : List ℕ) (et : t ≡ put s (p * 16384) (pageAfter (filledAt (allocate (segView s .page p) n) bs) (pageOf s p))) where
-    left-by : (a : Alloc) → allocate (segView s .page p) n ≡ a → t ≡ put s (p * 16384) (pageAfter (filledAt a bs) (pageOf s p))
-    left-by a e = et ∙ ap (λ (x : Alloc). put s (p * 16384) (pageAfter (filledAt x bs) (pageOf s p))) e
-
-    planned-by : (a : Alloc) → allocate (segView s .page p) n ≡ a → result s (inserted (segView s) v bs (taken p a)) ≡ insertOn s v bs p
-    planned-by a e = sym (found-at ∙ ap (λ (x : Alloc). result s (inserted (segView s) v bs (taken p x))) e)
-
-    pub at-stale : placeOf (allocate (segView s .page p) n) ≡ place.NoRoom → outcome answer.Stale t v ≡ insertOn s v bs p
+  module _ (p : ℕ) where
+    pub on-damaged : sound (segView s .page p) ≡ false → outcome answer.Damaged s v ≡ sizedOn s v bs n (At p)
     unfolding result
-    at-stale e =
-        let x = got-none (allocate (segView s .page p) n) e in
-        ap (λ (l : List ℕ). outcome answer.Stale l v) (left-by noRoom x ∙ put-own s (p * 16384) 16384 fits) ∙ planned-by noRoom x
+    on-damaged e = rw e
 
-    module _ (k o : ℕ) (e : placeOf (allocate (segView s .page p) n) ≡ place.At k o) where
-      got-here : GotAt (allocate (segView s .page p) n) k
-      got-here = got-at (allocate (segView s .page p) n) k o e
-
-      ok-here : AllocOk (pageOf s p) n (got k (got-here .to))
-      ok-here = subst (AllocOk (pageOf s p) n) (got-here .is) got-ok
-
-      took : Took s (on p (filled (got-here .to) k bs)) t
-      took = record { exact = exact-at k (got-here .to) ok-here; is = left-by (got k (got-here .to)) (got-here .is) }
-
-      pub slot-small : k < 65536
-      slot-small = omega (arith, ok-here .1, ok-here .0 .sound .few)
-
-      pub free-small : view (pageOf t p) .freeSpace ≤ 16372
-      free-small = left-room t p (filled (got-here .to) k bs .after) (left-own s (on p (filled (got-here .to) k bs)) t took)
-
-      pub at-done : (w : List ℕ) → w ≡ update v (length t / 16384) p (view (pageOf t p) .freeSpace) → outcome (answer.Done (idOf p k)) t w ≡ insertOn s v bs p
+    module _ (h : SoundOn s p) where
+      pub on-stale : (t : List ℕ) → t ≡ s → allocate (segView s .page p) n ≡ noRoom → outcome answer.Stale t v ≡ sizedOn s v bs n (At p)
       unfolding result
-      at-done w ew =
-          let g : OnPage = on p (filled (got-here .to) k bs) in
-          let h = left-update s t p (filled (got-here .to) k bs .after) (left-own s g t took) (took-length s g t took) v w ew in
-          (λ i. record { answer = 0; id = idOf p k; seg = took .is i; inv = h i }) ∙ planned-by (got k (got-here .to)) (got-here .is)
+      on-stale t same none = rw (same, h .sound, none)
 
--- ---- allocate has no bytes to write
+      -- the place is slot k, and t is what was left with the bytes there
+      module _ (k : ℕ) (a : Plan) (way : allocate (segView s .page p) n ≡ got k a) (t : List ℕ)
+          (et : t ≡ put s (p * 16384) (pageAfter (filledAt (allocate (segView s .page p) n) (fit n bs)) (pageOf s p))) where
+        place : AllocOk (pageOf s p) n (got k a)
+        unfolding segView
+        place = subst (AllocOk (pageOf s p) n) way (alloc-ok (pageOf s p) n (length-page s p (h .whole)) (h .sound))
 
-pub fit-none : (n : ℕ) → fit n [] ≡ zeros n
-fit-none zero = refl
-fit-none (suc n) = let e : suc n - 0 ≡ suc n = omega arith in ap zeros e
+        pub took-place : Took s (on p (filled a k (fit n bs))) t
+        took-place =
+            let o = place in
+            record {
+              exact = record {
+                inside = h .whole;
+                exact = fill-exact (pageOf s p) a (length-page s p (h .whole)) (o .0) k (o .1) (o .2) (fit n bs) (length-fit n bs ∙ sym (o .3));
+              };
+              is = et ∙ ap (λ (x : Alloc). put s (p * 16384) (pageAfter (filledAt x (fit n bs)) (pageOf s p))) way;
+            }
 
-pub zeros-length : (n : ℕ) → length (zeros n) ≡ n
-zeros-length n = length-replicate {A = ℕ} n 0
+        pub on-done : (w : List ℕ) → w ≡ update v (length t / 16384) p (view (pageOf t p) .freeSpace)
+            → outcome (answer.Done (idOf p k)) t w ≡ sizedOn s v bs n (At p)
+        unfolding result
+        on-done w ew =
+            let g = on p (filled a k (fit n bs)) in
+            let told = left-update s t p (g .plan .after) (left-own s g t took-place) (took-length s g t took-place) v w ew in
+            rw (h .sound, way) (λ i. record { answer = DONE; id = idOf p k; seg = took-place .is i; inv = told i })
+
+-- ---- a record of its own size, and one of zeros
+
+pub insert-is : (s v bs : List ℕ) → sizedStep s v bs (length bs) ≡ insertStep s v bs
+unfolding insertStep insertPlan
+insert-is s v bs = ap (λ (l : List ℕ). step s v (sizedPlan (segView s) v l (length bs))) (fit-all bs)
+
+-- a refusal that is asked for once more
+refuse-twice : (b : Bool) (x y : Out) → cond b x (cond b x y) ≡ cond b x y
+refuse-twice true x y = refl
+refuse-twice false x y = refl
+
+pub allocate-is : (s v : List ℕ) (n : ℕ) → sizedStep s v [] n ≡ allocateStep s v n
+unfolding allocateStep insertPlan
+allocate-is s v n =
+    ap (λ (l : List ℕ). step s v (sizedPlan (segView s) v l n)) (fit-none n)
+    ∙ ap (step s v) (sym (refuse-twice (ltb 16364 n) (refuse v LONG) _))
+    ∙ ap (λ (m : ℕ). step s v (refuseIf (ltb 16364 n) v LONG (sizedPlan (segView s) v (zeros n) m))) (sym (length-replicate {A = ℕ} n 0))

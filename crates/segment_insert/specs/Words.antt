@@ -1,11 +1,21 @@
--- A word for the contract of the function that insert and allocate share.
+-- Words for the contracts of the functions that insert and allocate share: bytes, cut off or filled up with zeros to n.
 use Prim.Native.Nat.{ℕ}
 use mathlib.Core.Bool.{false}
 use mathlib.Core.List.{List}
-use lib.ListN.{length}
-use Rattle.store.specs.Segment.{Result, result, segView, findOn, inserted}
-use Rattle.store.specs.declared.Named.the-variants as named
+use lib.Dec.{ltb}
+use Rattle.store.specs.Numbers.{fit}
+use Rattle.store.specs.Refusals.{LONG}
+use Rattle.store.specs.Inventory.{foundIn}
+use Rattle.store.specs.Segment.{SegView, Out, Result, result, step, refuseIf, segView, find, findOn, inserted}
+use Rattle.store.specs.declared.Named.{Named}
 
--- what insert and allocate answer on the page that the inventory names, and what they leave
-abbrev pub insertOn : List ℕ → List ℕ → List ℕ → ℕ → Result
-insertOn s v bs p = result s (inserted (segView s) v bs (findOn (segView s) (length bs) (λ q. false) (named.At p)))
+-- where the inventory names a page, or none
+abbrev pub sizedOn : List ℕ → List ℕ → List ℕ → ℕ → Named → Result
+sizedOn s v bs n m = result s (inserted (segView s) v (fit n bs) (findOn (segView s) n (λ p. false) m))
+
+-- the plan for bytes of length n
+abbrev pub sizedPlan : SegView → List ℕ → List ℕ → ℕ → Out
+sizedPlan s v bs n = refuseIf (ltb 16364 n) v LONG (inserted s v bs (find foundIn s v n (λ p. false)))
+
+abbrev pub sizedStep : List ℕ → List ℕ → List ℕ → ℕ → Result
+sizedStep s v bs n = step s v (sizedPlan (segView s) v (fit n bs) n)

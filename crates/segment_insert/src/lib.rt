@@ -1,15 +1,17 @@
 // Insert and allocate: "Insert asks the inventory and allocates there; a fresh page is initialised first."
 use store::Answer;
+use store::IDS_A_PAGE;
+use store::LONGEST;
 use store::Named;
+use store::PAGE_SIZE;
 use store::Place;
 ghost use mathlib.Core.Path.{_≡_};
-ghost use Prim.Native.Nat.{_+_, _*_, _/_, _≤_};
-ghost use lib.ListN.{length};
-ghost use Rattle.store.specs.Numbers.{fit};
+ghost use Prim.Native.Nat.{_≤_};
 ghost use Rattle.store.specs.Segment.{insertStep, allocateStep};
 ghost use Rattle.store.specs.Answers.{outcome};
+ghost use Rattle.store.specs.Laws.Lent.{Within};
 ghost use Rattle.segment_steps.specs.Words.{Sizes};
-ghost use Rattle.segment_insert.specs.Words.{insertOn};
+ghost use Rattle.segment_insert.specs.Words.{sizedOn, sizedStep};
 
 // On the page that the inventory names: these bytes, cut off or filled up with zeros to `size`. "If the page's answer holds no place, the
 // call stops there"; else they are written at its offset, and the inventory is told the page's free space.
@@ -21,9 +23,9 @@ fn insert_at(
     size: usize,
 ) -> Answer
     requires { ⌜ Sizes (now segment) (now inventory) ⌝ }
-    requires { ⌜ (p * 16384 + 16384 ≤ length (now segment)) × (size ≤ 16364) ⌝ }
+    requires { ⌜ (Within (now segment) p) × (size ≤ 16364) ⌝ }
     ensures { λ r. ⌜ outcome r (now (segment .exit)) (now (inventory .exit))
-        ≡ insertOn (now (segment .entry)) (now (inventory .entry)) (fit size (now (bytes .entry))) p ⌝ }
+        ≡ sizedOn (now (segment .entry)) (now (inventory .entry)) (now (bytes .entry)) size (Named.At p) ⌝ }
 {
     if !segment_pages::page_sound(segment, p) {
         return Answer::Damaged;
@@ -40,40 +42,38 @@ fn insert_at(
     );
     segment_steps::update_on(segment, inventory, p);
     Answer::Done {
-        id: p * 65536 + slot,
+        id: p * IDS_A_PAGE + slot,
     }
+}
+
+// These bytes, cut off or filled up with zeros to `size`.
+fn insert_sized(segment: &mut [u8], inventory: &mut [u8], bytes: &[u8], size: usize) -> Answer
+    ensures { λ r. ⌜ outcome r (now (segment .exit)) (now (inventory .exit))
+        ≡ sizedStep (now (segment .entry)) (now (inventory .entry)) (now (bytes .entry)) size ⌝ }
+{
+    if !segment_pages::sizes_ok(segment, inventory) {
+        return Answer::Size;
+    }
+    if LONGEST < size {
+        return Answer::Long;
+    }
+    let named = free_space_inventory::find_page(inventory, segment.len() / PAGE_SIZE, size + 8);
+    let Named::At { page } = named else {
+        return Answer::Full;
+    };
+    insert_at(segment, inventory, page, bytes, size)
 }
 
 pub fn insert_record(segment: &mut [u8], inventory: &mut [u8], record: &[u8]) -> Answer
     ensures { λ r. ⌜ outcome r (now (segment .exit)) (now (inventory .exit))
         ≡ insertStep (now (segment .entry)) (now (inventory .entry)) (now («record» .entry)) ⌝ }
 {
-    if !segment_pages::sizes_ok(segment, inventory) {
-        return Answer::Size;
-    }
-    if 16364 < record.len() {
-        return Answer::Long;
-    }
-    let named = free_space_inventory::find_page(inventory, segment.len() / 16384, record.len() + 8);
-    let Named::At { page } = named else {
-        return Answer::Full;
-    };
-    insert_at(segment, inventory, page, record, record.len())
+    insert_sized(segment, inventory, record, record.len())
 }
 
 // The same with no bytes: all are zeros.
 pub fn allocate(segment: &mut [u8], inventory: &mut [u8], size: usize) -> Answer
     ensures { λ r. ⌜ outcome r (now (segment .exit)) (now (inventory .exit)) ≡ allocateStep (now (segment .entry)) (now (inventory .entry)) size ⌝ }
 {
-    if !segment_pages::sizes_ok(segment, inventory) {
-        return Answer::Size;
-    }
-    if 16364 < size {
-        return Answer::Long;
-    }
-    let named = free_space_inventory::find_page(inventory, segment.len() / 16384, size + 8);
-    let Named::At { page } = named else {
-        return Answer::Full;
-    };
-    insert_at(segment, inventory, page, b"", size)
+    insert_sized(segment, inventory, b"", size)
 }
