@@ -1,14 +1,14 @@
 // Reading a record by its id: "A read answers the part of the lent segment that is the record, without the 8 bytes."
+use store::IDS_A_PAGE;
+use store::PAGE_SIZE;
 use store::Reading;
+use store::Root;
 use store::Slot;
 ghost use mathlib.Core.Path.{_≡_};
-ghost use mathlib.Core.Bool.{true};
-ghost use Prim.Native.Nat.{_+_, _*_, _^_, _≤_, _<_};
-ghost use lib.ListN.{length};
-ghost use Rattle.store.specs.Numbers.{pageNo, slotNo};
-ghost use Rattle.store.specs.Page.{sound};
+ghost use Prim.Native.Nat.{_+_, _^_, _≤_, _<_};
 ghost use Rattle.store.specs.Segment.{segView, partOn, readStep, locateStep};
 ghost use Rattle.store.specs.Answers.{readingNo, located};
+ghost use Rattle.store.specs.Laws.Lent.{RootIs};
 ghost use Rattle.store.specs.declared.Slot.the-variants.{Target};
 ghost use Rattle.segment_read.specs.Parts.{foundAt, followed, locateBy};
 
@@ -18,7 +18,7 @@ fn target_part(p: usize, offset: usize, length: usize) -> Reading
     ensures { λ r. ⌜ located r ≡ foundAt (partOn p (Target offset length)) ⌝ }
 {
     Reading::At {
-        offset: p * 16384 + (offset + 8),
+        offset: p * PAGE_SIZE + (offset + 8),
         length: length - 8,
     }
 }
@@ -30,8 +30,8 @@ fn follow(segment: &[u8], i: usize, t: usize) -> Reading
     if !segment_pages::points_back(segment, i, t) {
         return Reading::Damaged;
     }
-    let p = t / 65536;
-    let Slot::Target { offset, length } = segment_pages::slot_on(segment, p, t % 65536) else {
+    let p = t / IDS_A_PAGE;
+    let Slot::Target { offset, length } = segment_pages::slot_on(segment, p, t % IDS_A_PAGE) else {
         return Reading::Damaged;
     };
     target_part(p, offset, length)
@@ -39,18 +39,17 @@ fn follow(segment: &[u8], i: usize, t: usize) -> Reading
 
 // The record of id i by its own slot, on a page that is sound. "Reading a target's own id gives its data, as the Rust does."
 fn read_slot(segment: &[u8], i: usize, s: Slot) -> Reading
-    requires { ⌜ (pageNo i * 16384 + 16384 ≤ length (now segment)) × (sound (segView (now segment) .page (pageNo i)) ≡ true)
-        × (s ≡ segView (now segment) .page (pageNo i) .at (slotNo i)) ⌝ }
+    requires { ⌜ RootIs (now segment) i s ⌝ }
     ensures { λ r. ⌜ located r ≡ locateBy (segView (now (segment .entry))) i s ⌝ }
 {
     match s {
         Slot::Ordinary { offset, length } => Reading::At {
-            offset: i / 65536 * 16384 + offset,
+            offset: i / IDS_A_PAGE * PAGE_SIZE + offset,
             length,
         },
         Slot::Free => Reading::NoRecord,
         Slot::Redirect { id } => follow(segment, i, id),
-        Slot::Target { offset, length } => target_part(i / 65536, offset, length),
+        Slot::Target { offset, length } => target_part(i / IDS_A_PAGE, offset, length),
     }
 }
 
@@ -61,15 +60,12 @@ pub fn find_record(segment: &[u8], id: usize) -> Reading
     if !segment_pages::is_segment(segment) {
         return Reading::Size;
     }
-    let p = id / 65536;
-    if segment.len() / 16384 <= p {
-        return Reading::NoPage;
+    let root = segment_pages::root_of(segment, id);
+    match root {
+        Root::NoPage => Reading::NoPage,
+        Root::Damaged => Reading::Damaged,
+        Root::Entry { slot } => read_slot(segment, id, slot),
     }
-    if !segment_pages::page_sound(segment, p) {
-        return Reading::Damaged;
-    }
-    let s = segment_pages::slot_on(segment, p, id % 65536);
-    read_slot(segment, id, s)
 }
 
 // "Answers by number", of a read.

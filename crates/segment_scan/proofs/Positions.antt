@@ -1,21 +1,26 @@
 -- The scan's position: from slot to slot and from page to page.
-use Prim.Native.Nat.{ℕ, zero, suc, _+_, _-_, _/_, _≤_, _<_}
+use Prim.Native.Nat.{ℕ, suc, _+_, _-_, _/_, _≤_, _<_}
 use mathlib.Core.Path.{_≡_, refl, sym, ap, subst, _∙_}
-use mathlib.Core.Bool.{Bool, true, false, cond, not, _&&_}
+use mathlib.Core.Bool.{Bool, true, false, not}
 use mathlib.Core.List.{List}
 use native.Mathlib.Omega.{arith}
 use native.Mathlib.Decide.{decLt}
 use lib.ListN.{length}
-use lib.Dec.{eqb, ltb}
-use borrow.Author.Tests.{lt-ltb, le-ltb}
+use lib.Dec.{eqb, ltb, leb}
+use borrow.Author.Tests.{lt-ltb, le-ltb, lt-leb, le-leb, leb-true, not-false}
 use Rattle.store.specs.Slots.{isRecord}
-use Rattle.store.specs.Page.{View, sound}
+use Rattle.store.specs.Page.{View, sound, countFits}
+use Rattle.store.specs.Refusals.{DONE, SIZE}
 use Rattle.store.specs.Segment.{SegView, segView, sizeOk}
-use Rattle.store.specs.Scan.{Scanned, without, overPage, nextRecord, scanFrom, scanPlan, scanStep}
+use Rattle.store.specs.Scan.{Scanned, without, overPage, nextRecord, damagedAt, scanFrom, scanPlan, scanStep}
 use Rattle.store.specs.Answers.{scannedOf}
+use Rattle.store.specs.Laws.Cases.{by-test}
+use Rattle.store.specs.Laws.Lent.{Within}
+use Rattle.store.specs.Laws.Scan.{next-record}
 use Rattle.store.specs.Laws.SoundSegment.{seen-pages}
 use Rattle.store.specs.declared.Step.{Step}
 use Rattle.store.specs.declared.Step.the-variants.{Record, End, Size, Damaged}
+use Rattle.segment_pages.proofs.Seen.{few-slots}
 use Rattle.segment_scan.specs.Held.{pageAfter, slotAfter}
 use Rattle.segment_scan.specs.Pages.{recordOr, onPage, isEnd, orLater}
 
@@ -32,30 +37,37 @@ module _ (v : View) (n k : ℕ) where
   next-done h = let m : n - k ≡ 0 = omega arith in rw m
 
 -- where it stops short, it holds a record
-stops : (m : ℕ) (v : View) (k : ℕ) → nextRecord m v k < k + m → isRecord (v .at (nextRecord m v k)) ≡ true
-stops zero v k h = absurd (omega arith)
-stops (suc m) v k h = go (stops m v (k + 1)) (isRecord (v .at k)) refl h
-  where
-    go : (nextRecord m v (k + 1) < k + 1 + m → isRecord (v .at (nextRecord m v (k + 1))) ≡ true) → (b : Bool) → isRecord (v .at k) ≡ b
-        → cond b k (nextRecord m v (k + 1)) < k + suc m → isRecord (v .at (cond b k (nextRecord m v (k + 1)))) ≡ true
-    go ih true e l = e
-    go ih false e l = ih (omega arith)
-
 pub next-is : (v : View) (n k j : ℕ) → j ≡ nextRecord (n - k) v k → j < n → isRecord (v .at j) ≡ true
 next-is v n k j e h = go (decLt n k)
   where
     go : Dec (n < k) → isRecord (v .at j) ≡ true
     go (yes l) = let q : k ≡ nextRecord (n - k) v k = next-done v n k (omega arith) in absurd (omega arith)
-    go (no l) = subst (λ (i : ℕ). isRecord (v .at i) ≡ true) (sym e) (stops (n - k) v k (omega arith))
+    go (no l) = subst (λ (i : ℕ). isRecord (v .at i) ≡ true) (sym e) (next-record (n - k) v k (omega arith))
+
+-- ---- the test of a page
+
+pub many-slots : (n : ℕ) → ltb 2046 n ≡ not (leb n 2046)
+many-slots n = go (decLt 2046 n)
+  where
+    go : Dec (2046 < n) → ltb 2046 n ≡ not (leb n 2046)
+    go (yes l) = rw (lt-ltb 2046 n l, lt-leb n 2046 l)
+    go (no l) = let h : n ≤ 2046 = omega arith in rw (le-ltb 2046 n h, le-leb n 2046 h)
+
+-- a page that passes it, at any slot, has few slots
+pub few-at : (s : List ℕ) (p : ℕ) → Within s p → (k : ℕ) → damagedAt (segView s .page p) k ≡ false → segView s .page p .slotCount ≤ 2046
+few-at s p whole k =
+    let v = segView s .page p in
+    by-test (λ (b : Bool). b ≡ false → v .slotCount ≤ 2046) (eqb k 0) (not (sound v)) (not (countFits v))
+    (λ z e. few-slots s p whole (not-false (sound v) e)) (λ z e. leb-true (v .slotCount) 2046 (not-false (countFits v) e))
 
 -- ---- one page
 
 module _ (s : List ℕ) (v : View) (p k : ℕ) (d : Scanned) where
-  pub page-damaged : (eqb k 0 && not (sound v)) ≡ true → orLater Damaged s d ≡ onPage v p k d
+  pub page-damaged : damagedAt v k ≡ true → orLater Damaged s d ≡ onPage v p k d
   unfolding orLater onPage
   page-damaged e = rw e
 
-  module _ (n j : ℕ) (e : (eqb k 0 && not (sound v)) ≡ false) (count : n ≡ v .slotCount) (position : j ≡ nextRecord (n - k) v k) where
+  module _ (n j : ℕ) (e : damagedAt v k ≡ false) (count : n ≡ v .slotCount) (position : j ≡ nextRecord (n - k) v k) where
     same : j ≡ nextRecord (v .slotCount - k) v k
     same = position ∙ ap (λ (m : ℕ). nextRecord (m - k) v k) count
 
@@ -86,7 +98,7 @@ module _ (s : SegView) (n p k : ℕ) where
   unfolding onPage recordOr
   from-turn h = let m : n - p ≡ suc (n - (p + 1)) = omega arith in rw m
 
-  pub from-done : n ≤ p → without 0 p k ≡ scanFrom (n - p) s p k
+  pub from-done : n ≤ p → without DONE p k ≡ scanFrom (n - p) s p k
   from-done h = let m : n - p ≡ 0 = omega arith in rw m
 
 pub plan-from : (s : List ℕ) (n p k : ℕ) → n ≡ length s / 16384 → scanFrom (n - p) (segView s) p k ≡ scanPlan (segView s) p k
@@ -96,12 +108,12 @@ plan-from s n p k e = ap (λ (m : ℕ). scanFrom (m - p) (segView s) p k) (e ∙
 -- ---- the step
 
 module _ (s : List ℕ) (p k : ℕ) where
-  pub step-over : 32527 < p → without 0 p k ≡ scanStep s p k
+  pub step-over : 32527 < p → without DONE p k ≡ scanStep s p k
   unfolding scanStep
   step-over h = rw (lt-ltb 32527 p h)
 
   module _ (h : p ≤ 32527) where
-    pub step-size : sizeOk s ≡ false → without 1 overPage 0 ≡ scanStep s p k
+    pub step-size : sizeOk s ≡ false → without SIZE overPage 0 ≡ scanStep s p k
     unfolding scanStep
     step-size e = rw (le-ltb 32527 p h, e)
 

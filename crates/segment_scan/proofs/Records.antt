@@ -10,13 +10,14 @@ use borrow.Author.Tests.{leb-true}
 use Rattle.store.specs.Numbers.{cut, be, idOf}
 use Rattle.store.specs.Slots.{off, len, isRecord, isTarget}
 use Rattle.store.specs.Page.{View, view, fresh, liesWell}
+use Rattle.store.specs.Refusals.{DAMAGED}
 use Rattle.store.specs.PageSteps.{initialised}
 use Rattle.store.specs.Segment.{segView, pageOf, partOn}
 use Rattle.store.specs.Scan.{Scanned, without, overPage, recordAt}
 use Rattle.store.specs.Answers.{scannedOf}
 use Rattle.store.specs.Laws.Slots.{Codable}
 use Rattle.store.specs.Laws.SoundPage.{and-both, in-page}
-use Rattle.store.specs.Laws.Calls.{by-test}
+use Rattle.store.specs.Laws.Cases.{by-test}
 use Rattle.store.specs.Laws.Parts.{ordinary-part, target-part}
 use Rattle.store.specs.declared.Slot.{Slot}
 use Rattle.store.specs.declared.Slot.the-variants.{Ordinary, Free, Redirect, Target}
@@ -122,7 +123,7 @@ module _ (s : List ℕ) (p k : ℕ) (well : liesWell (segView s .page p) k ≡ t
 -- ---- or damage
 
 module _ (v : View) (p k : ℕ) where
-  pub record-no : liesWell v k ≡ false → without 4 overPage 0 ≡ recordOr v p k
+  pub record-no : liesWell v k ≡ false → without DAMAGED overPage 0 ≡ recordOr v p k
   unfolding recordOr
   record-no e = rw e
 
@@ -135,7 +136,7 @@ module _ (v : View) (p k : ℕ) where
   unfolding recordOr
   record-not-end s (Record i o l q j) e = refl
   record-not-end s (End q j) e =
-      absurd (by-test (λ (d : Scanned). scannedOf (End q j) s ≡ d → ⊥) (liesWell v k) (recordAt v p k) (without 4 overPage 0)
+      absurd (by-test (λ (d : Scanned). scannedOf (End q j) s ≡ d → ⊥) (liesWell v k) (recordAt v p k) (without DAMAGED overPage 0)
       (λ g h. let a : _≡_ {A = Bool} false true = ap (λ (d : Scanned). d .some) h in let z : _≡_ {A = ℕ} 0 1 = cc in omega arith)
       (λ g h. let a : _≡_ {A = ℕ} 0 4 = ap (λ (d : Scanned). d .answer) h in omega arith) e)
   record-not-end s Size e = refl

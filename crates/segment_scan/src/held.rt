@@ -1,4 +1,5 @@
 // "A scan holds the segment it reads and its position in it."
+use crate::OVER_PAGE;
 use store::Step;
 ghost use mathlib.Core.Path.{_≡_};
 ghost use Rattle.store.specs.Scan.{scanStep};
@@ -30,8 +31,8 @@ fn page_after(step: Step) -> usize
             slot: _,
         } => page,
         Step::End { page, slot: _ } => page,
-        Step::Size => 32528,
-        Step::Damaged => 32528,
+        Step::Size => OVER_PAGE,
+        Step::Damaged => OVER_PAGE,
     }
 }
 

@@ -2,20 +2,24 @@
 // target its root's id; past the end each step answers 0 without a record."
 pub mod held;
 
+use store::IDS_A_PAGE;
+use store::MOST_PAGES;
+use store::MOST_SLOTS;
+use store::PAGE_SIZE;
 use store::Slot;
 use store::Step;
 ghost use mathlib.Core.Path.{_≡_};
-ghost use mathlib.Core.Bool.{true, not, _&&_};
-ghost use Prim.Native.Nat.{_+_, _-_, _*_, _/_, _^_, _≤_, _<_};
+ghost use Prim.Native.Nat.{_+_, _-_, _/_, _^_, _≤_, _<_};
 ghost use lib.ListN.{length};
-ghost use lib.Dec.{eqb};
-ghost use Rattle.store.specs.Slots.{isRecord};
-ghost use Rattle.store.specs.Page.{sound, liesWell};
 ghost use Rattle.store.specs.Laws.Slots.{Codable};
+ghost use Rattle.store.specs.Laws.Lent.{Within};
 ghost use Rattle.store.specs.Segment.{segView};
-ghost use Rattle.store.specs.Scan.{Scanned, recordAt, nextRecord, scanPlan, scanStep};
+ghost use Rattle.store.specs.Scan.{Scanned, recordAt, nextRecord, damagedAt, scanPlan, scanStep};
 ghost use Rattle.store.specs.Answers.{scannedOf};
-ghost use Rattle.segment_scan.specs.Pages.{liesAt, wellAt, isEnd, recordOr, onPage, orLater};
+ghost use Rattle.segment_scan.specs.Pages.{liesAt, wellAt, isEnd, recordOr, onPage, orLater, Counted, RecordOn, LiesOn};
+
+// Where a scan that is over stands: a page past every segment.
+pub const OVER_PAGE: usize = MOST_PAGES + 1;
 
 // l bytes from o on lie between data start d and the page's end; of no bytes, o is at most the page's end.
 fn lies_at(d: usize, o: usize, l: usize) -> bool
@@ -23,12 +27,12 @@ fn lies_at(d: usize, o: usize, l: usize) -> bool
     ensures { λ r. ⌜ r ≡ liesAt d o l ⌝ }
 {
     if l == 0 {
-        return o <= 16384;
+        return o <= PAGE_SIZE;
     }
     if o < d {
         return false;
     }
-    o + l <= 16384
+    o + l <= PAGE_SIZE
 }
 
 // Whether a slot's record lies as on a sound page with data start d.
@@ -49,18 +53,17 @@ fn lies_well(d: usize, s: Slot) -> bool
 
 // The record of slot k, which lies in its page: with its root's id if it is a target.
 fn record_at(segment: &[u8], p: usize, k: usize, s: Slot) -> Step
-    requires { ⌜ (p * 16384 + 16384 ≤ length (now segment)) × (p ≤ 32527) × (k < 65536) ⌝ }
-    requires { ⌜ (s ≡ segView (now segment) .page p .at k) × (isRecord s ≡ true) × (liesWell (segView (now segment) .page p) k ≡ true) ⌝ }
+    requires { ⌜ LiesOn (now segment) p k s ⌝ }
     ensures { λ r. ⌜ scannedOf r (now (segment .entry)) ≡ recordAt (segView (now (segment .entry)) .page p) p k ⌝ }
 {
     let o = layout::slots::off_of(s);
     let l = layout::slots::len_of(s);
-    let own = p * 65536 + k;
+    let own = p * IDS_A_PAGE + k;
     if layout::slots::is_target(s) {
         let root = segment_pages::back_id_on(segment, p, o);
         return Step::Record {
             id: root,
-            offset: p * 16384 + (o + 8),
+            offset: p * PAGE_SIZE + (o + 8),
             length: l - 8,
             page: p,
             slot: k + 1,
@@ -68,21 +71,22 @@ fn record_at(segment: &[u8], p: usize, k: usize, s: Slot) -> Step
     }
     Step::Record {
         id: own,
-        offset: p * 16384 + o,
+        offset: p * PAGE_SIZE + o,
         length: l,
         page: p,
         slot: k + 1,
     }
 }
 
-// The same where it may lie otherwise: only on a page that no scan has checked, at a position that no scan has made.
+// The same where it may lie otherwise: from a position inside a page, which no scan may have made, or the page may have been damaged since.
 fn record_or_damage(segment: &[u8], p: usize, k: usize) -> Step
-    requires { ⌜ (p * 16384 + 16384 ≤ length (now segment)) × (p ≤ 32527) × (k < 65536) ⌝ }
-    requires { ⌜ isRecord (segView (now segment) .page p .at k) ≡ true ⌝ }
+    requires { ⌜ Counted (now segment) p ⌝ }
+    requires { ⌜ RecordOn (now segment) p k ⌝ }
     ensures { λ r. ⌜ scannedOf r (now (segment .entry)) ≡ recordOr (segView (now (segment .entry)) .page p) p k ⌝ }
 {
     let s = segment_pages::slot_on(segment, p, k);
-    if !lies_well(segment_pages::data_start_on(segment, p), s) {
+    let d = layout::header::get_data_start(segment_pages::page_of(segment, p));
+    if !lies_well(d, s) {
         return Step::Damaged;
     }
     record_at(segment, p, k, s)
@@ -90,7 +94,8 @@ fn record_or_damage(segment: &[u8], p: usize, k: usize) -> Step
 
 // The first slot from k on that holds a record, of the page's n; where there is none, n or k, whichever is greater.
 fn next_record(segment: &[u8], p: usize, k: usize, n: usize) -> usize
-    requires { ⌜ (p * 16384 + 16384 ≤ length (now segment)) × (n ≤ 65536) ⌝ }
+    requires { ⌜ Counted (now segment) p ⌝ }
+    requires { ⌜ n ≤ 2046 ⌝ }
     ensures { λ r. ⌜ r ≡ nextRecord (n - k) (segView (now (segment .entry)) .page p) k ⌝ }
 {
     let mut j = k;
@@ -103,26 +108,28 @@ fn next_record(segment: &[u8], p: usize, k: usize, n: usize) -> usize
     j
 }
 
-// "checks each page on reaching it", at slot 0.
-fn damaged_on_reaching(segment: &[u8], p: usize, k: usize) -> bool
-    requires { ⌜ p * 16384 + 16384 ≤ length (now segment) ⌝ }
-    ensures { λ r. ⌜ r ≡ (eqb k 0 && not (sound (segView (now (segment .entry)) .page p))) ⌝ }
+// Whether page p, of n slots, is damaged to a scan at slot k: "checks each page on reaching it", at slot 0; inside it the count alone.
+fn damaged_at(segment: &[u8], p: usize, k: usize, n: usize) -> bool
+    requires { ⌜ Within (now segment) p ⌝ }
+    requires { ⌜ n ≡ segView (now segment) .page p .slotCount ⌝ }
+    ensures { λ r. ⌜ r ≡ damagedAt (segView (now (segment .entry)) .page p) k ⌝ }
 {
     if k != 0 {
-        return false;
+        return MOST_SLOTS < n;
     }
     !segment_pages::page_sound(segment, p)
 }
 
 // What page p answers from slot k on; the next page's position if it has no record left.
 fn scan_page(segment: &[u8], p: usize, k: usize) -> Step
-    requires { ⌜ (p * 16384 + 16384 ≤ length (now segment)) × (p ≤ 32527) ⌝ }
+    requires { ⌜ Within (now segment) p ⌝ }
+    requires { ⌜ p ≤ 32527 ⌝ }
     ensures { λ r. ⌜ ((d : Scanned) → orLater r (now (segment .entry)) d ≡ onPage (segView (now (segment .entry)) .page p) p k d) ⌝ }
 {
-    if damaged_on_reaching(segment, p, k) {
+    let n = layout::header::get_slot_count(segment_pages::page_of(segment, p));
+    if damaged_at(segment, p, k, n) {
         return Step::Damaged;
     }
-    let n = segment_pages::slot_count_on(segment, p);
     let j = next_record(segment, p, k, n);
     if n <= j {
         return Step::End {
@@ -155,7 +162,7 @@ fn scan_pages(segment: &[u8], page: usize, slot: usize) -> Step
     requires { ⌜ length (now segment) / 16384 ≤ 32527 ⌝ }
     ensures { λ r. ⌜ scannedOf r (now (segment .entry)) ≡ scanPlan (segView (now (segment .entry))) page slot ⌝ }
 {
-    let n = segment.len() / 16384;
+    let n = segment.len() / PAGE_SIZE;
     let mut p = page;
     let mut k = slot;
     while p < n {
@@ -173,7 +180,7 @@ fn scan_pages(segment: &[u8], page: usize, slot: usize) -> Step
 pub fn scan_step(segment: &[u8], page: usize, slot: usize) -> Step
     ensures { λ r. ⌜ scannedOf r (now (segment .entry)) ≡ scanStep (now (segment .entry)) page slot ⌝ }
 {
-    if 32527 < page {
+    if MOST_PAGES < page {
         return Step::End { page, slot };
     }
     if !segment_pages::is_segment(segment) {

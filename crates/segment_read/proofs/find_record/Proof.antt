@@ -1,13 +1,21 @@
 -- `segment_read::find_record` meets its contract.
 use mathlib.Core.Path.{_≡_, sym, _∙_}
-use mathlib.Core.Bool.{true, false}
-use native.Mathlib.Omega.{arith}
+use mathlib.Core.Bool.{true}
 use denote.Ref.{now}
 use borrow.Author.Tests.{not-true, not-false}
-use Rattle.segment_read.proofs.Locate.{locate-size, locate-page, locate-damaged, locate-slot}
+use Rattle.store.specs.Segment.{sizeOk}
+use Rattle.segment_pages.proofs.Root.{root-is}
+use Rattle.segment_read.proofs.Locate.{locate-size, locate-root}
 use borrow.Author.Needs.{needs}
 use Rattle.segment_read.proofs.find_record.Statement.{statement}
 use Rattle.segment_read.proofs.find_record.Tie as tie
+
+-- the code's places: where the id's own page has answered, and the function's start
+abbrev entry : tie.After-root-of → tie.Start
+entry c = c .before .before .before .before
+
+whole : (c : tie.After-root-of) → sizeOk (now (entry c .args .segment)) ≡ true
+whole c = let sized = c .before in sym (sized .before .is-segment .ensures) ∙ not-false _ (sized .if1 .left)
 
 is-segment-requires : tie.Need-is-segment-requires
 is-segment-requires c κs = search needs
@@ -15,45 +23,44 @@ is-segment-requires c κs = search needs
 returns : tie.Need-returns
 returns c =
     let a = c .before .before .before .args in
-    let e : c .before .is-segment .result ≡ false = not-true _ (c .if1 .taken) in
-    locate-size (now (a .segment)) (a .id) (sym (c .before .is-segment .ensures) ∙ e)
+    locate-size (now (a .segment)) (a .id) (sym (c .before .is-segment .ensures) ∙ not-true _ (c .if1 .taken))
 
-returns-2 : tie.Need-returns-2
-returns-2 c =
-    let m = c .before .before in
-    let a = m .before .before .args in
-    let e : m .is-segment .result ≡ true = not-false _ (c .before .if1 .left) in
-    locate-page (now (a .segment)) (a .id) (sym (m .is-segment .ensures) ∙ e) (c .if2 .taken)
+root-of-requires : tie.Need-root-of-requires
+root-of-requires c κs = search needs
 
-page-sound-requires : tie.Need-page-sound-requires
-page-sound-requires c κs = search needs
+enum-told : tie.Need-enum-told
+enum-told c = search needs
 
-returns-3 : tie.Need-returns-3
-returns-3 c =
-    let m = c .before .before .before .before in
-    let a = m .before .before .args in
-    let e : m .is-segment .result ≡ true = not-false _ (c .before .before .before .if1 .left) in
-    let f : c .before .page-sound .result ≡ false = not-true _ (c .if3 .taken) in
-    locate-damaged (now (a .segment)) (a .id) (sym (m .is-segment .ensures) ∙ e) (c .before .before .if2 .left) (sym (c .before .page-sound .ensures .0) ∙ f)
+enum-told-2 : tie.Need-enum-told-2
+enum-told-2 c = search needs
 
-slot-on-requires : tie.Need-slot-on-requires
-slot-on-requires c κs = search needs
+enum-known-root : tie.Need-enum-known-root
+enum-known-root c = search needs
 
 read-slot-requires : tie.Need-read-slot-requires
 read-slot-requires c κs =
-    let g = c .before .before in
-    let f : g .page-sound .result ≡ true = not-false _ (c .before .if3 .left) in
-    (omega arith, sym (g .page-sound .ensures .0) ∙ f, c .slot-on .ensures .0)
+    let root = c .before .before .before in
+    let a = entry root .args in
+    root-is (now (a .segment)) (a .id) _ (sym (root .root-of .ensures) ∙ c .before .root .given .1)
+
+returns-2 : tie.Need-returns-2
+returns-2 c =
+    let root = c .before .before in
+    let a = entry root .args in
+    locate-root (now (a .segment)) (a .id) (whole root) _ (sym (c .enum-told .given .1) ∙ root .root-of .ensures)
+
+returns-3 : tie.Need-returns-3
+returns-3 c =
+    let root = c .before .before in
+    let a = entry root .args in
+    locate-root (now (a .segment)) (a .id) (whole root) _ (sym (c .enum-told2 .given .1) ∙ root .root-of .ensures)
 
 returns-4 : tie.Need-returns-4
 returns-4 c =
-    let g = c .before .before .before in
-    let m = g .before .before .before in
-    let a = m .before .before .args in
-    let e : m .is-segment .result ≡ true = not-false _ (g .before .before .if1 .left) in
-    let f : g .page-sound .result ≡ true = not-false _ (c .before .before .if3 .left) in
-    c .read-slot .ensures ∙ locate-slot (now (a .segment)) (a .id) (sym (m .is-segment .ensures) ∙ e) (g .before .if2 .left)
-    (sym (g .page-sound .ensures .0) ∙ f) _ (c .before .slot-on .ensures .0)
+    let known = c .before .before in
+    let root = known .before .before in
+    let a = entry root .args in
+    c .read-slot .ensures ∙ locate-root (now (a .segment)) (a .id) (whole root) _ (sym (known .root .given .1) ∙ root .root-of .ensures)
 
 pub find-record-spec : {M : Type 1} → statement M
 find-record-spec =
@@ -61,9 +68,11 @@ find-record-spec =
     (tie.spec
     is-segment-requires
     returns
-    returns-2
-    page-sound-requires
-    returns-3
-    slot-on-requires
+    root-of-requires
+    enum-told
+    enum-told-2
+    enum-known-root
     read-slot-requires
+    returns-2
+    returns-3
     returns-4)

@@ -8,13 +8,17 @@ use borrow.Author.Needs.{needs}
 use Rattle.segment_read.proofs.get_record.Statement.{statement}
 use Rattle.segment_read.proofs.get_record.Tie as tie
 
+-- the code's places: where the number was read, and the function's start
+abbrev entry : tie.After-reading-no → tie.Start
+entry c = c .before .before .before
+
 inside : (c : tie.After-known-told)
     → let x = c .before .found .given .0 in
-    x .0 + x .1 .0 ≤ length (now (c .before .before .before .before .before .before .args .segment))
+    x .0 + x .1 .0 ≤ length (now (entry (c .before .before .before) .args .segment))
 inside c =
-    let m = c .before .before .before in
-    let a = m .before .before .before .args in
-    read-inside (now (a .segment)) (a .id) (m .before .find-record .result) (m .before .find-record .ensures) _ (m .reading-no .ensures) _ _
+    let no = c .before .before .before in
+    let a = entry no .args in
+    read-inside (now (a .segment)) (a .id) (no .before .find-record .result) (no .before .find-record .ensures) _ (no .reading-no .ensures) _ _
     (c .before .found .given .1)
 
 find-record-requires : tie.Need-find-record-requires
@@ -31,9 +35,9 @@ slice-aggregate-result c = search needs
 
 returns : tie.Need-returns
 returns c =
-    let m = c .before .before in
-    let a = m .before .before .before .args in
-    read-nothing (now (a .segment)) (a .id) (m .before .find-record .result) (m .before .find-record .ensures) _ (m .reading-no .ensures)
+    let no = c .before .before in
+    let a = entry no .args in
+    read-nothing (now (a .segment)) (a .id) (no .before .find-record .result) (no .before .find-record .ensures) _ (no .reading-no .ensures)
     (c .before .match .keys2)
 
 add-result : tie.Need-add-result
@@ -50,10 +54,11 @@ part-result-end c = inside c
 
 returns-2 : tie.Need-returns-2
 returns-2 c =
-    let m = c .before .before .before .before in
-    let a = m .before .before .before .args in
-    read-part (now (a .segment)) (a .id) (m .before .find-record .result) (m .before .find-record .ensures) _ (m .reading-no .ensures) _ _
-    (c .before .before .found .given .1)
+    let known = c .before .before in
+    let no = known .before .before in
+    let a = entry no .args in
+    read-part (now (a .segment)) (a .id) (no .before .find-record .result) (no .before .find-record .ensures) _ (no .reading-no .ensures) _ _
+    (known .found .given .1)
 
 pub get-record-spec : {M : Type 1} → statement M
 get-record-spec =

@@ -1,6 +1,6 @@
 -- `segment_read::read_slot` meets its contract.
 use Prim.Native.Nat.{_<_, _^_}
-use mathlib.Core.Path.{refl, sym, _∙_}
+use mathlib.Core.Path.{refl, _∙_}
 use native.Mathlib.Omega.{arith}
 use denote.Ref.{now}
 use Rattle.store.specs.Numbers.{pageNo, slotNo}
@@ -18,9 +18,10 @@ mul-t11 c = search needs
 
 add-t12 : tie.Need-add-t12
 add-t12 c =
-    let a = c .before .before .before .before in
-    let h = slot-high (now (a .args .segment)) (pageNo (a .args .i)) (a .pre .0) (a .pre .1) (slotNo (a .args .i)) _
-    (sym (a .pre .2) ∙ c .before .s .given .1) in
+    let entry = c .before .before .before .before in
+    let a = entry .args in
+    let root = entry .pre in
+    let high = slot-high (now (a .segment)) (pageNo (a .i)) (root .whole) (root .sound) (slotNo (a .i)) _ (root .entry ∙ c .before .s .given .1) in
     omega arith
 
 enum-told : tie.Need-enum-told
@@ -37,12 +38,14 @@ enum-known-s-3 c = search needs
 
 target-part-requires : tie.Need-target-part-requires
 target-part-requires c κs =
-    let a = c .before .before .before .before in
-    let e = sym (a .pre .2) ∙ c .before .s3 .given .1 in
-    let h = slot-high (now (a .args .segment)) (pageNo (a .args .i)) (a .pre .0) (a .pre .1) (slotNo (a .args .i)) _ e in
-    let g = target-long (now (a .args .segment)) (pageNo (a .args .i)) (a .pre .0) (a .pre .1) (slotNo (a .args .i)) _ e refl in
-    let b : pageNo (a .args .i) < 2 ^ 48 = omega (arith, a .fits .i .fits) in
-    (b, g, h)
+    let entry = c .before .before .before .before in
+    let a = entry .args in
+    let root = entry .pre in
+    let e = root .entry ∙ c .before .s3 .given .1 in
+    let high = slot-high (now (a .segment)) (pageNo (a .i)) (root .whole) (root .sound) (slotNo (a .i)) _ e in
+    let long = target-long (now (a .segment)) (pageNo (a .i)) (root .whole) (root .sound) (slotNo (a .i)) _ e refl in
+    let b : pageNo (a .i) < 2 ^ 48 = omega (arith, entry .fits .i .fits) in
+    (b, long, high)
 
 returns : tie.Need-returns
 unfolding locateBy

@@ -1,6 +1,5 @@
 -- `segment_scan::lies_well` meets its contract.
-use mathlib.Core.Path.{_≡_, sym, _∙_}
-use mathlib.Core.Bool.{true, false}
+use mathlib.Core.Path.{sym, _∙_}
 use native.Mathlib.Omega.{arith}
 use borrow.Author.Tests.{not-true, not-false}
 use Rattle.segment_scan.proofs.Records.{codable-position, well-no, well-plain, well-target}
@@ -21,26 +20,30 @@ lies-at-requires c κs =
 
 returns : tie.Need-returns
 returns c =
-    let m = c .before in
-    let e : m .lies-at .result ≡ false = not-true _ (c .if1 .taken) in
-    well-no _ _ _ _ (m .before .before .off-of .ensures) (m .before .len-of .ensures) _ (m .lies-at .ensures) e
+    let tested = c .before in
+    let length = tested .before in
+    well-no _ _ _ _ (length .before .off-of .ensures) (length .len-of .ensures) _ (tested .lies-at .ensures) (not-true _ (c .if1 .taken))
 
 is-target-requires : tie.Need-is-target-requires
 is-target-requires c κs = search needs
 
 returns-2 : tie.Need-returns-2
 returns-2 c =
-    let m = c .before .before .before in
-    let e : m .lies-at .result ≡ true = not-false _ (c .before .before .if1 .left) in
-    let t : c .before .is-target .result ≡ false = not-true _ (c .if2 .taken) in
-    well-plain _ _ _ _ (m .before .before .off-of .ensures) (m .before .len-of .ensures) _ (m .lies-at .ensures) e (sym (c .before .is-target .ensures) ∙ t)
+    let kind = c .before in
+    let lies = kind .before in
+    let tested = lies .before in
+    let length = tested .before in
+    well-plain _ _ _ _ (length .before .off-of .ensures) (length .len-of .ensures) _ (tested .lies-at .ensures) (not-false _ (lies .if1 .left))
+    (sym (kind .is-target .ensures) ∙ not-true _ (c .if2 .taken))
 
 returns-3 : tie.Need-returns-3
 returns-3 c =
-    let m = c .before .before .before in
-    let e : m .lies-at .result ≡ true = not-false _ (c .before .before .if1 .left) in
-    let t : c .before .is-target .result ≡ true = not-false _ (c .if2 .left) in
-    well-target _ _ _ _ (m .before .before .off-of .ensures) (m .before .len-of .ensures) _ (m .lies-at .ensures) e (sym (c .before .is-target .ensures) ∙ t)
+    let kind = c .before in
+    let lies = kind .before in
+    let tested = lies .before in
+    let length = tested .before in
+    well-target _ _ _ _ (length .before .off-of .ensures) (length .len-of .ensures) _ (tested .lies-at .ensures) (not-false _ (lies .if1 .left))
+    (sym (kind .is-target .ensures) ∙ not-false _ (c .if2 .left))
 
 pub lies-well-spec : {M : Type 1} → statement M
 lies-well-spec =

@@ -20,18 +20,20 @@ loop-holds : tie.Need-loop-holds Inv-loop μ-loop
 loop-holds c = refl
 
 slot-on-requires : tie.Need-slot-on-requires Inv-loop μ-loop
-slot-on-requires c κs = search needs
+slot-on-requires c κs = let counted = c .before .before .before .pre .0 in (counted .whole, counted .few)
 
 is-record-requires : tie.Need-is-record-requires Inv-loop μ-loop
 is-record-requires c κs = search needs
 
 returns : tie.Need-returns Inv-loop μ-loop
 returns c =
-    let l = c .before .before .before .before in
-    let a = l .before .before .args in
+    let slot = c .before .before in
+    let turn = slot .before in
+    let at = turn .before in
+    let a = at .before .before .args in
     let v = segView (now (a .segment)) .page (a .p) in
-    let r = sym (c .before .is-record .ensures ∙ ap isRecord (c .before .before .slot-on .ensures .0)) ∙ c .if1 .taken in
-    next-here v (a .n) (l .loop .j) (c .before .before .before .loop-test .taken) r ∙ l .loop .inv
+    let r = sym (c .before .is-record .ensures ∙ ap isRecord (slot .slot-on .ensures .0)) ∙ c .if1 .taken in
+    next-here v (a .n) (at .loop .j) (turn .loop-test .taken) r ∙ at .loop .inv
 
 add-j : tie.Need-add-j Inv-loop μ-loop
 add-j c = search needs
@@ -41,11 +43,13 @@ loop-less c = search needs
 
 loop-again : tie.Need-loop-again Inv-loop μ-loop
 loop-again c =
-    let l = c .before .before .before .before in
-    let a = l .before .before .args in
+    let slot = c .before .before in
+    let turn = slot .before in
+    let at = turn .before in
+    let a = at .before .before .args in
     let v = segView (now (a .segment)) .page (a .p) in
-    let r = sym (c .before .is-record .ensures ∙ ap isRecord (c .before .before .slot-on .ensures .0)) ∙ c .if1 .left in
-    next-turn v (a .n) (l .loop .j) (c .before .before .before .loop-test .taken) r ∙ l .loop .inv
+    let r = sym (c .before .is-record .ensures ∙ ap isRecord (slot .slot-on .ensures .0)) ∙ c .if1 .left in
+    next-turn v (a .n) (at .loop .j) (turn .loop-test .taken) r ∙ at .loop .inv
 
 returns-2 : tie.Need-returns-2 Inv-loop μ-loop
 returns-2 c =

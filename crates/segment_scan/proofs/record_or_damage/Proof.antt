@@ -1,60 +1,80 @@
 -- `segment_scan::record_or_damage` meets its contract.
+use Prim.Native.Nat.{ℕ}
 use mathlib.Core.Path.{_≡_, sym, ap, _∙_}
-use mathlib.Core.Bool.{true, false}
+use mathlib.Core.List.{List}
+use lib.ListN.{length}
 use denote.Ref.{now}
 use borrow.Author.Tests.{not-true, not-false}
-use Rattle.store.specs.Slots.{isRecord}
-use Rattle.store.specs.Page.{liesWell}
+use Rattle.store.specs.Page.{View, view, liesWell}
 use Rattle.store.specs.Segment.{segView}
+use Rattle.store.specs.Laws.Segments.{length-page}
 use Rattle.segment_scan.proofs.Records.{lies-seen, record-no, record-yes}
 use borrow.Author.Needs.{needs}
 use Rattle.segment_scan.proofs.record_or_damage.Statement.{statement}
 use Rattle.segment_scan.proofs.record_or_damage.Tie as tie
 
-lies : (c : tie.After-lies-well) → let a = c .before .before .before .before .args in
-    c .lies-well .result ≡ liesWell (segView (now (a .segment)) .page (a .p)) (a .k)
+-- the code's places: where the slot was read, where the record was tested, and the function's start
+abbrev slot : tie.After-lies-well → tie.After-slot-on
+slot c = c .before .before .before
+
+abbrev entry : tie.After-lies-well → tie.Start
+entry c = slot c .before .before
+
+abbrev page : tie.After-lies-well → View
+page c = segView (now (entry c .args .segment)) .page (entry c .args .p)
+
+-- the test is the definition's
+lies : (c : tie.After-lies-well) → c .lies-well .result ≡ liesWell (page c) (entry c .args .k)
 lies c =
-    let m = c .before .before in
-    let a = m .before .before in
-    c .lies-well .ensures ∙ lies-seen (now (a .args .segment)) (a .args .p) (a .args .k) _ _ (a .pre .1) (c .before .data-start-on .ensures)
-    (m .slot-on .ensures .0)
+    let start = c .before in
+    let a = entry c .args in
+    c .lies-well .ensures ∙ lies-seen (now (a .segment)) (a .p) (a .k) _ _ (entry c .pre .1 .holds)
+    (start .get-data-start .ensures .0 ∙ ap (λ (q : List ℕ). view q .dataStart) (start .before .page-of .ensures)) (slot c .slot-on .ensures .0)
 
 slot-on-requires : tie.Need-slot-on-requires
-slot-on-requires c κs = search needs
+slot-on-requires c κs = let counted = c .before .pre .0 in (counted .whole, counted .few)
 
-data-start-on-requires : tie.Need-data-start-on-requires
-data-start-on-requires c κs = search needs
+page-of-requires : tie.Need-page-of-requires
+page-of-requires c κs = search needs
+
+get-data-start-requires : tie.Need-get-data-start-requires
+get-data-start-requires c κs =
+    let e = c .before .before .before in
+    ap length (c .page-of .ensures) ∙ length-page (now (e .args .segment)) (e .args .p) (e .pre .0 .whole)
 
 lies-well-requires : tie.Need-lies-well-requires
 lies-well-requires c κs = search needs
 
 returns : tie.Need-returns
 returns c =
-    let a = c .before .before .before .before .before .args in
-    let e : c .before .lies-well .result ≡ false = not-true _ (c .if1 .taken) in
-    record-no (segView (now (a .segment)) .page (a .p)) (a .p) (a .k) (sym (lies (c .before)) ∙ e)
+    let tested = c .before in
+    let a = entry tested .args in
+    record-no (page tested) (a .p) (a .k) (sym (lies tested) ∙ not-true _ (c .if1 .taken))
 
 record-at-requires : tie.Need-record-at-requires
 record-at-requires c κs =
-    let m = c .before in
-    let a = m .before .before .before .before in
-    let e : m .lies-well .result ≡ true = not-false _ (c .if1 .left) in
-    let s = m .before .before .slot-on .ensures .0 in
-    (a .pre .0, (s, ap isRecord s ∙ a .pre .1, sym (lies m) ∙ e))
+    let tested = c .before in
+    let e = entry tested in
+    record {
+      whole = e .pre .0 .whole;
+      record-on = e .pre .1;
+      entry = slot tested .slot-on .ensures .0;
+      lies = sym (lies tested) ∙ not-false _ (c .if1 .left);
+    }
 
 returns-2 : tie.Need-returns-2
 returns-2 c =
-    let m = c .before .before in
-    let a = m .before .before .before .before .args in
-    let e : m .lies-well .result ≡ true = not-false _ (c .before .if1 .left) in
-    c .record-at .ensures ∙ record-yes (segView (now (a .segment)) .page (a .p)) (a .p) (a .k) (sym (lies m) ∙ e)
+    let tested = c .before .before in
+    let a = entry tested .args in
+    c .record-at .ensures ∙ record-yes (page tested) (a .p) (a .k) (sym (lies tested) ∙ not-false _ (c .before .if1 .left))
 
 pub record-or-damage-spec : {M : Type 1} → statement M
 record-or-damage-spec =
     tie.close
     (tie.spec
     slot-on-requires
-    data-start-on-requires
+    page-of-requires
+    get-data-start-requires
     lies-well-requires
     returns
     record-at-requires
