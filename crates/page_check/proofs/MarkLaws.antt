@@ -1,10 +1,11 @@
 -- Records on the map: what is marked is just the bytes of the records so far.
 use Prim.Native.Nat.{ℕ, _+_, _≤_, _<_}
-use mathlib.Core.Path.{_≡_, subst, _∙_}
+use mathlib.Core.Path.{_≡_, _∙_}
 use mathlib.Core.List.{List}
 use mathlib.Core.Logic.{_⊎_, inl, inr}
 use native.Mathlib.Omega.{arith}
-use native.Mathlib.Decide.{decLt, decLe, ℕ-discrete}
+use native.Mathlib.Decide.{decLt, decLe}
+use borrow.Author.Count.{below-more}
 use Rattle.store.specs.Slots.{off, len}
 use Rattle.store.specs.Page.{View}
 use Rattle.store.specs.Laws.Edits.{Apart}
@@ -48,7 +49,9 @@ module _ (v : View) (k low o l : ℕ) (u : List ℕ) (m : Marked v k u) (run : R
 
   pub marked-more : (w : List ℕ) → Claimed u w o (o + l) → Marked v (k + 1) w
   marked-more w c = record {
-    taken = λ i j h x. taken i j h x (ℕ-discrete j k);
+    taken = λ i. below-more (λ j. Covers (v .at j) i → mark w i ≡ 1) k
+        (λ j h x. kept i (m .taken i j h x) (decLe o i) (decLt i (o + l)))
+        (λ x. let y = covering i x in c .taken i (y .0) (y .1));
     idle = λ i f. c .keeps i (λ a b. f k (omega arith) (covered i a b)) ∙ m .idle i (λ j h. f j (omega arith));
   }
     where
@@ -56,12 +59,6 @@ module _ (v : View) (k low o l : ℕ) (u : List ℕ) (m : Marked v k u) (run : R
       kept i e (yes a) (yes b) = c .taken i a b
       kept i e (yes a) (no b) = c .keeps i (λ _ y. b y) ∙ e
       kept i e (no a) b = c .keeps i (λ x _. a x) ∙ e
-
-      taken : (i j : ℕ) → j < k + 1 → Covers (v .at j) i → Dec (j ≡ k) → mark w i ≡ 1
-      taken i j h x (yes e) =
-          let y = covering i (subst (λ (z : ℕ). Covers (v .at z) i) e x) in
-          c .taken i (y .0) (y .1)
-      taken i j h x (no e) = kept i (m .taken i j (omega arith) x) (decLe o i) (decLt i (o + l))
 
   -- a run that was clear is apart from the records before, and one apart from them is clear
   pub apart-before : Clear u o (o + l) → (j : ℕ) → j < k → Apart (v .at j) (v .at k)

@@ -14,7 +14,7 @@ ghost use Rattle.store.specs.PageSteps.{pack, compactify, run};
 ghost use Rattle.store.specs.Laws.Views.{Sound};
 ghost use Rattle.page_compactify.specs.Keys.{live, Movable, moveKey, slotsOf, Ready};
 
-pub fn live_slot(kind: usize, d: usize, n: usize) -> Slot
+fn live_slot(kind: usize, d: usize, n: usize) -> Slot
     requires { ⌜ (d < 1073741824) × (n < 4294967296) ⌝ }
     ensures { λ r. ⌜ (r ≡ live kind d n) × Codable r ⌝ }
 {
@@ -40,7 +40,7 @@ fn place(page: &mut [u8], e: usize, d: usize)
     layout::move_within(page, offset_in(e), len, d);
 }
 
-// The records of the first n keys, packed; the last place.
+// The records of the first n keys, packed; the new data start.
 fn pack(page: &mut [u8], t: &[usize], n: usize) -> usize
     requires { ⌜ (length (now page) ≡ 16384) × (n ≤ length (now t)) × Ready (take n (now t)) 16384 (view (now page)) ⌝ }
     ensures { λ r. ⌜ (now (page .exit) ≡ run (pack (slotsOf (take n (now (t .entry)))) 16384 (view (now (page .entry))) .edits) (now (page .entry)))
