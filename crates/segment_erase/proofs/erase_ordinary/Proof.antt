@@ -2,37 +2,36 @@
 use denote.Ref.{now}
 use mathlib.Core.Path.{refl}
 use native.Mathlib.Omega.{arith}
-use Rattle.store.specs.Numbers.{pageNo, slotNo}
-use Rattle.segment_steps.proofs.After.{sizes-room, Took, took-length, left-own, left-room, erase-on-page}
-use Rattle.segment_erase.proofs.Erased.{rootStep, by-ordinary}
+use Rattle.segment_steps.proofs.After.{sizes-room, Took, took-length, left-own, left-room}
+use Rattle.segment_erase.proofs.Erased.{erasing, took-erasing, by-ordinary}
 use borrow.Author.Needs.{needs}
 use Rattle.segment_erase.proofs.erase_ordinary.Statement.{statement}
 use Rattle.segment_erase.proofs.erase_ordinary.Tie as tie
 
+-- the places: the entry, and the slot freed
+abbrev entry : tie.After-erase-on → tie.Start
+entry c = c .before .before .before .before
+
+abbrev erased : tie.After-update-on-arg2 → tie.After-erase-on
+erased c = c .before .before .before .before
+
 -- what the page step left
-took : (c : tie.After-erase-on) → let a = c .before .before .before .before .args in
-    Took (now (a .segment)) (rootStep (now (a .segment)) (now (a .inventory)) (a .id)) (c .erase-on .last .0)
-took c =
-    let z = c .before .before .before .before in
-    let a = z .args in
-    record {
-      exact = erase-on-page (now (a .segment)) (pageNo (a .id)) (slotNo (a .id)) (z .pre .1 .0) (z .pre .1 .1) (z .pre .1 .2);
-      is = c .erase-on .ensures;
-    }
+took : (c : tie.After-erase-on) → let a = entry c .args in Took (now (a .segment)) (erasing (now (a .segment)) (a .id)) (c .erase-on .last .0)
+took c = let a = entry c .args in took-erasing (now (a .segment)) (a .id) (entry c .pre .1) (c .erase-on .last .0) (c .erase-on .ensures)
 
 erase-on-requires : tie.Need-erase-on-requires
 erase-on-requires c κs = search needs
 
 update-on-requires : tie.Need-update-on-requires
 update-on-requires c κs =
-    let z = c .before .before .before .before .before .before .before .before in
+    let x = erased c in
+    let z = entry x in
     let s = now (z .args .segment) in
     let v = now (z .args .inventory) in
-    let e = rootStep s v (z .args .id) in
-    let t = c .before .before .before .before .erase-on .last .0 in
-    let x = took (c .before .before .before .before) in
-    let l = took-length s e t x in
-    (sizes-room s v t v (z .pre .0) l refl, (omega (arith, l, z .pre .1 .0), left-room t (e .on) (e .plan .after) (left-own s e t x)))
+    let e = erasing s (z .args .id) in
+    let t = x .erase-on .last .0 in
+    let l = took-length s e t (took x) in
+    (sizes-room s v t v (z .pre .0) l refl, (omega (arith, l, z .pre .1 .whole), left-room t (e .on) (e .plan .after) (left-own s e t (took x))))
 
 same-length : tie.Need-same-length
 same-length c = search needs
@@ -42,9 +41,10 @@ same-length-2 c = search needs
 
 returns : tie.Need-returns
 returns c =
-    let a = c .before .before .before .before .before .before .before .before .before .before .before .args in
-    by-ordinary (now (a .segment)) (now (a .inventory)) (a .id) (c .before .before .before .before .before .before .before .erase-on .last .0) _
-    (took (c .before .before .before .before .before .before .before)) (c .before .before .update-on .ensures) 0 0
+    let told = c .before .before in
+    let x = erased (told .before) in
+    let a = entry x .args in
+    by-ordinary (now (a .segment)) (now (a .inventory)) (a .id) (x .erase-on .last .0) _ (took x) (told .update-on .ensures)
 
 pub erase-ordinary-spec : {M : Type 1} → statement M
 erase-ordinary-spec =
