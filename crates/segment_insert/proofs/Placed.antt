@@ -22,7 +22,7 @@ use Rattle.store.specs.declared.Named.{Named}
 use Rattle.store.specs.declared.Named.the-variants.{At, Full}
 use Rattle.store.specs.declared.Answer.the-variants as answer
 use Rattle.slotted_page.specs.Words.{pageAfter, filledAt}
-use Rattle.segment_steps.proofs.After.{Took, took-length, left-own, left-update}
+use Rattle.segment_steps.proofs.After.{Took, took-length, left-own, left-update, place-made}
 use Rattle.segment_insert.specs.Words.{sizedOn, sizedPlan, sizedStep}
 
 module _ (s v bs : List ℕ) (n : ℕ) where
@@ -60,13 +60,9 @@ module _ (s v bs : List ℕ) (n : ℕ) where
       -- the place is slot k, and t is what was left with the bytes there
       module _ (k : ℕ) (a : Plan) (way : allocate (segView s .page p) n ≡ got k a) (t : List ℕ)
           (et : t ≡ put s (p * 16384) (pageAfter (filledAt (allocate (segView s .page p) n) (fit n bs)) (pageOf s p))) where
-        place : AllocOk (pageOf s p) n (got k a)
-        unfolding segView
-        place = subst (AllocOk (pageOf s p) n) way (alloc-ok (pageOf s p) n (length-page s p (h .whole)) (h .sound))
-
         pub took-place : Took s (on p (filled a k (fit n bs))) t
         took-place =
-            let o = place in
+            let o = place-made s p h n k a way in
             record {
               exact = record {
                 inside = h .whole;

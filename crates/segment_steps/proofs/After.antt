@@ -217,19 +217,19 @@ module _ (s : List ℕ) (p k : ℕ) (h : SoundOn s p) (i : ℕ) (here : segView 
 
 -- a new place of n bytes on a sound page, fresh or in use
 module _ (s : List ℕ) (p : ℕ) (h : SoundOn s p) (n j : ℕ) (a : Plan) (way : allocate (segView s .page p) n ≡ got j a) where
-  place : AllocOk (pageOf s p) n (got j a)
+  pub place-made : AllocOk (pageOf s p) n (got j a)
   unfolding segView
-  place = subst (AllocOk (pageOf s p) n) way (alloc-ok (pageOf s p) n (length-page s p (h .whole)) (h .sound))
+  place-made = subst (AllocOk (pageOf s p) n) way (alloc-ok (pageOf s p) n (length-page s p (h .whole)) (h .sound))
 
   -- its id can stand in a redirect
   pub small-id : length s / 16384 ≤ 32527 → idOf p j < 2 ^ 62
-  small-id few = omega (arith, h .whole, place .1, place .0 .sound .few)
+  small-id few = omega (arith, h .whole, place-made .1, place-made .0 .sound .few)
 
   module _ (long : 8 ≤ n) (bs : List ℕ) (size : length bs ≡ n) where
     pub target-on-page : ExactOn s (on p (targetPlan j a bs))
     target-on-page =
         let w = a .after in
-        let o = place in
+        let o = place-made in
         let high : off (w .at j) + len (w .at j) ≤ 16384 = o .0 .sound .high j in
         record {
           inside = h .whole;

@@ -35,8 +35,9 @@ same-length c = search needs
 
 returns : tie.Need-returns
 returns c =
-    let z = c .before .before .before .before .before .before in
-    let x = c .before .before .rewrite in
+    let done = c .before .before in
+    let z = done .before .before .before .before in
+    let x = done .rewrite in
     lent-moved (now (z .args .segment)) (z .args .p) (z .args .k) (z .pre) (z .args .size)
     (λ (v : View). fit (z .args .size) (now (z .args .bytes))) (x .last .0) _ (x .ensures)
 

@@ -38,8 +38,9 @@ same-length c = search needs
 
 returns : tie.Need-returns
 returns c =
-    let z = c .before .before .before .before .before .before in
-    let x = c .before .before .rewrite-target in
+    let done = c .before .before in
+    let z = done .before .before .before .before in
+    let x = done .rewrite-target in
     lent-moved (now (z .args .segment)) (z .args .p) (z .args .k) (z .pre .0) (length (now (z .args .bytes)) + 8)
     (λ (v : View). toBE 8 (z .args .id) ++ now (z .args .bytes)) (x .last .0) _ (x .ensures)
 
