@@ -1,7 +1,9 @@
 // The store for C: the six calls of a segment and the scan, with document 01's numbers for answers. include/hekatosuy.h declares them.
 //
 // A slice is a pointer and a length. What a call hands back beside its number it writes through a pointer to one u64.
+use segment_scan::OVER_PAGE;
 use store::Answer;
+use store::IDS_A_PAGE;
 use store::Reading;
 use store::Step;
 ghost use mathlib.Core.Path.{_≡_};
@@ -177,7 +179,7 @@ fn position_of(page: usize, slot: usize) -> u64
     requires { ⌜ (page < 2 ^ 48) × (slot < 65536) ⌝ }
     ensures { λ r. ⌜ r ≡ idOf page slot ⌝ }
 {
-    page as u64 * 65536 + slot as u64
+    (page * IDS_A_PAGE + slot) as u64
 }
 
 fn without_record(answer: u64, page: usize, slot: usize) -> Stepped
@@ -218,8 +220,8 @@ fn hand_step(s: Step) -> Stepped
             }
         }
         Step::End { page, slot } => without_record(0, page, slot),
-        Step::Size => without_record(1, 32528, 0),
-        Step::Damaged => without_record(4, 32528, 0),
+        Step::Size => without_record(1, OVER_PAGE, 0),
+        Step::Damaged => without_record(4, OVER_PAGE, 0),
     }
 }
 
@@ -228,7 +230,7 @@ fn step_from(segment: &[u8], position: u64) -> Stepped
     ensures { λ r. ⌜ r ≡ stepped (scanStep (now (segment .entry)) (pageNo position) (slotNo position)) ⌝ }
 {
     let at = position as usize;
-    let s = segment_scan::scan_step(segment, at / 65536, at % 65536);
+    let s = segment_scan::scan_step(segment, at / IDS_A_PAGE, at % IDS_A_PAGE);
     hand_step(s)
 }
 

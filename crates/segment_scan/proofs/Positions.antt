@@ -3,24 +3,24 @@ use Prim.Native.Nat.{ℕ, suc, _+_, _-_, _/_, _≤_, _<_}
 use mathlib.Core.Path.{_≡_, refl, sym, ap, subst, _∙_}
 use mathlib.Core.Bool.{Bool, true, false, not}
 use mathlib.Core.List.{List}
+use mathlib.Core.Logic.{⊎-elim}
 use native.Mathlib.Omega.{arith}
 use native.Mathlib.Decide.{decLt}
 use lib.ListN.{length}
 use lib.Dec.{eqb, ltb, leb}
-use borrow.Author.Tests.{lt-ltb, le-ltb, lt-leb, le-leb, leb-true, not-false}
+use borrow.Author.Tests.{lt-ltb, le-ltb, lt-leb, le-leb, leb-true, eqb-true, not-false}
 use Rattle.store.specs.Slots.{isRecord}
-use Rattle.store.specs.Page.{View, sound, countFits}
+use Rattle.store.specs.Page.{View, fresh, countFits, soundTests, passes, sound}
 use Rattle.store.specs.Refusals.{DONE, SIZE}
 use Rattle.store.specs.Segment.{SegView, segView, sizeOk}
 use Rattle.store.specs.Scan.{Scanned, without, overPage, nextRecord, damagedAt, scanFrom, scanPlan, scanStep}
 use Rattle.store.specs.Answers.{scannedOf}
-use Rattle.store.specs.Laws.Cases.{by-test}
-use Rattle.store.specs.Laws.Lent.{Within}
+use Rattle.store.specs.Laws.Cases.{by-test, or-true}
+use Rattle.store.specs.Laws.SoundPage.{and-both}
 use Rattle.store.specs.Laws.Scan.{next-record}
 use Rattle.store.specs.Laws.SoundSegment.{seen-pages}
 use Rattle.store.specs.declared.Step.{Step}
 use Rattle.store.specs.declared.Step.the-variants.{Record, End, Size, Damaged}
-use Rattle.segment_pages.proofs.Seen.{few-slots}
 use Rattle.segment_scan.specs.Held.{pageAfter, slotAfter}
 use Rattle.segment_scan.specs.Pages.{recordOr, onPage, isEnd, orLater}
 
@@ -54,11 +54,16 @@ many-slots n = go (decLt 2046 n)
     go (no l) = let h : n ≤ 2046 = omega arith in rw (le-ltb 2046 n h, le-leb n 2046 h)
 
 -- a page that passes it, at any slot, has few slots
-pub few-at : (s : List ℕ) (p : ℕ) → Within s p → (k : ℕ) → damagedAt (segView s .page p) k ≡ false → segView s .page p .slotCount ≤ 2046
-few-at s p whole k =
-    let v = segView s .page p in
+pub few-at : (v : View) (k : ℕ) → damagedAt v k ≡ false → v .slotCount ≤ 2046
+unfolding sound
+few-at v k =
     by-test (λ (b : Bool). b ≡ false → v .slotCount ≤ 2046) (eqb k 0) (not (sound v)) (not (countFits v))
-    (λ z e. few-slots s p whole (not-false (sound v) e)) (λ z e. leb-true (v .slotCount) 2046 (not-false (countFits v) e))
+    (λ z e. ⊎-elim (λ f. omega (arith, eqb-true (v .slotCount) 0 f)) (λ t. fits (and-both (countFits v) _ t .0))
+    (or-true (fresh v) (passes soundTests v) (not-false (sound v) e)))
+    (λ z e. fits (not-false (countFits v) e))
+  where
+    fits : countFits v ≡ true → v .slotCount ≤ 2046
+    fits = leb-true (v .slotCount) 2046
 
 -- ---- one page
 

@@ -17,13 +17,19 @@ enum-known-s : tie.Need-enum-known-s
 enum-known-s c = search needs
 
 position-of-requires : tie.Need-position-of-requires
-position-of-requires c κs = let a = c .before .before .before in let h = fits (a .args .s) _ (c .before .s .given .1) (a .pre) in (h .page, h .slot)
+position-of-requires c κs =
+    let entry = c .before .before .before in
+    let h = fits (entry .args .s) _ (c .before .s .given .1) (entry .pre) in
+    (h .page, h .slot)
 
 enum-known-s-2 : tie.Need-enum-known-s-2
 enum-known-s-2 c = search needs
 
 without-record-requires : tie.Need-without-record-requires
-without-record-requires c κs = let a = c .before .before .before in let h = fits (a .args .s) _ (c .before .s2 .given .1) (a .pre) in (h .page, h .slot)
+without-record-requires c κs =
+    let entry = c .before .before .before in
+    let h = fits (entry .args .s) _ (c .before .s2 .given .1) (entry .pre) in
+    (h .page, h .slot)
 
 enum-told : tie.Need-enum-told
 enum-told c = search needs

@@ -17,8 +17,9 @@ reading-no-requires c κs = search needs
 
 returns : tie.Need-returns
 returns c =
-    let m = c .before .before in
-    rw (c .reading-no .ensures, m .offset-of .ensures, c .before .length-of .ensures) (m .before .find-record .ensures)
+    let length = c .before in
+    let offset = length .before in
+    rw (c .reading-no .ensures, offset .offset-of .ensures, length .length-of .ensures) (offset .before .find-record .ensures)
 
 pub hk-get-record-spec : {M : Type 1} → statement M
 hk-get-record-spec =

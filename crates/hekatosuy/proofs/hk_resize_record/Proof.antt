@@ -19,8 +19,9 @@ same-length-2 c = search needs
 
 returns : tie.Need-returns
 returns c =
-    let m = c .before .before .before .before .before in
-    rw (c .answer-no .ensures) (ap withoutId (m .resize-record .ensures))
+    let back = c .before .before in
+    let called = back .before .before .before in
+    rw (c .answer-no .ensures) (ap withoutId (called .resize-record .ensures))
 
 pub hk-resize-record-spec : {M : Type 1} → statement M
 hk-resize-record-spec =

@@ -15,16 +15,18 @@ scan-step-requires c κs = search needs
 
 hand-step-requires : tie.Need-hand-step-requires
 hand-step-requires c κs =
-    let a = c .before .before in
-    let s = now (a .args .segment) in
-    let p = a .args .position in
-    let h : pageNo p < 2 ^ 48 = omega (arith, a .fits .position .fits) in
-    let k : slotNo p < 65536 = omega arith in
-    λ xs. same-position (c .scan-step .result) s xs
-    (subst Positioned (sym (c .scan-step .ensures)) (positioned s (λ i. omega (arith, c .before .shared-slice-known .given i)) (pageNo p) (slotNo p) h k))
+    let entry = c .before .before in
+    let s = now (entry .args .segment) in
+    let p = entry .args .position in
+    let page : pageNo p < 2 ^ 48 = omega (arith, entry .fits .position .fits) in
+    let slot : slotNo p < 65536 = omega arith in
+    λ xs. same-position (c .scan-step .result) s xs (subst Positioned (sym (c .scan-step .ensures)) (positioned s (pageNo p) (slotNo p) page slot))
 
 returns : tie.Need-returns
-returns c = let m = c .before in c .hand-step .ensures (now (m .before .before .args .segment)) ∙ ap stepped (m .scan-step .ensures)
+returns c =
+    let found = c .before in
+    let entry = found .before .before in
+    c .hand-step .ensures (now (entry .args .segment)) ∙ ap stepped (found .scan-step .ensures)
 
 pub step-from-spec : {M : Type 1} → statement M
 step-from-spec = tie.close (tie.spec scan-step-requires hand-step-requires returns)

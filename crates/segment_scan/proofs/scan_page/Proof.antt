@@ -37,9 +37,7 @@ undamaged : (c : tie.Else1) → let n = c .before .before in damagedAt (page n) 
 undamaged c = sym (c .before .damaged-at .ensures) ∙ c .if1 .left
 
 few : (c : tie.Else1) → let a = entry (c .before .before) .args in Counted (now (a .segment)) (a .p)
-few c =
-    let e = entry (c .before .before) in
-    record { whole = e .pre .0; few = few-at (now (e .args .segment)) (e .args .p) (e .pre .0) (e .args .k) (undamaged c) }
+few c = let n = c .before .before in record { whole = entry n .pre .0; few = few-at (page n) (entry n .args .k) (undamaged c) }
 
 page-of-requires : tie.Need-page-of-requires
 page-of-requires c κs = search needs
