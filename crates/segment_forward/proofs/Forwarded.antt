@@ -1,5 +1,5 @@
 -- Forwarding: what the code did after the search is what the plan says.
-use Prim.Native.Nat.{ℕ, _+_, _*_, _/_, _^_, _≤_, _<_}
+use Prim.Native.Nat.{ℕ, _+_, _/_, _^_, _≤_, _<_}
 use mathlib.Core.Path.{_≡_, refl, sym, ap, _∙_}
 use mathlib.Core.Bool.{Bool, true, false, not, cond, _||_}
 use mathlib.Core.List.{List, [], _∷_, _++_}
@@ -11,10 +11,10 @@ use borrow.Author.Tests.{eqb-false, not-false}
 use types.Run.{OneOf}
 use denote.Enum.Declared.{tagOf}
 use Rattle.store.specs.Numbers.{toBE, idOf, pageNo, slotNo}
-use Rattle.store.specs.Page.{View, view, sound}
+use Rattle.store.specs.Page.{view, sound}
 use Rattle.store.specs.PageSteps.{Plan, Alloc, noRoom, got, allocate, erase, eraseForRedirect}
 use Rattle.store.specs.Inventory.{foundIn, update}
-use Rattle.store.specs.Segment.{segView, pageOf, OnPage, on, carriedOn, Result, result, Found, nowhere, found, taken, find, findOn, pointsBack}
+use Rattle.store.specs.Segment.{segView, pageOf, OnPage, on, carriedOn, Result, result, Found, nowhere, found, taken, find, findOn}
 use Rattle.store.specs.Segment.{forwarded, forwardedAgain}
 use Rattle.store.specs.Answers.{outcome, answerNo}
 use Rattle.store.specs.Laws.Lent.{Within, SoundOn, TakenOn}

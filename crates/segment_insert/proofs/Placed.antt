@@ -1,6 +1,6 @@
 -- Insert and allocate: what the code did is what the plan says.
 use Prim.Native.Nat.{ℕ, _+_, _*_, _/_, _≤_, _<_}
-use mathlib.Core.Path.{_≡_, refl, sym, ap, subst, _∙_}
+use mathlib.Core.Path.{_≡_, refl, sym, ap, _∙_}
 use mathlib.Core.Bool.{Bool, true, false, cond, _&&_}
 use mathlib.Core.List.{List, []}
 use lib.ListN.{length, length-replicate}
@@ -17,7 +17,6 @@ use Rattle.store.specs.Laws.Segments.{length-page}
 use Rattle.store.specs.Laws.Fit.{length-fit, fit-all, fit-none}
 use Rattle.store.specs.Laws.Relocate.{fill-exact}
 use Rattle.store.specs.Laws.Lent.{SoundOn}
-use Rattle.store.specs.Laws.Calls.{AllocOk, alloc-ok}
 use Rattle.store.specs.declared.Named.{Named}
 use Rattle.store.specs.declared.Named.the-variants.{At, Full}
 use Rattle.store.specs.declared.Answer.the-variants as answer
