@@ -3,13 +3,13 @@ mod map;
 
 use print::named;
 use print::say;
-use slotted_page_segment::Answer;
-use slotted_page_segment::Step;
+use store::Answer;
+use store::Step;
 
 fn insert_row(segment: &mut [u8], inventory: &mut [u8], y: usize) {
     let mut row = [0u8; 41];
     map::draw(&mut row, y);
-    let answer = slotted_page_segment::insert_record(segment, inventory, &row);
+    let answer = segment_insert::insert_record(segment, inventory, &row);
     let Answer::Done { id } = answer else {
         say(b"  the row was refused\n");
         return;
@@ -37,7 +37,7 @@ struct Position {
 }
 
 fn list_one(segment: &[u8], p: Position) -> Position {
-    let step = slotted_page_segment::scan_step(segment, p.page, p.slot);
+    let step = segment_scan::scan_step(segment, p.page, p.slot);
     let Step::Record {
         id,
         offset: _,
@@ -78,7 +78,7 @@ fn list(segment: &[u8]) {
 
 fn read(segment: &[u8], id: usize) {
     let mut answer: usize = 0;
-    let row = slotted_page_segment::get_record(segment, id, &mut answer);
+    let row = segment_read::get_record(segment, id, &mut answer);
     named(b"  answer ", answer as u64);
     if 0 < row.len() {
         say(b"  ");
@@ -88,7 +88,7 @@ fn read(segment: &[u8], id: usize) {
 }
 
 fn erase(segment: &mut [u8], inventory: &mut [u8], id: usize) {
-    let answer = slotted_page_segment::erase_record(segment, inventory, id);
+    let answer = segment_erase::erase_record(segment, inventory, id);
     if let Answer::Done { id: _ } = answer {
         say(b"  erased\n");
     } else {
