@@ -18,13 +18,14 @@ slot-after-requires c κs = search needs
 
 returns : tie.Need-returns
 returns c =
-    let m = c .before .before in
-    let s = now (m .before .before .args .segment) in
-    let e = m .scan-step .ensures in
+    let page = c .before in
+    let found = page .before in
+    let s = now (found .before .before .args .segment) in
+    let e = found .scan-step .ensures in
     record {
       step = e;
-      page = c .before .page-after .ensures ∙ page-of s (m .scan-step .result) ∙ ap (λ (d : Scanned). d .page) e;
-      slot = c .slot-after .ensures ∙ slot-of s (m .scan-step .result) ∙ ap (λ (d : Scanned). d .slot) e;
+      page = page .page-after .ensures ∙ page-of s (found .scan-step .result) ∙ ap (λ (d : Scanned). d .page) e;
+      slot = c .slot-after .ensures ∙ slot-of s (found .scan-step .result) ∙ ap (λ (d : Scanned). d .slot) e;
     }
 
 pub step-from-spec : {M : Type 1} → statement M
