@@ -1,5 +1,5 @@
 -- Forwarding: what the code did after the search is what the plan says.
-use Prim.Native.Nat.{ℕ, _+_, _*_, _/_, _^_, _≤_, _<_}
+use Prim.Native.Nat.{ℕ, _+_, _/_, _^_, _≤_, _<_}
 use mathlib.Core.Path.{_≡_, refl, sym, ap, _∙_}
 use mathlib.Core.Bool.{Bool, true, false, not, cond, _||_}
 use mathlib.Core.List.{List, [], _∷_, _++_}
@@ -11,12 +11,13 @@ use borrow.Author.Tests.{eqb-false, not-false}
 use types.Run.{OneOf}
 use denote.Enum.Declared.{tagOf}
 use Rattle.store.specs.Numbers.{toBE, idOf, pageNo, slotNo}
-use Rattle.store.specs.Page.{View, view, sound}
+use Rattle.store.specs.Page.{view, sound}
 use Rattle.store.specs.PageSteps.{Plan, Alloc, noRoom, got, allocate, erase, eraseForRedirect}
 use Rattle.store.specs.Inventory.{foundIn, update}
-use Rattle.store.specs.Segment.{segView, pageOf, OnPage, on, carriedOn, Result, result, Found, nowhere, found, taken, find, findOn, pointsBack}
+use Rattle.store.specs.Segment.{segView, pageOf, OnPage, on, carriedOn, Result, result, Found, nowhere, found, taken, find, findOn}
 use Rattle.store.specs.Segment.{forwarded, forwardedAgain}
 use Rattle.store.specs.Answers.{outcome, answerNo}
+use Rattle.store.specs.Laws.Lent.{Within, SoundOn, TakenOn}
 use Rattle.store.specs.Laws.Segments.{ExactOn}
 use Rattle.store.specs.Laws.Calls.{by-test, NamedOk, named-ok}
 use Rattle.store.specs.Laws.SoundSegment.{seen-pages}
@@ -27,11 +28,12 @@ use Rattle.store.specs.declared.Answer.{Answer}
 use Rattle.store.specs.declared.Answer.the-variants as answer
 use Rattle.store.proofs.Answer as answers
 use Rattle.slotted_page.specs.Words.{targetPlan, redirectPlan}
-use Rattle.segment_steps.proofs.After.{Took, took-length, Left, left-own, left-other, other-seen, next-took, target-on-page, small-id}
+use Rattle.segment_steps.proofs.After.{Took, took-length, left-own, left-other, next-took, third-took, target-on-page, small-id}
 use Rattle.segment_steps.proofs.After.{for-redirect-on-page, redirect-on-page, target-length}
-use Rattle.segment_forward.specs.Words.{rootOrOld, newTarget}
-use Rattle.segment_forward.proofs.Steps.{Asks, asks-still, exact-still, two-length, first-left, two-swapped, three-swapped, told-both, clash}
-use Rattle.segment_forward.proofs.Steps.{oldStep, old-away, old-asks, old-exact}
+use Rattle.segment_pages.proofs.Root.{root-sound}
+use Rattle.segment_forward.specs.Words.{Follows, rootOrOld, newTarget}
+use Rattle.segment_forward.proofs.Steps.{taken-still, two-length, first-left, two-swapped, three-swapped, BothLeft, told-both}
+use Rattle.segment_forward.proofs.Steps.{oldStep, old-away, old-taken, old-exact}
 use Rattle.segment_forward.proofs.Search.{got-small, placing}
 
 -- ---- what the search answered: refused, or a target at k
@@ -55,7 +57,7 @@ not-done answer.Stale h = omega arith
 -- what is known of a page found; a refusal has a number
 abbrev FoundBy : List ℕ → ℕ → (ℕ → Bool) → Found → Type 0
 FoundBy s m ex (nowhere a) = 0 < a
-FoundBy s m ex (found q j a) = (q * 16384 + 16384 ≤ length s) × (sound (segView s .page q) ≡ true) × (ex q ≡ false) × (allocate (segView s .page q) m ≡ got j a)
+FoundBy s m ex (found q j a) = SoundOn s q × (ex q ≡ false) × (allocate (segView s .page q) m ≡ got j a)
 
 found-by : (s v : List ℕ) (m : ℕ) (ex : ℕ → Bool) → FoundBy s m ex (find foundIn (segView s) v m ex)
 unfolding find
@@ -71,13 +73,13 @@ found-by s v m ex = go (foundIn v (segView s .pages) (m + 8)) (named-ok v (segVi
       where
         at-place : (a : Alloc) → allocate (segView s .page p) m ≡ a → sound (segView s .page p) ≡ true → ex p ≡ false → FoundBy s m ex (taken p a)
         at-place noRoom e f x = omega arith
-        at-place (got k a) e f x = (omega (arith, seen-pages s, h), f, x, e)
+        at-place (got k a) e f x = (record { whole = omega (arith, seen-pages s, h); sound = f }, x, e)
 
 -- the target is at k, and its page step left t
 pub record Placed (s : List ℕ) (i : ℕ) (bs : List ℕ) (ex : ℕ → Bool) (f : Found) (k : ℕ) (t : List ℕ) : Type 0 where
   pub plan : Plan
   pub is : f ≡ found (pageNo k) (slotNo k) plan
-  pub fits : pageNo k * 16384 + 16384 ≤ length s
+  pub whole : Within s (pageNo k)
   pub took : Took s (on (pageNo k) (targetPlan (slotNo k) plan (toBE 8 i ++ bs))) t
   pub away : ex (pageNo k) ≡ false
   pub small : k < 2 ^ 62
@@ -107,20 +109,19 @@ module _ (s v : List ℕ) (i n : ℕ) (bs : List ℕ) (t : List ℕ) where
       go (found q j a) o e =
           let ek : k ≡ idOf q j = ap (λ (r : Result). r .id) e in
           let et : t ≡ carriedOn (on q (targetPlan j a (toBE 8 i ++ bs))) s = ap (λ (r : Result). r .seg) e in
-          let l = got-small s q (o .0) (o .1) (n + 8) j a (o .3) in
+          let l = got-small s q (o .0) (n + 8) j a (o .2) in
           let p : pageNo k ≡ q = omega (arith, ek, l) in
           let m : slotNo k ≡ j = omega (arith, ek, l) in
           record {
             plan = a;
             is = rw (p, m);
-            fits = rw p (o .0);
+            whole = rw p (o .0 .whole);
             took = rw (p, m) (record {
-              exact =
-                  target-on-page s q (o .0) (o .1) (n + 8) j a (o .3) (omega arith) (toBE 8 i ++ bs) (target-length i bs n size);
+              exact = target-on-page s q (o .0) (n + 8) j a (o .2) (omega arith) (toBE 8 i ++ bs) (target-length i bs n size);
               is = et;
             });
-            away = rw p (o .2);
-            small = omega (arith, ek, small-id s q (o .0) (o .1) (n + 8) j a (o .3) few);
+            away = rw p (o .1);
+            small = omega (arith, ek, small-id s q (o .0) (n + 8) j a (o .2) few);
           }
 
 -- ---- done: the new target's page is written first, since the root's slot names its slot
@@ -138,45 +139,47 @@ module _ (s : List ℕ) (i : ℕ) (bs : List ℕ) (j : ℕ) (f : Found) (k : ℕ
   others = apart (eqb (pageNo k) (pageNo i)) (eqb (pageNo k) (pageNo j)) refl refl (o .away)
     where
       apart : (a b : Bool) → eqb (pageNo k) (pageNo i) ≡ a → eqb (pageNo k) (pageNo j) ≡ b → (a || b) ≡ false → (pageNo i ≢ pageNo k) × (pageNo j ≢ pageNo k)
-      apart true b x y z = clash true refl z
+      apart true b x y z = let c : _≡_ {A = ℕ} 0 1 = cc in absurd (omega arith)
       apart false b x y z = (λ e. eqb-false (pageNo k) (pageNo i) x (sym e), λ e. eqb-false (pageNo k) (pageNo j) (y ∙ z) (sym e))
 
   pub placed-id : idOf (pageNo k) (slotNo k) < 2 ^ 62
   placed-id = omega (arith, o .small)
 
-  pub root-asks : Asks s (pageNo i) (slotNo i) → Asks t (pageNo i) (slotNo i)
-  root-asks = asks-still s newStep t (o .took) (pageNo i) (others .0) (slotNo i)
+  pub root-asks : TakenOn s (pageNo i) (slotNo i) → TakenOn t (pageNo i) (slotNo i)
+  root-asks = taken-still s newStep t (o .took) (pageNo i) (others .0) (slotNo i)
 
   -- the first forwarding: the root's step left r
-  module _ (asks : Asks s (pageNo i) (slotNo i)) (r : List ℕ)
+  module _ (taken : TakenOn s (pageNo i) (slotNo i)) (r : List ℕ)
       (er : r ≡ carriedOn (on (pageNo i) (eraseForRedirect (segView t .page (pageNo i)) (slotNo i) k)) t) where
     abbrev pub rootStep : OnPage
     rootStep = on (pageNo i) (eraseForRedirect (segView s .page (pageNo i)) (slotNo i) (idOf (pageNo k) (slotNo k)))
 
     root-exact : ExactOn s rootStep
-    root-exact = for-redirect-on-page s (pageNo i) (slotNo i) (asks .0) (asks .1) (asks .2) (idOf (pageNo k) (slotNo k)) placed-id
+    root-exact = for-redirect-on-page s (pageNo i) (slotNo i) taken (idOf (pageNo k) (slotNo k)) placed-id
 
     root-took : Took t rootStep r
     root-took =
         next-took s newStep t (o .took) (pageNo i) (others .0) (λ u. eraseForRedirect u (slotNo i) (idOf (pageNo k) (slotNo k))) root-exact r
         (er ∙ ap (λ (m : ℕ). carriedOn (on (pageNo i) (eraseForRedirect (segView t .page (pageNo i)) (slotNo i) m)) t) (whole-id k))
 
-    pub forward-length : length r ≡ length s
-    forward-length = two-length s newStep rootStep t r (o .took) root-took (others .0)
-
-    pub root-left : Left r (pageNo i) (rootStep .plan .after)
-    root-left = left-own t rootStep r root-took
-
-    pub new-left : Left r (pageNo k) (newStep .plan .after)
-    new-left = first-left s newStep rootStep t r (o .took) root-took (others .0)
+    pub forward-left : BothLeft s r (pageNo i) (pageNo k)
+    forward-left =
+        record {
+          long = two-length s newStep rootStep t r (o .took) root-took (others .0);
+          within = (taken .whole, o .whole);
+          one = rootStep .plan .after;
+          first = left-own t rootStep r root-took;
+          two = newStep .plan .after;
+          second = first-left s newStep rootStep t r (o .took) root-took (others .0);
+        }
 
     pub forward-done : (v : List ℕ) (n : ℕ) (w y : List ℕ) → w ≡ update v (length r / 16384) (pageNo i) (view (pageOf r (pageNo i)) .freeSpace)
         → y ≡ update w (length r / 16384) (pageNo k) (view (pageOf r (pageNo k)) .freeSpace)
         → outcome (answer.Done i) r y ≡ result s (forwarded (segView s) v i n (λ b. bs) [] f)
-    unfolding result
+    unfolding result forward-left
     forward-done v n w y ew ey =
         let h = two-swapped s newStep rootStep t r (o .took) root-took (others .0) root-exact in
-        let g = told-both s v r forward-length (pageNo i) (rootStep .plan .after) root-left (pageNo k) (newStep .plan .after) new-left w y ew ey in
+        let g = told-both s v r (pageNo i) (pageNo k) forward-left w y ew ey in
         let d : outcome (answer.Done i) r y ≡ result s (forwarded (segView s) v i n (λ b. bs) [] (found (pageNo k) (slotNo k) (o .plan))) =
         λ z. record { answer = 0; id = i; seg = h z; inv = g z } in
         d ∙ ap (λ (x : Found). result s (forwarded (segView s) v i n (λ b. bs) [] x)) (sym (o .is))
@@ -184,9 +187,7 @@ module _ (s : List ℕ) (i : ℕ) (bs : List ℕ) (j : ℕ) (f : Found) (k : ℕ
 -- ---- the second forwarding: the root's entry names the new target, which left r
 
 module _ (s : List ℕ) (i : ℕ) (bs : List ℕ) (j : ℕ) (f : Found) (k : ℕ) (t : List ℕ) (o : Placed s i bs (rootOrOld i j) f k t)
-    (fits : pageNo i * 16384 + 16384 ≤ length s) (ok : sound (segView s .page (pageNo i)) ≡ true)
-    (here : segView s .page (pageNo i) .at (slotNo i) ≡ Redirect j)
-    (back : pointsBack (segView s) i j ≡ true) (r : List ℕ)
+    (follows : Follows s i j) (r : List ℕ)
     (er : r ≡ carriedOn (on (pageNo i) (redirectPlan (segView t .page (pageNo i)) (slotNo i) k)) t) where
   abbrev freshStep : OnPage
   freshStep = newStep s i bs j f k t o
@@ -194,11 +195,19 @@ module _ (s : List ℕ) (i : ℕ) (bs : List ℕ) (j : ℕ) (f : Found) (k : ℕ
   abbrev entryStep : OnPage
   entryStep = on (pageNo i) (redirectPlan (segView s .page (pageNo i)) (slotNo i) (idOf (pageNo k) (slotNo k)))
 
+  abbrev old : OnPage
+  old = oldStep s i j (follows .back)
+
   apart : (pageNo i ≢ pageNo k) × (pageNo j ≢ pageNo k)
   apart = others s i bs j f k t o
 
+  off-root : pageNo j ≢ pageNo i
+  off-root = old-away s i j (follows .back)
+
   entry-exact : ExactOn s entryStep
-  entry-exact = redirect-on-page s (pageNo i) (slotNo i) fits ok j here (idOf (pageNo k) (slotNo k)) (placed-id s i bs j f k t o)
+  entry-exact =
+      redirect-on-page s (pageNo i) (slotNo i) (root-sound s i (Redirect j) (follows .root)) j (follows .root .entry)
+      (idOf (pageNo k) (slotNo k)) (placed-id s i bs j f k t o)
 
   entry-took : Took t entryStep r
   entry-took =
@@ -206,43 +215,38 @@ module _ (s : List ℕ) (i : ℕ) (bs : List ℕ) (j : ℕ) (f : Found) (k : ℕ
       (er ∙ ap (λ (m : ℕ). carriedOn (on (pageNo i) (redirectPlan (segView t .page (pageNo i)) (slotNo i) m)) t) (whole-id k))
 
   -- neither step touched the old target's page
-  pub again-asks : Asks r (pageNo j) (slotNo j)
+  pub again-asks : TakenOn r (pageNo j) (slotNo j)
   again-asks =
-      asks-still t entryStep r entry-took (pageNo j) (old-away s i j back) (slotNo j)
-      (asks-still s freshStep t (o .took) (pageNo j) (apart .1) (slotNo j) (old-asks s i j back))
+      taken-still t entryStep r entry-took (pageNo j) off-root (slotNo j)
+      (taken-still s freshStep t (o .took) (pageNo j) (apart .1) (slotNo j) (old-taken s i j (follows .back)))
 
   -- the old one is freed, which leaves q
   module _ (q : List ℕ) (eq : q ≡ carriedOn (on (pageNo j) (erase (segView r .page (pageNo j)) (slotNo j))) r) where
-    freed : Took r (oldStep s i j back) q
+    freed : Took r old q
     freed =
+        third-took s freshStep t (o .took) entryStep r entry-took (pageNo j) (apart .1) off-root (λ u. erase u (slotNo j))
+        (old-exact s i j (follows .back)) q eq
+
+    pub again-left : BothLeft s q (pageNo j) (pageNo k)
+    again-left =
         record {
-          exact = exact-still t entryStep r entry-took (pageNo j) (old-away s i j back) (oldStep s i j back .plan)
-              (exact-still s freshStep t (o .took) (pageNo j) (apart .1) (oldStep s i j back .plan) (old-exact s i j back));
-          is = eq
-              ∙ ap (λ (u : View). carriedOn (on (pageNo j) (erase u (slotNo j))) r)
-              (other-seen t entryStep r entry-took (pageNo j) (old-away s i j back) ∙ other-seen s freshStep t (o .took) (pageNo j) (apart .1));
+          long = took-length r old q freed ∙ two-length s freshStep entryStep t r (o .took) entry-took (apart .0);
+          within = (old-taken s i j (follows .back) .whole, o .whole);
+          one = old .plan .after;
+          first = left-own r old q freed;
+          two = freshStep .plan .after;
+          second = left-other r old q freed (pageNo k) (λ e. apart .1 (sym e)) (freshStep .plan .after)
+              (first-left s freshStep entryStep t r (o .took) entry-took (apart .0));
         }
-
-    pub again-length : length q ≡ length s
-    again-length = took-length r (oldStep s i j back) q freed ∙ two-length s freshStep entryStep t r (o .took) entry-took (apart .0)
-
-    pub again-old-left : Left q (pageNo j) (oldStep s i j back .plan .after)
-    again-old-left = left-own r (oldStep s i j back) q freed
-
-    pub again-new-left : Left q (pageNo k) (freshStep .plan .after)
-    again-new-left =
-        left-other r (oldStep s i j back) q freed (pageNo k) (λ e. apart .1 (sym e)) (freshStep .plan .after)
-        (first-left s freshStep entryStep t r (o .took) entry-took (apart .0))
 
     pub again-done : (v : List ℕ) (n : ℕ) (w y : List ℕ) → w ≡ update v (length q / 16384) (pageNo j) (view (pageOf q (pageNo j)) .freeSpace)
         → y ≡ update w (length q / 16384) (pageNo k) (view (pageOf q (pageNo k)) .freeSpace)
         → outcome (answer.Done i) q y ≡ result s (forwardedAgain (segView s) v i n (λ b. bs) j [] f)
-    unfolding result
+    unfolding result again-left
     again-done v n w y ew ey =
-        let h = three-swapped s freshStep entryStep t r (o .took) entry-took (apart .0) entry-exact (oldStep s i j back) q freed
-        (old-exact s i j back) (apart .1) (old-away s i j back) in
-        let g = told-both s v q again-length (pageNo j) (oldStep s i j back .plan .after) again-old-left (pageNo k)
-        (freshStep .plan .after) again-new-left w y ew ey in
+        let h = three-swapped s freshStep entryStep t r (o .took) entry-took (apart .0) entry-exact old q freed
+        (old-exact s i j (follows .back)) (apart .1) off-root in
+        let g = told-both s v q (pageNo j) (pageNo k) again-left w y ew ey in
         let d : outcome (answer.Done i) q y ≡ result s (forwardedAgain (segView s) v i n (λ b. bs) j [] (found (pageNo k) (slotNo k) (o .plan))) =
         λ z. record { answer = 0; id = i; seg = h z; inv = g z } in
         d ∙ ap (λ (x : Found). result s (forwardedAgain (segView s) v i n (λ b. bs) j [] x)) (sym (o .is))

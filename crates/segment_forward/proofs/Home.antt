@@ -1,68 +1,90 @@
 -- "Moving home frees the target": what the code did is what the plan says.
-use Prim.Native.Nat.{ℕ, _+_, _*_, _/_, _≤_}
-use mathlib.Core.Path.{_≡_, sym, ap, _∙_}
-use mathlib.Core.Bool.{true, false}
+use Prim.Native.Nat.{ℕ, _*_, _/_, _≤_, _<_}
+use mathlib.Core.Path.{_≡_, refl, sym, ap, _∙_}
+use mathlib.Core.Bool.{cond}
 use mathlib.Core.List.{List, [], _∷_}
 use lib.ListN.{length}
+use lib.Dec.{ltb, leb}
+use borrow.Author.Tests.{le-leb, lt-leb, le-ltb, lt-ltb}
+use native.Mathlib.Decide.{decLe}
+use native.Mathlib.Omega.{arith}
 use Rattle.store.specs.Numbers.{put, pageNo, slotNo}
-use Rattle.store.specs.Slots.{isFree, isTarget}
-use Rattle.store.specs.Page.{view, sound}
-use Rattle.store.specs.PageSteps.{erase, filled, Relocated, moved, relocate}
-use Rattle.store.specs.Inventory.{update}
-use Rattle.store.specs.Inventory.{foundIn}
-use Rattle.store.specs.Segment.{segView, pageOf, OnPage, on, carriedOn, carried, result, pointsBack, atHome}
+use Rattle.store.specs.Slots.{isTarget}
+use Rattle.store.specs.Page.{View, view}
+use Rattle.store.specs.PageSteps.{Plan, erase, filled, Relocated, refused, moved, relocate, relocateBy}
+use Rattle.store.specs.Inventory.{update, foundIn}
+use Rattle.store.specs.Segment.{segView, pageOf, OnPage, on, carriedOn, carried, result, atHome}
 use Rattle.store.specs.Answers.{outcome}
+use Rattle.store.specs.Laws.Lent.{TakenOn}
+use Rattle.store.specs.declared.Slot.{Slot}
 use Rattle.store.specs.declared.Slot.the-variants.{Redirect}
 use Rattle.store.specs.declared.Answer.the-variants as answer
 use Rattle.slotted_page.specs.Words.{pageMoved, wasMoved, refilled}
-use Rattle.segment_steps.proofs.After.{Took, Left, left-own, next-took, MovedTo, moved-to, not-moved, took-filled, refused-same, no-target}
-use Rattle.segment_forward.proofs.Steps.{Asks, asks-still, two-length, first-left, told-both, oldStep, old-away, old-asks, old-exact}
+use Rattle.segment_pages.proofs.Root.{root-taken}
+use Rattle.segment_steps.proofs.After.{Took, left-own, next-took, MovedTo, moved-to, took-filled, no-target}
+use Rattle.segment_forward.specs.Words.{Follows}
+use Rattle.segment_forward.proofs.Steps.{taken-still, two-length, first-left, BothLeft, told-both, oldStep, old-away, old-taken, old-exact}
 
--- t is what the step on the root's page left
-module _ (s : List ℕ) (i n : ℕ) (bs : List ℕ) (j : ℕ) (fits : pageNo i * 16384 + 16384 ≤ length s) (t : List ℕ)
+-- "From a redirect: needs the full size free"
+fits-so : (free n : ℕ) (a : Plan) → wasMoved (cond (ltb free n) refused (moved a)) ≡ leb n free
+fits-so free n a = go (decLe n free)
+  where
+    go : Dec (n ≤ free) → wasMoved (cond (ltb free n) refused (moved a)) ≡ leb n free
+    go (yes h) = rw (le-ltb free n h, le-leb n free h)
+    go (no h) = let l : free < n = omega arith in rw (lt-ltb free n l, lt-leb n free l)
+
+pub home-is : (v : View) (k n j : ℕ) → v .at k ≡ Redirect j → wasMoved (relocate v k n) ≡ leb n (v .freeSpace)
+unfolding relocate
+home-is v k n j here = ap (λ (x : Slot). wasMoved (relocateBy x v k n)) here ∙ fits-so (v .freeSpace) n _
+
+-- t is what the step on the root's page left, where there is room
+module _ (s : List ℕ) (i n : ℕ) (bs : List ℕ) (j : ℕ) (h : Follows s i j) (room : n ≤ segView s .page (pageNo i) .freeSpace) (size : length bs ≡ n)
+    (t : List ℕ)
     (et : t ≡ put s (pageNo i * 16384) (pageMoved (refilled (relocate (segView s .page (pageNo i)) (slotNo i) n) (slotNo i) bs) (pageOf s (pageNo i)))) where
-  pub home-stays : wasMoved (relocate (segView s .page (pageNo i)) (slotNo i) n) ≡ false → t ≡ s
-  home-stays e = refused-same s (pageNo i) fits t (slotNo i) n (not-moved (relocate (segView s .page (pageNo i)) (slotNo i) n) e) bs et
+  abbrev root : View
+  root = segView s .page (pageNo i)
 
-  module _ (ok : sound (segView s .page (pageNo i)) ≡ true) (here : segView s .page (pageNo i) .at (slotNo i) ≡ Redirect j)
-      (back : pointsBack (segView s) i j ≡ true)
-      (size : length bs ≡ n) (went : wasMoved (relocate (segView s .page (pageNo i)) (slotNo i) n) ≡ true) where
-    pub home : MovedTo (relocate (segView s .page (pageNo i)) (slotNo i) n)
-    home = moved-to (relocate (segView s .page (pageNo i)) (slotNo i) n) went
+  home : MovedTo (relocate root (slotNo i) n)
+  home = moved-to (relocate root (slotNo i) n) (home-is root (slotNo i) n j (h .root .entry) ∙ le-leb n (root .freeSpace) room)
 
-    abbrev homeStep : OnPage
-    homeStep = on (pageNo i) (filled (home .to) (slotNo i) bs)
+  abbrev homeStep : OnPage
+  homeStep = on (pageNo i) (filled (home .to) (slotNo i) bs)
 
-    home-took : Took s homeStep t
-    home-took =
-        took-filled s (pageNo i) (slotNo i) fits ok (ap isFree here) n (no-target (segView s .page (pageNo i) .at (slotNo i)) n (ap isTarget here))
-        (home .to) (home .is) bs size t et
+  home-took : Took s homeStep t
+  home-took =
+      took-filled s (pageNo i) (slotNo i) (root-taken s i (Redirect j) (h .root) refl) n
+      (no-target (root .at (slotNo i)) n (ap isTarget (h .root .entry))) (home .to) (home .is) bs size t et
 
-    pub home-asks : Asks t (pageNo j) (slotNo j)
-    home-asks = asks-still s homeStep t home-took (pageNo j) (old-away s i j back) (slotNo j) (old-asks s i j back)
+  pub home-asks : TakenOn t (pageNo j) (slotNo j)
+  home-asks = taken-still s homeStep t home-took (pageNo j) (old-away s i j (h .back)) (slotNo j) (old-taken s i j (h .back))
 
-    -- the target is freed, which leaves r
-    module _ (r : List ℕ) (er : r ≡ carriedOn (on (pageNo j) (erase (segView t .page (pageNo j)) (slotNo j))) t) where
-      left-behind : Took t (oldStep s i j back) r
-      left-behind = next-took s homeStep t home-took (pageNo j) (old-away s i j back) (λ u. erase u (slotNo j)) (old-exact s i j back) r er
+  -- the target is freed, which leaves r
+  module _ (r : List ℕ) (er : r ≡ carriedOn (on (pageNo j) (erase (segView t .page (pageNo j)) (slotNo j))) t) where
+    abbrev old : OnPage
+    old = oldStep s i j (h .back)
 
-      pub home-length : length r ≡ length s
-      home-length = two-length s homeStep (oldStep s i j back) t r home-took left-behind (old-away s i j back)
+    left-behind : Took t old r
+    left-behind =
+        next-took s homeStep t home-took (pageNo j) (old-away s i j (h .back)) (λ u. erase u (slotNo j)) (old-exact s i j (h .back)) r er
 
-      pub home-left : Left r (pageNo i) (homeStep .plan .after)
-      home-left = first-left s homeStep (oldStep s i j back) t r home-took left-behind (old-away s i j back)
+    pub home-left : BothLeft s r (pageNo i) (pageNo j)
+    home-left =
+        record {
+          long = two-length s homeStep old t r home-took left-behind (old-away s i j (h .back));
+          within = (h .root .whole, old-taken s i j (h .back) .whole);
+          one = homeStep .plan .after;
+          first = first-left s homeStep old t r home-took left-behind (old-away s i j (h .back));
+          two = old .plan .after;
+          second = left-own t old r left-behind;
+        }
 
-      pub home-old-left : Left r (pageNo j) (oldStep s i j back .plan .after)
-      home-old-left = left-own t (oldStep s i j back) r left-behind
-
-      pub home-done : (v w y : List ℕ) → w ≡ update v (length r / 16384) (pageNo i) (view (pageOf r (pageNo i)) .freeSpace)
-          → y ≡ update w (length r / 16384) (pageNo j) (view (pageOf r (pageNo j)) .freeSpace)
-          → outcome (answer.Done i) r y ≡ result s (atHome foundIn (segView s) v i n (λ b. bs) j [] (relocate (segView s .page (pageNo i)) (slotNo i) n))
-      unfolding result
-      home-done v w y ew ey =
-          let h : r ≡ carried (homeStep ∷ oldStep s i j back ∷ []) s = left-behind .is ∙ ap (carriedOn (oldStep s i j back)) (home-took .is) in
-          let g = told-both s v r home-length (pageNo i) (homeStep .plan .after) home-left (pageNo j)
-          (oldStep s i j back .plan .after) home-old-left w y ew ey in
-          let d : outcome (answer.Done i) r y ≡ result s (atHome foundIn (segView s) v i n (λ b. bs) j [] (moved (home .to))) =
-          λ z. record { answer = 0; id = i; seg = h z; inv = g z } in
-          d ∙ ap (λ (x : Relocated). result s (atHome foundIn (segView s) v i n (λ b. bs) j [] x)) (sym (home .is))
+    pub home-done : (v w y : List ℕ) → w ≡ update v (length r / 16384) (pageNo i) (view (pageOf r (pageNo i)) .freeSpace)
+        → y ≡ update w (length r / 16384) (pageNo j) (view (pageOf r (pageNo j)) .freeSpace)
+        → outcome (answer.Done i) r y ≡ result s (atHome foundIn (segView s) v i n (λ b. bs) j [] (relocate root (slotNo i) n))
+    unfolding result home-left
+    home-done v w y ew ey =
+        let e : r ≡ carried (homeStep ∷ old ∷ []) s = left-behind .is ∙ ap (carriedOn old) (home-took .is) in
+        let g = told-both s v r (pageNo i) (pageNo j) home-left w y ew ey in
+        let d : outcome (answer.Done i) r y ≡ result s (atHome foundIn (segView s) v i n (λ b. bs) j [] (moved (home .to))) =
+        λ z. record { answer = 0; id = i; seg = e z; inv = g z } in
+        d ∙ ap (λ (x : Relocated). result s (atHome foundIn (segView s) v i n (λ b. bs) j [] x)) (sym (home .is))

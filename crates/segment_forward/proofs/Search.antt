@@ -14,6 +14,7 @@ use Rattle.store.specs.PageSteps.{Plan, Alloc, noRoom, got, allocate}
 use Rattle.store.specs.Inventory.{foundIn, entryAt, entryFor}
 use Rattle.store.specs.Segment.{segView, pageOf, Result, result, taken, find, findOn}
 use Rattle.store.specs.Answers.{outcome}
+use Rattle.store.specs.Laws.Lent.{Within, SoundOn}
 use Rattle.store.specs.Laws.Segments.{length-page}
 use Rattle.store.specs.Laws.Calls.{by-test, NamedOk, named-ok, AllocOk, alloc-ok}
 use Rattle.store.specs.Laws.SoundSegment.{seen-pages}
@@ -39,18 +40,18 @@ need-ok v n need =
     by-test (NeedOk need) (ltb 16372 need) Full (cond (ltb e n) (At e) Full) (λ t. tt)
     (λ t. by-test (NeedOk need) (ltb e n) (At e) Full (λ l. ltb-false 16372 need t) (λ l. tt))
 
-module _ (s : List ℕ) (p : ℕ) (fits : p * 16384 + 16384 ≤ length s) (ok : sound (segView s .page p) ≡ true) (m k : ℕ) where
+module _ (s : List ℕ) (p : ℕ) (h : SoundOn s p) (m k : ℕ) where
   pub got-small : (a : Plan) → allocate (segView s .page p) m ≡ got k a → k < 65536
   unfolding segView
   got-small a e =
-      let o : AllocOk (pageOf s p) m (got k a) = subst (AllocOk (pageOf s p) m) e (alloc-ok (pageOf s p) m (length-page s p fits) ok) in
+      let o : AllocOk (pageOf s p) m (got k a) = subst (AllocOk (pageOf s p) m) e (alloc-ok (pageOf s p) m (length-page s p (h .whole)) (h .sound)) in
       omega (arith, o .1, o .0 .sound .few)
 
   pub slot-small : (o : ℕ) → placeOf (allocate (segView s .page p) m) ≡ place.At k o → k < 65536
   slot-small o e = let x = got-at (allocate (segView s .page p) m) k o e in got-small (x .to) (x .is)
 
 module _ (s v : List ℕ) (n p : ℕ) (named : foundIn v (length s / 16384) (n + 16) ≡ At p) where
-  pub named-fits : p * 16384 + 16384 ≤ length s
+  pub named-fits : Within s p
   named-fits = let h = subst (NamedOk (length s / 16384)) named (named-ok v (length s / 16384) (n + 16)) in omega arith
 
   pub named-short : n ≤ 16356

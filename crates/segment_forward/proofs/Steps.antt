@@ -1,7 +1,7 @@
 -- Steps on several pages, taken in the code's order, and what the inventory is told of them.
-use Prim.Native.Nat.{ℕ, _+_, _*_, _/_, _≤_}
-use mathlib.Core.Path.{_≡_, sym, ap, subst, _∙_}
-use mathlib.Core.Bool.{Bool, true, false}
+use Prim.Native.Nat.{ℕ, _/_, _≤_}
+use mathlib.Core.Path.{_≡_, refl, sym, ap, _∙_}
+use mathlib.Core.Bool.{true, false}
 use mathlib.Core.List.{List, [], _∷_}
 use mathlib.Core.Logic.{_≢_}
 use native.Mathlib.Omega.{arith}
@@ -9,39 +9,27 @@ use lib.ListN.{length}
 use Rattle.store.specs.Numbers.{pageNo, slotNo}
 use Rattle.store.specs.Slots.{isFree}
 use Rattle.store.specs.Page.{View, view, sound}
-use Rattle.store.specs.PageSteps.{Plan, erase}
+use Rattle.store.specs.PageSteps.{erase}
 use Rattle.store.specs.Inventory.{update, Room}
 use Rattle.store.specs.Segment.{segView, pageOf, OnPage, on, carriedOn, carried, pointsBack}
-use Rattle.store.specs.Laws.SoundPage.{sound-test}
+use Rattle.store.specs.Laws.Lent.{Within, TakenOn}
 use Rattle.store.specs.Laws.Segments.{ExactOn, exact-skip}
-use Rattle.store.specs.Laws.Calls.{back-ok, target-taken}
+use Rattle.store.specs.Laws.Calls.{back-ok}
+use Rattle.segment_pages.proofs.Root.{back-taken}
 use Rattle.segment_steps.specs.Words.{Sizes}
 use Rattle.segment_steps.proofs.After.{sizes-room, Took, took-length, Left, left-own, left-other, left-room, left-update, still, carried-swap}
 use Rattle.segment_steps.proofs.After.{erase-on-page}
 
-pub clash : {A : Type 0} (b : Bool) → b ≡ true → b ≡ false → A
-clash b x y = let z : _≡_ {A = ℕ} 0 1 = cc in absurd (omega arith)
-
--- an answer r, that is x and turned out to be b
-pub told-so : (r x b : Bool) → r ≡ x → r ≡ b → x ≡ b
-told-so r x b e f = sym e ∙ f
-
--- what a step asks of slot k of page p
-abbrev pub Asks : List ℕ → ℕ → ℕ → Type 0
-Asks s p k = (p * 16384 + 16384 ≤ length s) × (sound (segView s .page p) ≡ true) × (isFree (segView s .page p .at k) ≡ false)
-
 -- ---- after one step, on another page
 
 module _ (s : List ℕ) (e : OnPage) (t : List ℕ) (x : Took s e t) (p : ℕ) (away : p ≢ e .on) where
-  pub asks-still : (k : ℕ) → Asks s p k → Asks t p k
-  asks-still k h = (
-    omega (arith, took-length s e t x, h .0),
-    still s e t x p away (λ u. sound u ≡ true) (h .1),
-    still s e t x p away (λ u. isFree (u .at k) ≡ false) (h .2),
-  )
-
-  pub exact-still : (a : Plan) → ExactOn s (on p a) → ExactOn t (on p a)
-  exact-still a y = subst (λ (l : List ℕ). ExactOn l (on p a)) (sym (x .is)) (exact-skip s e (on p a) (x .exact) y away)
+  pub taken-still : (k : ℕ) → TakenOn s p k → TakenOn t p k
+  taken-still k h =
+      record {
+        whole = omega (arith, took-length s e t x, h .whole);
+        sound = still s e t x p away (λ u. sound u ≡ true) (h .sound);
+        taken = still s e t x p away (λ u. isFree (u .at k) ≡ false) (h .taken);
+      }
 
 -- ---- two steps: e, then g on another page
 
@@ -65,20 +53,29 @@ module _ (s : List ℕ) (e g : OnPage) (t r : List ℕ) (x : Took s e t) (z : To
           ∙ ap (carriedOn h) two-swapped
           ∙ carried-swap (carriedOn g s) e h (exact-skip s g e y (x .exact) (λ c. away (sym c))) (exact-skip s g h y yh off-second) off-first
 
--- ---- the inventory
+-- ---- the inventory: told of page p, and then of page q, as the steps left them
 
-module _ (s v r : List ℕ) (long : length r ≡ length s) (p : ℕ) (a : View) (h : Left r p a) where
-  pub asks-update : Sizes s v → (w : List ℕ) → length w ≡ length v → p * 16384 + 16384 ≤ length s
-      → Room w (length r / 16384) × ((p * 16384 + 16384 ≤ length r) × (view (pageOf r p) .freeSpace ≤ 16372))
-  asks-update z w m f = (sizes-room s v r w z long m, (omega (arith, long, f), left-room r p a h))
+pub record BothLeft (s r : List ℕ) (p q : ℕ) : Type 0 where
+  pub long : length r ≡ length s
+  pub within : Within s p × Within s q
+  pub one : View
+  pub first : Left r p one
+  pub two : View
+  pub second : Left r q two
 
-  -- told of page p, then of page q
-  pub told-both : (q : ℕ) (b : View) → Left r q b → (w y : List ℕ) → w ≡ update v (length r / 16384) p (view (pageOf r p) .freeSpace)
+module _ (s v r : List ℕ) (p q : ℕ) (h : BothLeft s r p q) where
+  pub asks-first : Sizes s v → Room v (length r / 16384) × (Within r p × (view (pageOf r p) .freeSpace ≤ 16372))
+  asks-first z = (sizes-room s v r v z (h .long) refl, (omega (arith, h .long, h .within .0), left-room r p (h .one) (h .first)))
+
+  pub asks-second : Sizes s v → (w : List ℕ) → length w ≡ length v → Room w (length r / 16384) × (Within r q × (view (pageOf r q) .freeSpace ≤ 16372))
+  asks-second z w m = (sizes-room s v r w z (h .long) m, (omega (arith, h .long, h .within .1), left-room r q (h .two) (h .second)))
+
+  pub told-both : (w y : List ℕ) → w ≡ update v (length r / 16384) p (view (pageOf r p) .freeSpace)
       → y ≡ update w (length r / 16384) q (view (pageOf r q) .freeSpace)
-      → y ≡ update (update v (segView s .pages) p (a .freeSpace)) (segView s .pages) q (b .freeSpace)
-  told-both q b g w y ew ey =
-      left-update s r q b g long w y ey
-      ∙ ap (λ (m : List ℕ). update m (segView s .pages) q (b .freeSpace)) (left-update s r p a h long v w ew)
+      → y ≡ update (update v (segView s .pages) p (h .one .freeSpace)) (segView s .pages) q (h .two .freeSpace)
+  told-both w y ew ey =
+      left-update s r q (h .two) (h .second) (h .long) w y ey
+      ∙ ap (λ (m : List ℕ). update m (segView s .pages) q (h .two .freeSpace)) (left-update s r p (h .one) (h .first) (h .long) v w ew)
 
 -- ---- the old target at j, which the root's redirect names
 
@@ -89,10 +86,8 @@ module _ (s : List ℕ) (i j : ℕ) (back : pointsBack (segView s) i j ≡ true)
   pub old-away : pageNo j ≢ pageNo i
   old-away = back-ok s i j back .2
 
-  pub old-asks : Asks s (pageNo j) (slotNo j)
-  old-asks =
-      let b = back-ok s i j back in
-      (b .0 .fits, sound-test (segView s .page (pageNo j)) (b .0 .sound), target-taken (segView s .page (pageNo j) .at (slotNo j)) (b .1))
+  pub old-taken : TakenOn s (pageNo j) (slotNo j)
+  old-taken = back-taken s i j back
 
   pub old-exact : ExactOn s oldStep
-  old-exact = erase-on-page s (pageNo j) (slotNo j) (old-asks .0) (old-asks .1) (old-asks .2)
+  old-exact = erase-on-page s (pageNo j) (slotNo j) old-taken

@@ -1,24 +1,22 @@
 // "Last comes a new target of size + 8 on another page, with the root as redirect"; and "moving home frees the target".
 use store::Answer;
+use store::IDS_A_PAGE;
 use store::Named;
+use store::PAGE_SIZE;
 use store::Place;
-use store::Slot;
 ghost use mathlib.Core.Path.{_≡_};
-ghost use mathlib.Core.Bool.{true, false, _||_};
+ghost use mathlib.Core.Bool.{_||_};
 ghost use mathlib.Core.List.{[]};
-ghost use Prim.Native.Nat.{_+_, _*_, _≤_};
-ghost use lib.ListN.{length};
-ghost use lib.Dec.{eqb};
+ghost use Prim.Native.Nat.{_+_, _≤_};
+ghost use lib.Dec.{eqb, leb};
 ghost use Rattle.store.specs.Numbers.{fit, pageNo, slotNo};
-ghost use Rattle.store.specs.Slots.{isFree};
-ghost use Rattle.store.specs.Page.{sound};
 ghost use Rattle.store.specs.PageSteps.{relocate};
 ghost use Rattle.store.specs.Inventory.{foundIn};
-ghost use Rattle.store.specs.Segment.{segView, find, result, pointsBack, forwarded, forwardedAgain, atHome};
+ghost use Rattle.store.specs.Segment.{segView, find, result, forwarded, forwardedAgain, atHome};
 ghost use Rattle.store.specs.Answers.{outcome};
-ghost use Rattle.slotted_page.specs.Words.{wasMoved};
+ghost use Rattle.store.specs.Laws.Lent.{TakenOn};
 ghost use Rattle.segment_steps.specs.Words.{Sizes, seen};
-ghost use Rattle.segment_forward.specs.Words.{rootOrOld, newTarget};
+ghost use Rattle.segment_forward.specs.Words.{Follows, rootOrOld, newTarget};
 
 // The search that both forwardings make: the new target's id, with its page written and the inventory not told yet; or 7, 4, 8. "The page
 // named is the root's or old target's" excludes the pages of `id` and of `old`; the first forwarding has no old target and passes the root.
@@ -36,17 +34,17 @@ fn place_target(
         ≡ result (now (segment .entry)) (newTarget (now (inventory .entry)) id (fit size (now (bytes .entry)))
         (find foundIn (segView (now (segment .entry))) (now (inventory .entry)) (size + 8) (rootOrOld id old))) ⌝ }
 {
-    let named = free_space_inventory::find_page(inventory, segment.len() / 16384, size + 16);
+    let named = free_space_inventory::find_page(inventory, segment.len() / PAGE_SIZE, size + 16);
     let Named::At { page } = named else {
         return Answer::Full;
     };
     if !segment_pages::page_sound(segment, page) {
         return Answer::Damaged;
     }
-    if page == id / 65536 {
+    if page == id / IDS_A_PAGE {
         return Answer::Stale;
     }
-    if page == old / 65536 {
+    if page == old / IDS_A_PAGE {
         return Answer::Stale;
     }
     let place = segment_steps::allocate_on(segment, page, size + 8);
@@ -62,7 +60,7 @@ fn place_target(
         size,
     );
     Answer::Done {
-        id: page * 65536 + slot,
+        id: page * IDS_A_PAGE + slot,
     }
 }
 
@@ -75,20 +73,21 @@ pub fn forward(
     size: usize,
 ) -> Answer
     requires { ⌜ Sizes (now segment) (now inventory) ⌝ }
-    requires { ⌜ (pageNo id * 16384 + 16384 ≤ length (now segment)) × (sound (seen (now segment) (pageNo id)) ≡ true)
-        × (isFree (seen (now segment) (pageNo id) .at (slotNo id)) ≡ false) × (size ≤ 16364) ⌝ }
+    requires { ⌜ TakenOn (now segment) (pageNo id) (slotNo id) ⌝ }
+    requires { ⌜ size ≤ 16364 ⌝ }
     ensures { λ r. ⌜ outcome r (now (segment .exit)) (now (inventory .exit))
-        ≡ result (now (segment .entry)) (forwarded (segView (now (segment .entry))) (now (inventory .entry)) id size (λ o. fit size (now (bytes .entry))) []
+        ≡ result (now (segment .entry))
+        (forwarded (segView (now (segment .entry))) (now (inventory .entry)) id size (λ o. fit size (now (bytes .entry))) []
         (find foundIn (segView (now (segment .entry))) (now (inventory .entry)) (size + 8) (λ p. eqb p (pageNo id)))) ⌝ }
 {
     let placed = place_target(segment, inventory, id, id, bytes, size);
     let Answer::Done { id: target } = placed else {
         return placed;
     };
-    let p = id / 65536;
-    segment_steps::erase_for_redirect_on(segment, p, id % 65536, target);
+    let p = id / IDS_A_PAGE;
+    segment_steps::erase_for_redirect_on(segment, p, id % IDS_A_PAGE, target);
     segment_steps::update_on(segment, inventory, p);
-    segment_steps::update_on(segment, inventory, target / 65536);
+    segment_steps::update_on(segment, inventory, target / IDS_A_PAGE);
     Answer::Done { id }
 }
 
@@ -102,8 +101,8 @@ pub fn forward_again(
     size: usize,
 ) -> Answer
     requires { ⌜ Sizes (now segment) (now inventory) ⌝ }
-    requires { ⌜ (pageNo id * 16384 + 16384 ≤ length (now segment)) × (sound (seen (now segment) (pageNo id)) ≡ true)
-        × (seen (now segment) (pageNo id) .at (slotNo id) ≡ Slot.Redirect t) × (pointsBack (segView (now segment)) id t ≡ true) × (size ≤ 16364) ⌝ }
+    requires { ⌜ Follows (now segment) id t ⌝ }
+    requires { ⌜ size ≤ 16364 ⌝ }
     ensures { λ r. ⌜ outcome r (now (segment .exit)) (now (inventory .exit))
         ≡ result (now (segment .entry))
         (forwardedAgain (segView (now (segment .entry))) (now (inventory .entry)) id size (λ o. fit size (now (bytes .entry))) t []
@@ -113,14 +112,22 @@ pub fn forward_again(
     let Answer::Done { id: new_target } = placed else {
         return placed;
     };
-    segment_steps::set_redirect_on(segment, id / 65536, id % 65536, new_target);
-    segment_steps::erase_on(segment, t / 65536, t % 65536);
-    segment_steps::update_on(segment, inventory, t / 65536);
-    segment_steps::update_on(segment, inventory, new_target / 65536);
+    segment_steps::set_redirect_on(segment, id / IDS_A_PAGE, id % IDS_A_PAGE, new_target);
+    segment_steps::erase_on(segment, t / IDS_A_PAGE, t % IDS_A_PAGE);
+    segment_steps::update_on(segment, inventory, t / IDS_A_PAGE);
+    segment_steps::update_on(segment, inventory, new_target / IDS_A_PAGE);
     Answer::Done { id }
 }
 
-// Whether the record of a redirect to t fits on the root's page. If so it is there, and its target is freed.
+// "From a redirect: needs the full size free": whether the root's page has that.
+pub fn fits_home(segment: &[u8], id: usize, size: usize) -> bool
+    requires { ⌜ TakenOn (now segment) (pageNo id) (slotNo id) ⌝ }
+    ensures { λ r. ⌜ r ≡ leb size (seen (now (segment .entry)) (pageNo id) .freeSpace) ⌝ }
+{
+    size <= layout::header::get_free_space(segment_pages::page_of(segment, id / IDS_A_PAGE))
+}
+
+// The record of a redirect to t goes to the root's page, where it fits, and its target is freed.
 pub fn at_home(
     segment: &mut [u8],
     inventory: &mut [u8],
@@ -128,24 +135,18 @@ pub fn at_home(
     t: usize,
     bytes: &[u8],
     size: usize,
-) -> bool
+) -> Answer
     requires { ⌜ Sizes (now segment) (now inventory) ⌝ }
-    requires { ⌜ (pageNo id * 16384 + 16384 ≤ length (now segment)) × (sound (seen (now segment) (pageNo id)) ≡ true)
-        × (seen (now segment) (pageNo id) .at (slotNo id) ≡ Slot.Redirect t) × (pointsBack (segView (now segment)) id t ≡ true) × (size ≤ 16364) ⌝ }
-    ensures { λ r. ⌜ (r ≡ wasMoved (relocate (seen (now (segment .entry)) (pageNo id)) (slotNo id) size))
-        × (wasMoved (relocate (seen (now (segment .entry)) (pageNo id)) (slotNo id) size) ≡ false
-        → (now (segment .exit) ≡ now (segment .entry)) × (now (inventory .exit) ≡ now (inventory .entry)))
-        × (wasMoved (relocate (seen (now (segment .entry)) (pageNo id)) (slotNo id) size) ≡ true
-        → outcome (Answer.Done id) (now (segment .exit)) (now (inventory .exit))
+    requires { ⌜ Follows (now segment) id t ⌝ }
+    requires { ⌜ size ≤ seen (now segment) (pageNo id) .freeSpace ⌝ }
+    ensures { λ r. ⌜ outcome r (now (segment .exit)) (now (inventory .exit))
         ≡ result (now (segment .entry))
         (atHome foundIn (segView (now (segment .entry))) (now (inventory .entry)) id size (λ o. fit size (now (bytes .entry))) t []
-        (relocate (seen (now (segment .entry)) (pageNo id)) (slotNo id) size))) ⌝ }
+        (relocate (seen (now (segment .entry)) (pageNo id)) (slotNo id) size)) ⌝ }
 {
-    if !segment_steps::rewrite_on(segment, id / 65536, id % 65536, bytes, size) {
-        return false;
-    }
-    segment_steps::erase_on(segment, t / 65536, t % 65536);
-    segment_steps::update_on(segment, inventory, id / 65536);
-    segment_steps::update_on(segment, inventory, t / 65536);
-    true
+    segment_steps::rewrite_on(segment, id / IDS_A_PAGE, id % IDS_A_PAGE, bytes, size);
+    segment_steps::erase_on(segment, t / IDS_A_PAGE, t % IDS_A_PAGE);
+    segment_steps::update_on(segment, inventory, id / IDS_A_PAGE);
+    segment_steps::update_on(segment, inventory, t / IDS_A_PAGE);
+    Answer::Done { id }
 }
