@@ -1,38 +1,73 @@
 -- `segment_write::resize::resize_forwarded` meets its contract.
 use denote.Ref.{now}
-use mathlib.Core.Path.{_≡_, sym, ap, _∙_}
-use mathlib.Core.Bool.{true, false}
-use Prim.Native.Nat.{ℕ, _+_, _-_, _*_, _≤_}
+use mathlib.Core.Path.{_≡_, refl, sym, subst, _∙_}
+use mathlib.Core.Bool.{false}
+use mathlib.Core.List.{List, _++_}
+use Prim.Native.Nat.{ℕ, _+_, _≤_}
 use native.Mathlib.Omega.{arith}
-use lib.ListN.{length}
-use borrow.Author.Tests.{not-true, not-false}
-use Rattle.store.specs.Numbers.{cut, fit, pageNo, slotNo}
-use Rattle.store.specs.Slots.{off, len}
-use Rattle.store.specs.Segment.{segView, pointsBack}
-use Rattle.store.specs.Laws.Calls.{Back, back-ok}
-use Rattle.segment_write.proofs.Stored.{target-cut, by-damaged}
+use lib.ListN.{drop}
+use lib.Dec.{leb}
+use borrow.Author.Tests.{not-true, not-false, leb-true}
+use Rattle.store.specs.Numbers.{toBE, fit, pageNo, slotNo}
+use Rattle.store.specs.Segment.{segView}
+use Rattle.store.specs.Laws.Fit.{length-fit}
+use Rattle.store.specs.declared.Slot.the-variants.{Redirect}
+use Rattle.segment_pages.proofs.Root.{root-taken, back-taken}
+use Rattle.segment_steps.specs.Words.{Sizes}
+use Rattle.segment_steps.proofs.After.{target-length}
+use Rattle.segment_forward.specs.Words.{Follows}
+use Rattle.segment_write.proofs.Stored.{Moves, moves, unmoved, told-asks, by-damaged, by-home, by-stay, by-again}
 use borrow.Author.Needs.{needs}
 use Rattle.segment_write.proofs.resize.resize_forwarded.Statement.{statement}
 use Rattle.segment_write.proofs.resize.resize_forwarded.Tie as tie
 
--- what the test of the target told, and where its bytes lie
-back : (c : tie.Else1) → let a = c .before .before .before .before .before .args in pointsBack (segView (now (a .segment))) (a .id) (a .t) ≡ true
-back c = let e : c .before .points-back .result ≡ true = not-false _ (c .if1 .left) in sym (c .before .points-back .ensures) ∙ e
+-- the places: the target tested, home tested, and the page step at the target
+abbrev entry : tie.After-points-back → tie.Start
+entry c = c .before .before .before .before
 
-target : (c : tie.Else1) → let a = c .before .before .before .before .before .args in Back (now (a .segment)) (a .id) (a .t)
-target c = let a = c .before .before .before .before .before .args in back-ok (now (a .segment)) (a .id) (a .t) (back c)
+abbrev start : tie.After-fits-home → tie.Start
+start c = entry (c .before .before .before)
 
-long : (c : tie.After-len-of) → let a = c .before .before .before .before .before .before .before .before .args in
-    let x = segView (now (a .segment)) .page (pageNo (a .t)) .at (slotNo (a .t)) in
-    (c .len-of .result ≡ len x) × (8 ≤ len x) × (off x + len x ≤ 16384) × (pageNo (a .t) * 16384 + 16384 ≤ length (now (a .segment)))
-long c =
-    let a = c .before .before .before .before .before .before .before .before .args in
-    let b = target (c .before .before .before) in
-    (c .len-of .ensures ∙ ap len (c .before .slot-on .ensures .0), b .0 .sound .targets (slotNo (a .t)) (b .1), b .0 .sound .high (slotNo (a .t)), b .0 .fits)
+abbrev tested : tie.After-resize-target-on → tie.After-fits-home
+tested c = c .before .before .before
 
-placed-at : (c : tie.After-off-of) → let a = c .before .before .before .before .before .before .before .before .before .args in
-    c .off-of .result ≡ off (segView (now (a .segment)) .page (pageNo (a .t)) .at (slotNo (a .t)))
-placed-at c = c .off-of .ensures ∙ ap off (c .before .before .slot-on .ensures .0)
+-- what the tests told
+follows : (c : tie.After-fits-home) → let a = start c .args in Follows (now (a .segment)) (a .id) (a .t)
+follows c =
+    let ok = c .before .before in
+    record { root = start c .pre .1 .0; back = sym (ok .before .points-back .ensures) ∙ not-false _ (ok .if1 .left) }
+
+far : (c : tie.Else2) → let a = start (c .before) .args in
+    leb (a .size) (segView (now (a .segment)) .page (pageNo (a .id)) .freeSpace) ≡ false
+far c = sym (c .before .fits-home .ensures) ∙ c .if2 .left
+
+-- at the target: the record there, or every byte
+moved-there : (c : tie.Then3) → let x = c .before .before .before in let a = start (tested x) .args in
+    let s = now (a .segment) in let p = pageNo (a .t) in let k = slotNo (a .t) in let old = drop 8 (segView s .page p .bytes k) in
+    Moves s p k (a .size + 8) (toBE 8 (a .id) ++ fit (a .size) old) (x .resize-target-on .last .0)
+moved-there c =
+    let x = c .before .before .before in
+    let a = start (tested x) .args in
+    let s = now (a .segment) in
+    let p = pageNo (a .t) in
+    let k = slotNo (a .t) in
+    let old = drop 8 (segView s .page p .bytes k) in
+    let y = x .resize-target-on in
+    moves s p k (back-taken s (a .id) (a .t) (follows (tested x) .back)) (a .size + 8) (toBE 8 (a .id) ++ fit (a .size) old)
+    (y .last .0) (y .ensures .0) (y .result) (y .ensures .1) (λ e. omega arith)
+    (target-length (a .id) (fit (a .size) old) (a .size) (length-fit (a .size) old)) (c .if3 .taken)
+
+same-there : (c : tie.Else3) → let x = c .before .before .before in x .resize-target-on .last .0 ≡ now (start (tested x) .args .segment)
+same-there c =
+    let x = c .before .before .before in
+    let a = start (tested x) .args in
+    let s = now (a .segment) in
+    let p = pageNo (a .t) in
+    let k = slotNo (a .t) in
+    let old = drop 8 (segView s .page p .bytes k) in
+    let y = x .resize-target-on in
+    unmoved s p k (back-taken s (a .id) (a .t) (follows (tested x) .back)) (a .size + 8) (toBE 8 (a .id) ++ fit (a .size) old)
+    (y .last .0) (y .ensures .0) (y .result) (y .ensures .1) (c .if3 .left)
 
 points-back-requires : tie.Need-points-back-requires
 points-back-requires c κs = search needs
@@ -42,55 +77,23 @@ same-length c = search needs
 
 returns : tie.Need-returns
 returns c =
-    let a = c .before .before .before .before .before .args in
-    let e : c .before .points-back .result ≡ false = not-true _ (c .if1 .taken) in
-    by-damaged (now (a .segment)) (now (a .inventory)) (a .id) (a .size) (fit (a .size)) (a .t) (sym (c .before .points-back .ensures) ∙ e)
-
-slot-on-requires : tie.Need-slot-on-requires
-slot-on-requires c κs = target (c .before) .0 .fits
-
-len-of-requires : tie.Need-len-of-requires
-len-of-requires c κs = search needs
-
-sub-n : tie.Need-sub-n
-sub-n c = let l = long c in omega (arith, l .0, l .1)
-
-mul-at : tie.Need-mul-at
-mul-at c = let l = long c in omega (arith, l .3, c .before .before .before .before .before .before .before .before .fits .t)
-
-off-of-requires : tie.Need-off-of-requires
-off-of-requires c κs = search needs
-
-add-at : tie.Need-add-at
-add-at c = let l = long (c .before) in omega (arith, placed-at c, l .2, l .3)
-
-add-at-2 : tie.Need-add-at-2
-add-at-2 c = let l = long (c .before) in omega (arith, placed-at c, l .1, l .2, l .3)
-
-resize-target-requires : tie.Need-resize-target-requires
-resize-target-requires c κs =
-    let z = c .before .before .before .before .before .before .before .before .before .before .before in
-    let a = z .args in
+    let a = entry (c .before) .args in
     let s = now (a .segment) in
-    let p = pageNo (a .t) in
-    let l = long (c .before .before .before) in
-    let f = placed-at (c .before .before) in
-    let n : ℕ = c .before .before .before .len-of .result - 8 in
-    let e = ap (λ (o : ℕ). cut s (p * 16384 + o + 8) n) f
-    ∙ ap (λ (m : ℕ). cut s (p * 16384 + off (segView s .page p .at (slotNo (a .t))) + 8) (m - 8)) (l .0)
-    ∙ target-cut s p (slotNo (a .t)) (target (c .before .before .before .before .before .before) .0) in (
-      z .pre .0,
-      (
-        z .pre .1 .0,
-        z .pre .1 .1,
-        z .pre .1 .2,
-        back (c .before .before .before .before .before .before),
-        z .pre .1 .3,
-        omega (arith, f, l .0, l .1, l .2, l .3),
-        omega (arith, l .0, l .2),
-        e,
-      ),
-    )
+    by-damaged s (now (a .inventory)) (a .id) (a .size) (fit (a .size)) (a .t)
+    (sym (c .before .points-back .ensures) ∙ not-true _ (c .if1 .taken))
+
+fits-home-requires : tie.Need-fits-home-requires
+fits-home-requires c κs =
+    let z = entry (c .before .before) in
+    root-taken (now (z .args .segment)) (z .args .id) (Redirect (z .args .t)) (z .pre .1 .0) refl
+
+resize-home-requires : tie.Need-resize-home-requires
+resize-home-requires c κs =
+    let m = c .before .before in
+    let z = start (m .before) in
+    let a = z .args in
+    let free = segView (now (a .segment)) .page (pageNo (a .id)) .freeSpace in
+    (z .pre .0, (follows (m .before), leb-true (a .size) free (sym (m .before .fits-home .ensures) ∙ m .if2 .taken)))
 
 same-length-2 : tie.Need-same-length-2
 same-length-2 c = search needs
@@ -99,7 +102,68 @@ same-length-3 : tie.Need-same-length-3
 same-length-3 c = search needs
 
 returns-2 : tie.Need-returns-2
-returns-2 c = c .before .before .before .before .resize-target .ensures
+returns-2 c =
+    let y = c .before .before .before .before in
+    let m = y .before .before .before in
+    let a = start (m .before) .args in
+    y .resize-home .ensures
+    ∙ by-home (now (a .segment)) (now (a .inventory)) (a .id) (a .size) (fit (a .size)) (a .t) (follows (m .before))
+
+resize-target-on-requires : tie.Need-resize-target-on-requires
+resize-target-on-requires c κs =
+    let h = c .before .before in
+    let z = start h in
+    (back-taken (now (z .args .segment)) (z .args .id) (z .args .t) (follows h .back), z .pre .1 .1)
+
+update-on-requires : tie.Need-update-on-requires
+update-on-requires c κs =
+    let m = c .before .before in
+    let z = start (tested (m .before .before .before)) in
+    told-asks (now (z .args .segment)) _ _ _ _ _ (moved-there m) (now (z .args .inventory)) (z .pre .0)
+
+same-length-4 : tie.Need-same-length-4
+same-length-4 c = search needs
+
+same-length-5 : tie.Need-same-length-5
+same-length-5 c = search needs
+
+returns-3 : tie.Need-returns-3
+returns-3 c =
+    let u = c .before .before in
+    let m = u .before .before .before in
+    let x = m .before .before .before in
+    let h = tested x in
+    let a = start h .args in
+    let s = now (a .segment) in
+    by-stay s (now (a .inventory)) (a .id) (a .size) (fit (a .size)) (a .t) (follows h) (far (x .before .before))
+    (x .resize-target-on .last .0) _ (moved-there m) (u .update-on .ensures)
+
+resize-again-requires : tie.Need-resize-again-requires
+resize-again-requires c κs =
+    let e = c .before .before in
+    let h = tested (e .before .before .before) in
+    let z = start h in
+    let a = z .args in
+    subst (λ (l : List ℕ). Sizes l (now (a .inventory)) × (Follows l (a .id) (a .t) × (a .size ≤ 16364))) (sym (same-there e))
+    (z .pre .0, (follows h, z .pre .1 .1))
+
+same-length-6 : tie.Need-same-length-6
+same-length-6 c = search needs
+
+same-length-7 : tie.Need-same-length-7
+same-length-7 c = search needs
+
+returns-4 : tie.Need-returns-4
+returns-4 c =
+    let y = c .before .before .before .before in
+    let e = y .before .before .before in
+    let x = e .before .before .before in
+    let h = tested x in
+    let a = start h .args in
+    let s = now (a .segment) in
+    let v = now (a .inventory) in
+    by-again s v (a .id) (a .size) (fit (a .size)) (a .t) (follows h) (far (x .before .before)) (sym (x .resize-target-on .ensures .1) ∙ e .if3 .left)
+    (x .resize-target-on .last .0) (same-there e) _ (y .resize-again .ensures)
 
 pub resize-forwarded-spec : {M : Type 1} → statement M
 resize-forwarded-spec =
@@ -108,14 +172,17 @@ resize-forwarded-spec =
     points-back-requires
     same-length
     returns
-    slot-on-requires
-    len-of-requires
-    sub-n
-    mul-at
-    off-of-requires
-    add-at
-    add-at-2
-    resize-target-requires
+    fits-home-requires
+    resize-home-requires
     same-length-2
     same-length-3
-    returns-2)
+    returns-2
+    resize-target-on-requires
+    update-on-requires
+    same-length-4
+    same-length-5
+    returns-3
+    resize-again-requires
+    same-length-6
+    same-length-7
+    returns-4)

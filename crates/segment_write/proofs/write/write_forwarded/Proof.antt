@@ -1,89 +1,73 @@
 -- `segment_write::write::write_forwarded` meets its contract.
 use denote.Ref.{now}
-use mathlib.Core.Path.{_≡_, refl, sym, ap, _∙_}
-use mathlib.Core.Bool.{true, false}
+use mathlib.Core.Path.{_≡_, refl, sym, subst, _∙_}
+use mathlib.Core.Bool.{false}
 use mathlib.Core.List.{List, _++_}
-use Prim.Native.Nat.{ℕ, _+_, _/_}
+use Prim.Native.Nat.{ℕ, _+_, _≤_}
 use native.Mathlib.Omega.{arith}
 use lib.ListN.{length}
-use borrow.Author.Tests.{not-true, not-false}
+use lib.Dec.{leb}
+use borrow.Author.Tests.{not-true, not-false, leb-true}
 use Rattle.store.specs.Numbers.{toBE, fit, pageNo, slotNo}
-use Rattle.store.specs.Page.{view}
-use Rattle.store.specs.PageSteps.{filled, relocate}
-use Rattle.store.specs.Inventory.{update}
-use Rattle.store.specs.Segment.{segView, pageOf, pointsBack, on}
-use Rattle.slotted_page.specs.Words.{wasMoved}
+use Rattle.store.specs.Segment.{segView}
+use Rattle.store.specs.declared.Slot.the-variants.{Redirect}
+use Rattle.store.specs.Laws.Fit.{fit-all}
+use Rattle.segment_pages.proofs.Root.{root-taken, back-taken}
+use Rattle.segment_steps.specs.Words.{Sizes}
 use Rattle.segment_steps.proofs.After.{target-length}
-use Rattle.slotted_page.specs.Plans.{fit-all}
-use Rattle.segment_write.proofs.Stored.{Moves, movedOn, moves, unmoved, told-asks, target-asks, again-asks, by-damaged, by-home, by-stay, by-again}
+use Rattle.segment_forward.specs.Words.{Follows}
+use Rattle.segment_write.proofs.Stored.{Moves, moves, unmoved, told-asks, by-damaged, home-same, again-same, goes-home, by-home, by-stay, by-again}
 use borrow.Author.Needs.{needs}
 use Rattle.segment_write.proofs.write.write_forwarded.Statement.{statement}
 use Rattle.segment_write.proofs.write.write_forwarded.Tie as tie
 
--- what the test of the target told
-back : (c : tie.Else1) → let a = c .before .before .before .before .before .before .args in pointsBack (segView (now (a .segment))) (a .id) (a .t) ≡ true
-back c = let e : c .before .points-back .result ≡ true = not-false _ (c .if1 .left) in sym (c .before .points-back .ensures) ∙ e
+-- the places: the target tested, home tested, and the page step at the target
+abbrev entry : tie.After-points-back → tie.Start
+entry c = c .before .before .before .before .before
 
--- not home: every byte is left
-away : (c : tie.Else2) → let a =
-    c .before .before .before .before .before .before .before .before .before .before .before .before .before .before .args in
-    wasMoved (relocate (segView (now (a .segment)) .page (pageNo (a .id))) (slotNo (a .id)) (length (now (a .bytes)))) ≡ false
-away c = sym (c .before .before .before .before .before .at-home .ensures .0) ∙ c .if2 .left
+abbrev start : tie.After-fits-home → tie.Start
+start c = entry (c .before .before .before)
 
-same-home : (c : tie.Else2) → let a =
-    c .before .before .before .before .before .before .before .before .before .before .before .before .before .before .args in
-    (c .before .before .before .before .before .at-home .last .0 ≡ now (a .segment))
-    × (c .before .before .before .before .before .at-home .last .1 .0 ≡ now (a .inventory))
-same-home c = c .before .before .before .before .before .at-home .ensures .1 (away c)
+abbrev tested : tie.After-rewrite-target-on → tie.After-fits-home
+tested c = c .before .before .before
+
+-- what the tests told
+follows : (c : tie.After-fits-home) → let a = start c .args in Follows (now (a .segment)) (a .id) (a .t)
+follows c =
+    let ok = c .before .before in
+    record { root = start c .pre .1 .0; back = sym (ok .before .points-back .ensures) ∙ not-false _ (ok .if1 .left) }
+
+far : (c : tie.Else2) → let a = start (c .before) .args in let bs = now (a .bytes) in
+    leb (length bs) (segView (now (a .segment)) .page (pageNo (a .id)) .freeSpace) ≡ false
+far c = sym (c .before .fits-home .ensures) ∙ c .if2 .left
 
 -- at the target: the record there, or every byte
-left-there : (c : tie.After-rewrite-target-on)
-    → let a = c .before .before .before .before .before .before .before .before .before .before .before .before .before .before .before .before .args in
-    c .rewrite-target-on .last .0 ≡ movedOn (now (a .segment)) (pageNo (a .t)) (slotNo (a .t)) ((length (now (a .bytes))) + 8)
-    (toBE 8 (a .id) ++ now (a .bytes))
-left-there c =
-    let a = c .before .before .before .before .before .before .before .before .before .before .before .before .before .before .before .before .args in
-    let f : List ℕ → List ℕ = (λ l. toBE 8 (a .id) ++ now (a .bytes)) in
-    c .rewrite-target-on .ensures .0 ∙ ap (λ (l : List ℕ). movedOn l (pageNo (a .t)) (slotNo (a .t)) ((length (now (a .bytes))) + 8) (f l))
-    (same-home (c .before .before) .0)
-
-answer-there : (c : tie.After-rewrite-target-on)
-    → let a = c .before .before .before .before .before .before .before .before .before .before .before .before .before .before .before .before .args in
-    wasMoved (relocate (segView (now (a .segment)) .page (pageNo (a .t))) (slotNo (a .t)) ((length (now (a .bytes))) + 8)) ≡ c .rewrite-target-on .result
-answer-there c =
-    let a = c .before .before .before .before .before .before .before .before .before .before .before .before .before .before .before .before .args in
-    sym (c .rewrite-target-on .ensures .1
-    ∙ ap (λ (l : List ℕ). wasMoved (relocate (segView l .page (pageNo (a .t))) (slotNo (a .t)) ((length (now (a .bytes))) + 8)))
-    (same-home (c .before .before) .0))
-
-moved-there : (c : tie.Then3) → let a =
-    c .before .before .before .before .before .before .before .before .before .before .before .before .before .before .before .before .before .before .before .args in
-    Moves (now (a .segment)) (pageNo (a .t)) (slotNo (a .t)) ((length (now (a .bytes))) + 8) (toBE 8 (a .id) ++ now (a .bytes))
-    (c .before .before .before .rewrite-target-on .last .0)
+moved-there : (c : tie.Then3) → let x = c .before .before .before in let a = start (tested x) .args in
+    let s = now (a .segment) in let bs = now (a .bytes) in let p = pageNo (a .t) in let k = slotNo (a .t) in
+    Moves s p k (length bs + 8) (toBE 8 (a .id) ++ bs) (x .rewrite-target-on .last .0)
 moved-there c =
-    let a = c .before .before .before .before .before .before .before .before .before .before .before .before .before .before .before .before .before .before .before .args in
+    let x = c .before .before .before in
+    let a = start (tested x) .args in
     let s = now (a .segment) in
-    let q = target-asks s (a .id) (a .t) (length (now (a .bytes)))
-    (back (c .before .before .before .before .before .before .before .before .before .before .before .before .before))
-    (c .before .before .before .before .before .before .before .before .before .before .before .before .before .before .before .before .before .before .before .pre .1 .3) s refl in
-    moves s (pageNo (a .t)) (slotNo (a .t)) (q .0) (q .1) (q .2) ((length (now (a .bytes))) + 8) (toBE 8 (a .id) ++ now (a .bytes))
-    (c .before .before .before .rewrite-target-on .last .0) (left-there (c .before .before .before))
-    (λ h. omega arith) (target-length (a .id) (now (a .bytes)) (length (now (a .bytes))) refl) (answer-there (c .before .before .before) ∙ c .if3 .taken)
+    let bs = now (a .bytes) in
+    let p = pageNo (a .t) in
+    let k = slotNo (a .t) in
+    let y = x .rewrite-target-on in
+    moves s p k (back-taken s (a .id) (a .t) (follows (tested x) .back)) (length bs + 8) (toBE 8 (a .id) ++ bs)
+    (y .last .0) (y .ensures .0) (y .result) (y .ensures .1) (λ e. omega arith)
+    (target-length (a .id) bs (length bs) refl) (c .if3 .taken)
 
-refused-there : (c : tie.Else3)
-    → let a = c .before .before .before .before .before .before .before .before .before .before .before .before .before .before .before .before .before .before .before .args in wasMoved (relocate (segView (now (a .segment)) .page (pageNo (a .t))) (slotNo (a .t)) ((length (now (a .bytes))) + 8)) ≡ false
-refused-there c = answer-there (c .before .before .before) ∙ c .if3 .left
-
-same-there : (c : tie.Else3) → c .before .before .before .rewrite-target-on .last .0
-    ≡ now (c .before .before .before .before .before .before .before .before .before .before .before .before .before .before .before .before .before .before .before .args .segment)
+same-there : (c : tie.Else3) → let x = c .before .before .before in x .rewrite-target-on .last .0 ≡ now (start (tested x) .args .segment)
 same-there c =
-    let a = c .before .before .before .before .before .before .before .before .before .before .before .before .before .before .before .before .before .before .before .args in
+    let x = c .before .before .before in
+    let a = start (tested x) .args in
     let s = now (a .segment) in
-    let q = target-asks s (a .id) (a .t) (length (now (a .bytes)))
-    (back (c .before .before .before .before .before .before .before .before .before .before .before .before .before))
-    (c .before .before .before .before .before .before .before .before .before .before .before .before .before .before .before .before .before .before .before .pre .1 .3) s refl in
-    unmoved s (pageNo (a .t)) (slotNo (a .t)) (q .0) (q .1) (q .2) ((length (now (a .bytes))) + 8) (toBE 8 (a .id) ++ now (a .bytes))
-    (c .before .before .before .rewrite-target-on .last .0) (left-there (c .before .before .before)) (refused-there c)
+    let bs = now (a .bytes) in
+    let p = pageNo (a .t) in
+    let k = slotNo (a .t) in
+    let y = x .rewrite-target-on in
+    unmoved s p k (back-taken s (a .id) (a .t) (follows (tested x) .back)) (length bs + 8) (toBE 8 (a .id) ++ bs)
+    (y .last .0) (y .ensures .0) (y .result) (y .ensures .1) (c .if3 .left)
 
 points-back-requires : tie.Need-points-back-requires
 points-back-requires c κs = search needs
@@ -93,15 +77,25 @@ same-length c = search needs
 
 returns : tie.Need-returns
 returns c =
-    let a = c .before .before .before .before .before .before .args in
-    let e : c .before .points-back .result ≡ false = not-true _ (c .if1 .taken) in
-    by-damaged (now (a .segment)) (now (a .inventory)) (a .id) (length (now (a .bytes))) (λ old. now (a .bytes)) (a .t)
-    (sym (c .before .points-back .ensures) ∙ e)
+    let a = entry (c .before) .args in
+    let s = now (a .segment) in
+    let bs = now (a .bytes) in
+    by-damaged s (now (a .inventory)) (a .id) (length bs) (λ old. bs) (a .t)
+    (sym (c .before .points-back .ensures) ∙ not-true _ (c .if1 .taken))
+
+fits-home-requires : tie.Need-fits-home-requires
+fits-home-requires c κs =
+    let z = entry (c .before .before) in
+    root-taken (now (z .args .segment)) (z .args .id) (Redirect (z .args .t)) (z .pre .1 .0) refl
 
 at-home-requires : tie.Need-at-home-requires
 at-home-requires c κs =
-    let z = c .before .before .before .before .before .before .before .before in
-    (z .pre .0, (z .pre .1 .0, z .pre .1 .1, z .pre .1 .2, back (c .before .before), z .pre .1 .3))
+    let m = c .before .before in
+    let z = start (m .before) in
+    let a = z .args in
+    let bs = now (a .bytes) in
+    let free = segView (now (a .segment)) .page (pageNo (a .id)) .freeSpace in
+    (z .pre .0, (follows (m .before), leb-true (length bs) free (sym (m .before .fits-home .ensures) ∙ m .if2 .taken)))
 
 same-length-2 : tie.Need-same-length-2
 same-length-2 c = search needs
@@ -111,30 +105,28 @@ same-length-3 c = search needs
 
 returns-2 : tie.Need-returns-2
 returns-2 c =
-    let a = c .before .before .before .before .before .before .before .before .before .before .before .before .before .before .args in
-    let x = c .before .before .before .before .before .at-home in
-    let f = sym (x .ensures .0) ∙ c .if2 .taken in
-    by-home (now (a .segment)) (now (a .inventory)) (a .id) (length (now (a .bytes))) (λ old. now (a .bytes)) (a .t)
-    (back (c .before .before .before .before .before .before .before .before)) f (fit (length (now (a .bytes))) (now (a .bytes)))
-    (fit-all (now (a .bytes))) _ (x .ensures .2 f)
+    let y = c .before .before .before .before in
+    let m = y .before .before .before in
+    let a = start (m .before) .args in
+    let s = now (a .segment) in
+    let bs = now (a .bytes) in
+    let v = now (a .inventory) in
+    let h = follows (m .before) in
+    let went = goes-home s v (a .id) (length bs) (λ old. bs) (a .t) h (sym (m .before .fits-home .ensures) ∙ m .if2 .taken) in
+    y .at-home .ensures ∙ home-same s v (a .id) (length bs) (λ old. bs) (a .t) (fit (length bs) bs) (fit-all bs) went
+    ∙ by-home s v (a .id) (length bs) (λ old. bs) (a .t) h
 
 rewrite-target-on-requires : tie.Need-rewrite-target-on-requires
 rewrite-target-on-requires c κs =
-    let z = c .before .before .before .before .before .before .before .before .before .before .before .before .before .before .before in
-    let a = z .args in
-    target-asks (now (a .segment)) (a .id) (a .t) (length (now (a .bytes)))
-    (back (c .before .before .before .before .before .before .before .before .before)) (z .pre .1 .3)
-    (c .before .before .before .before .before .before .at-home .last .0) (same-home (c .before) .0)
+    let h = c .before .before in
+    let z = start h in
+    (back-taken (now (z .args .segment)) (z .args .id) (z .args .t) (follows h .back), z .pre .1 .1)
 
 update-on-requires : tie.Need-update-on-requires
 update-on-requires c κs =
-    let z = c .before .before .before .before .before .before .before .before .before .before .before .before .before .before .before .before .before .before .before .before .before in
-    let a = z .args in
-    let m = moved-there (c .before .before) in
-    told-asks (now (a .segment)) (now (a .inventory)) (c .before .before .before .before .before .rewrite-target-on .last .0)
-    (c .before .before .before .before .before .before .before .before .before .before .before .before .at-home .last .1 .0)
-    (on (pageNo (a .t)) (filled (m .plan) (slotNo (a .t)) (toBE 8 (a .id) ++ now (a .bytes)))) (m .took) (z .pre .0)
-    (same-home (c .before .before .before .before .before .before .before) .1)
+    let m = c .before .before in
+    let z = start (tested (m .before .before .before)) in
+    told-asks (now (z .args .segment)) _ _ _ _ _ (moved-there m) (now (z .args .inventory)) (z .pre .0)
 
 same-length-4 : tie.Need-same-length-4
 same-length-4 c = search needs
@@ -144,31 +136,24 @@ same-length-5 c = search needs
 
 returns-3 : tie.Need-returns-3
 returns-3 c =
-    let a = c .before .before .before .before .before .before .before .before .before .before .before .before .before .before .before .before .before .before .before .before .before .before .before .before .args in
-    let r = c .before .before .before .before .before .before .before .before .rewrite-target-on .last .0 in
-    by-stay (now (a .segment)) (now (a .inventory)) (a .id) (length (now (a .bytes))) (λ old. now (a .bytes)) (a .t)
-    (back (c .before .before .before .before .before .before .before .before .before .before .before .before .before .before .before .before .before .before)) (away (c .before .before .before .before .before .before .before .before .before .before)) r _ (moved-there (c .before .before .before .before .before))
-    (c .before .before .update-on .ensures
-    ∙ ap (λ (m : List ℕ). update m (length r / 16384) (pageNo (a .t)) (view (pageOf r (pageNo (a .t))) .freeSpace))
-    (same-home (c .before .before .before .before .before .before .before .before .before .before) .1))
+    let u = c .before .before in
+    let m = u .before .before .before in
+    let x = m .before .before .before in
+    let h = tested x in
+    let a = start h .args in
+    let s = now (a .segment) in
+    let bs = now (a .bytes) in
+    by-stay s (now (a .inventory)) (a .id) (length bs) (λ old. bs) (a .t) (follows h) (far (x .before .before))
+    (x .rewrite-target-on .last .0) _ (moved-there m) (u .update-on .ensures)
 
 forward-again-requires : tie.Need-forward-again-requires
 forward-again-requires c κs =
-    let z = c .before .before .before .before .before .before .before .before .before .before .before .before .before .before .before .before .before .before .before .before .before in
+    let e = c .before .before in
+    let h = tested (e .before .before .before) in
+    let z = start h in
     let a = z .args in
-    again-asks (now (a .segment)) (now (a .inventory)) (a .id) (a .t) (length (now (a .bytes)))
-    (c .before .before .before .before .before .rewrite-target-on .last .0)
-    (c .before .before .before .before .before .before .before .before .before .before .before .before .at-home .last .1 .0)
-    (same-there (c .before .before)) (same-home (c .before .before .before .before .before .before .before) .1) (
-      z .pre .0,
-      (
-        z .pre .1 .0,
-        z .pre .1 .1,
-        z .pre .1 .2,
-        (back (c .before .before .before .before .before .before .before .before .before .before .before .before .before .before .before)),
-        z .pre .1 .3,
-      ),
-    )
+    subst (λ (l : List ℕ). Sizes l (now (a .inventory)) × (Follows l (a .id) (a .t) × (length (now (a .bytes)) ≤ 16364))) (sym (same-there e))
+    (z .pre .0, (follows h, z .pre .1 .1))
 
 same-length-6 : tie.Need-same-length-6
 same-length-6 c = search needs
@@ -178,10 +163,17 @@ same-length-7 c = search needs
 
 returns-4 : tie.Need-returns-4
 returns-4 c =
-    let a = c .before .before .before .before .before .before .before .before .before .before .before .before .before .before .before .before .before .before .before .before .before .before .before .before .before .before .args in
-    by-again (now (a .segment)) (now (a .inventory)) (a .id) (length (now (a .bytes))) (λ old. now (a .bytes)) (a .t)
-    (back (c .before .before .before .before .before .before .before .before .before .before .before .before .before .before .before .before .before .before .before .before)) (away (c .before .before .before .before .before .before .before .before .before .before .before .before)) (refused-there (c .before .before .before .before .before .before .before)) (fit (length (now (a .bytes))) (now (a .bytes))) (fit-all (now (a .bytes))) (c .before .before .before .before .before .before .before .before .before .before .rewrite-target-on .last .0) (c .before .before .before .before .before .before .before .before .before .before .before .before .before .before .before .before .before .at-home .last .1 .0) (same-there (c .before .before .before .before .before .before .before)) (same-home (c .before .before .before .before .before .before .before .before .before .before .before .before) .1) _
-    (c .before .before .before .before .forward-again .ensures)
+    let y = c .before .before .before .before in
+    let e = y .before .before .before in
+    let x = e .before .before .before in
+    let h = tested x in
+    let a = start h .args in
+    let s = now (a .segment) in
+    let bs = now (a .bytes) in
+    let v = now (a .inventory) in
+    by-again s v (a .id) (length bs) (λ old. bs) (a .t) (follows h) (far (x .before .before)) (sym (x .rewrite-target-on .ensures .1) ∙ e .if3 .left)
+    (x .rewrite-target-on .last .0) (same-there e) _ (y .forward-again .ensures
+    ∙ again-same (x .rewrite-target-on .last .0) v (a .id) (length bs) (λ old. bs) (a .t) (fit (length bs) bs) (fit-all bs))
 
 pub write-forwarded-spec : {M : Type 1} → statement M
 write-forwarded-spec =
@@ -190,6 +182,7 @@ write-forwarded-spec =
     points-back-requires
     same-length
     returns
+    fits-home-requires
     at-home-requires
     same-length-2
     same-length-3

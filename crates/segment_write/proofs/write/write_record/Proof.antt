@@ -1,45 +1,36 @@
 -- `segment_write::write::write_record` meets its contract.
 use denote.Ref.{now}
-use mathlib.Core.Path.{_≡_, sym, ap, _∙_}
-use mathlib.Core.Bool.{true, false, _&&_}
+use mathlib.Core.Path.{_≡_, sym, _∙_}
+use mathlib.Core.Bool.{true, _&&_}
 use Prim.Native.Nat.{_≤_}
 use native.Mathlib.Omega.{arith}
 use lib.ListN.{length}
 use borrow.Author.Tests.{not-true, not-false}
-use Rattle.store.specs.Numbers.{pageNo}
-use Rattle.store.specs.Slots.{isFree, isTarget}
-use Rattle.store.specs.Page.{sound}
-use Rattle.store.specs.Inventory.{foundIn}
-use Rattle.store.specs.Segment.{segView, sizeOk, invOk, result, storeBy, writeStep}
-use Rattle.store.specs.declared.Slot.{Slot}
+use Rattle.store.specs.Segment.{segView, sizeOk, invOk, rootOf}
+use Rattle.store.specs.declared.Root.{Root}
+use Rattle.segment_pages.proofs.Root.{root-is}
 use Rattle.segment_steps.proofs.After.{sizes}
-use Rattle.segment_write.proofs.Stored.{step-size, step-long, step-past, step-damaged, step-by, by-free, by-target, write-is}
+use Rattle.segment_write.proofs.Stored.{step-size, step-long, step-past, step-damaged, step-by, write-is}
 use borrow.Author.Needs.{needs}
 use Rattle.segment_write.proofs.write.write_record.Statement.{statement}
 use Rattle.segment_write.proofs.write.write_record.Tie as tie
 
--- what the tests told, and the answer by the slot
-sizes-here : (c : tie.Else1) → let a = c .before .before .before .before .before .before .before .args in
-    (sizeOk (now (a .segment)) && invOk (now (a .inventory))) ≡ true
-sizes-here c = let e : c .before .sizes-ok .result ≡ true = not-false _ (c .if1 .left) in sym (c .before .sizes-ok .ensures) ∙ e
+-- the places: the sizes tested, and the id's own page
+abbrev entry : tie.After-sizes-ok → tie.Start
+entry c = let lent = c .before .before .before in lent .before .before .before
 
-short : (c : tie.Else2) → let a = c .before .before .before .before .before .before .before .before .args in length (now (a .bytes)) ≤ 16364
-short c = omega (arith, c .if2 .left)
+abbrev start : tie.After-root-of → tie.Start
+start c = entry (c .before .before .before .before)
 
-sound-here : (c : tie.Else4) → let a = c .before .before .before .before .before .before .before .before .before .before .before .before .args in
-    sound (segView (now (a .segment)) .page (pageNo (a .id))) ≡ true
-sound-here c = let e : c .before .page-sound .result ≡ true = not-false _ (c .if4 .left) in sym (c .before .page-sound .ensures .0) ∙ e
+-- what the tests told
+sizes-here : (c : tie.Else1) → let a = entry (c .before) .args in (sizeOk (now (a .segment)) && invOk (now (a .inventory))) ≡ true
+sizes-here c = sym (c .before .sizes-ok .ensures) ∙ not-false _ (c .if1 .left)
 
-by-slot : (c : tie.After-slot-on) (x : Slot) → c .slot-on .result ≡ x
-    → let a = c .before .before .before .before .before .before .before .before .before .before .before .before .before .before .args in
-    result (now (a .segment)) (storeBy foundIn (segView (now (a .segment))) (now (a .inventory)) (a .id) (length (now (a .bytes)))
-    (λ old. now (a .bytes)) x) ≡ writeStep (now (a .segment)) (now (a .inventory)) (a .id) (now (a .bytes))
-by-slot c x e =
-    let a = c .before .before .before .before .before .before .before .before .before .before .before .before .before .before .args in
-    step-by (now (a .segment)) (now (a .inventory)) (a .id) (length (now (a .bytes))) (λ old. now (a .bytes))
-    (sizes-here (c .before .before .before .before .before .before .before)) (short (c .before .before .before .before .before .before))
-    (c .before .before .before .before .before .if3 .left) (sound-here (c .before .before)) x (sym (c .slot-on .ensures .0) ∙ e)
-    ∙ write-is (now (a .segment)) (now (a .inventory)) (a .id) (now (a .bytes))
+short : (c : tie.After-root-of) → let a = start c .args in length (now (a .bytes)) ≤ 16364
+short c = omega (arith, c .before .before .if2 .left)
+
+root-here : (c : tie.After-root-of) (x : Root) → c .root-of .result ≡ x → let a = start c .args in rootOf (segView (now (a .segment))) (a .id) ≡ x
+root-here c x e = sym (c .root-of .ensures) ∙ e
 
 sizes-ok-requires : tie.Need-sizes-ok-requires
 sizes-ok-requires c κs = search needs
@@ -52,10 +43,11 @@ same-length-2 c = search needs
 
 returns : tie.Need-returns
 returns c =
-    let a = c .before .before .before .before .before .before .before .args in
-    let e : c .before .sizes-ok .result ≡ false = not-true _ (c .if1 .taken) in
-    step-size (now (a .segment)) (now (a .inventory)) (a .id) (length (now (a .bytes))) (λ old. now (a .bytes))
-    (sym (c .before .sizes-ok .ensures) ∙ e) ∙ write-is (now (a .segment)) (now (a .inventory)) (a .id) (now (a .bytes))
+    let a = entry (c .before) .args in
+    let s = now (a .segment) in
+    let v = now (a .inventory) in
+    let bs = now (a .bytes) in
+    step-size s v (a .id) (length bs) (λ old. bs) (sym (c .before .sizes-ok .ensures) ∙ not-true _ (c .if1 .taken)) ∙ write-is s v (a .id) bs
 
 same-length-3 : tie.Need-same-length-3
 same-length-3 c = search needs
@@ -65,9 +57,31 @@ same-length-4 c = search needs
 
 returns-2 : tie.Need-returns-2
 returns-2 c =
-    let a = c .before .before .before .before .before .before .before .before .args in
-    step-long (now (a .segment)) (now (a .inventory)) (a .id) (length (now (a .bytes))) (λ old. now (a .bytes)) (sizes-here (c .before))
-    (omega (arith, c .if2 .taken)) ∙ write-is (now (a .segment)) (now (a .inventory)) (a .id) (now (a .bytes))
+    let a = entry (c .before .before) .args in
+    let s = now (a .segment) in
+    let v = now (a .inventory) in
+    let bs = now (a .bytes) in
+    step-long s v (a .id) (length bs) (λ old. bs) (sizes-here (c .before)) (omega (arith, c .if2 .taken)) ∙ write-is s v (a .id) bs
+
+root-of-requires : tie.Need-root-of-requires
+root-of-requires c κs = search needs
+
+enum-told : tie.Need-enum-told
+enum-told c = search needs
+
+enum-told-2 : tie.Need-enum-told-2
+enum-told-2 c = search needs
+
+enum-known-root : tie.Need-enum-known-root
+enum-known-root c = search needs
+
+write-slot-requires : tie.Need-write-slot-requires
+write-slot-requires c κs =
+    let m = c .before .before .before in
+    let r = m .before .before in
+    let a = start r .args in
+    let s = now (a .segment) in
+    (sizes s (now (a .inventory)) (sizes-here (r .before .before .before)), (root-is s (a .id) _ (root-here r _ (m .root .given .1)), short r))
 
 same-length-5 : tie.Need-same-length-5
 same-length-5 c = search needs
@@ -77,12 +91,13 @@ same-length-6 c = search needs
 
 returns-3 : tie.Need-returns-3
 returns-3 c =
-    let a = c .before .before .before .before .before .before .before .before .before .args in
-    step-past (now (a .segment)) (now (a .inventory)) (a .id) (length (now (a .bytes))) (λ old. now (a .bytes)) (sizes-here (c .before .before))
-    (short (c .before)) (c .if3 .taken) ∙ write-is (now (a .segment)) (now (a .inventory)) (a .id) (now (a .bytes))
-
-page-sound-requires : tie.Need-page-sound-requires
-page-sound-requires c κs = search needs
+    let r = c .before .before in
+    let a = start r .args in
+    let s = now (a .segment) in
+    let v = now (a .inventory) in
+    let bs = now (a .bytes) in
+    step-past s v (a .id) (length bs) (λ old. bs) (sizes-here (r .before .before .before)) (short r) (root-here r _ (c .enum-told .given .1))
+    ∙ write-is s v (a .id) bs
 
 same-length-7 : tie.Need-same-length-7
 same-length-7 c = search needs
@@ -92,55 +107,13 @@ same-length-8 c = search needs
 
 returns-4 : tie.Need-returns-4
 returns-4 c =
-    let a = c .before .before .before .before .before .before .before .before .before .before .before .before .args in
-    let e : c .before .page-sound .result ≡ false = not-true _ (c .if4 .taken) in
-    step-damaged (now (a .segment)) (now (a .inventory)) (a .id) (length (now (a .bytes))) (λ old. now (a .bytes))
-    (sizes-here (c .before .before .before .before .before)) (short (c .before .before .before .before)) (c .before .before .before .if3 .left)
-    (sym (c .before .page-sound .ensures .0) ∙ e) ∙ write-is (now (a .segment)) (now (a .inventory)) (a .id) (now (a .bytes))
-
-slot-on-requires : tie.Need-slot-on-requires
-slot-on-requires c κs = search needs
-
-enum-told : tie.Need-enum-told
-enum-told c = search needs
-
-write-ordinary-requires : tie.Need-write-ordinary-requires
-write-ordinary-requires c κs =
-    let a = c .before .before .before .before .before .before .before .before .before .before .before .before .before .before .before .before .before .before .args in
-    let e = sym (c .before .before .before .before .slot-on .ensures .0) ∙ c .before .before .enum-told .given .1 in (
-      sizes (now (a .segment)) (now (a .inventory))
-          (sizes-here (c .before .before .before .before .before .before .before .before .before .before .before)),
-      (
-        omega (arith, c .before .before .before .before .before .before .before .before .before .if3 .left),
-        sound-here (c .before .before .before .before .before .before),
-        ap isFree e,
-        ap isTarget e,
-        short (c .before .before .before .before .before .before .before .before .before .before),
-      ),
-    )
-
-enum-told-2 : tie.Need-enum-told-2
-enum-told-2 c = search needs
-
-enum-known-s : tie.Need-enum-known-s
-enum-known-s c = search needs
-
-write-forwarded-requires : tie.Need-write-forwarded-requires
-write-forwarded-requires c κs =
-    let a = c .before .before .before .before .before .before .before .before .before .before .before .before .before .before .before .before .before .before .before .args in
-    let e = sym (c .before .before .before .before .before .slot-on .ensures .0) ∙ c .before .before .before .s .given .1 in (
-      sizes (now (a .segment)) (now (a .inventory))
-          (sizes-here (c .before .before .before .before .before .before .before .before .before .before .before .before)),
-      (
-        omega (arith, c .before .before .before .before .before .before .before .before .before .before .if3 .left),
-        sound-here (c .before .before .before .before .before .before .before),
-        e,
-        short (c .before .before .before .before .before .before .before .before .before .before .before),
-      ),
-    )
-
-enum-told-3 : tie.Need-enum-told-3
-enum-told-3 c = search needs
+    let r = c .before .before in
+    let a = start r .args in
+    let s = now (a .segment) in
+    let v = now (a .inventory) in
+    let bs = now (a .bytes) in
+    step-damaged s v (a .id) (length bs) (λ old. bs) (sizes-here (r .before .before .before)) (short r) (root-here r _ (c .enum-told2 .given .1))
+    ∙ write-is s v (a .id) bs
 
 same-length-9 : tie.Need-same-length-9
 same-length-9 c = search needs
@@ -149,44 +122,17 @@ same-length-10 : tie.Need-same-length-10
 same-length-10 c = search needs
 
 returns-5 : tie.Need-returns-5
-returns-5 c = c .before .before .before .before .write-ordinary .ensures
-    ∙ by-slot (c .before .before .before .before .before .before .before .before .before) _
-    (c .before .before .before .before .before .before .before .enum-told .given .1)
-
-same-length-11 : tie.Need-same-length-11
-same-length-11 c = search needs
-
-same-length-12 : tie.Need-same-length-12
-same-length-12 c = search needs
-
-returns-6 : tie.Need-returns-6
-returns-6 c =
-    let a = c .before .before .before .before .before .before .before .before .before .before .before .before .before .before .before .before .args in
-    by-free (now (a .segment)) (now (a .inventory)) (a .id) (length (now (a .bytes))) (λ old. now (a .bytes))
-    ∙ by-slot (c .before .before) _ (c .enum-told2 .given .1)
-
-same-length-13 : tie.Need-same-length-13
-same-length-13 c = search needs
-
-same-length-14 : tie.Need-same-length-14
-same-length-14 c = search needs
-
-returns-7 : tie.Need-returns-7
-returns-7 c = c .before .before .before .before .write-forwarded .ensures
-    ∙ by-slot (c .before .before .before .before .before .before .before .before .before .before) _
-    (c .before .before .before .before .before .before .before .before .s .given .1)
-
-same-length-15 : tie.Need-same-length-15
-same-length-15 c = search needs
-
-same-length-16 : tie.Need-same-length-16
-same-length-16 c = search needs
-
-returns-8 : tie.Need-returns-8
-returns-8 c =
-    let a = c .before .before .before .before .before .before .before .before .before .before .before .before .before .before .before .before .args in
-    by-target (now (a .segment)) (now (a .inventory)) (a .id) (length (now (a .bytes))) (λ old. now (a .bytes)) 0 0
-    ∙ by-slot (c .before .before) _ (c .enum-told3 .given .1)
+returns-5 c =
+    let w = c .before .before .before .before in
+    let m = w .before .before .before .before in
+    let r = m .before .before in
+    let a = start r .args in
+    let s = now (a .segment) in
+    let v = now (a .inventory) in
+    let bs = now (a .bytes) in
+    w .write-slot .ensures
+    ∙ step-by s v (a .id) (length bs) (λ old. bs) (sizes-here (r .before .before .before)) (short r) _ (root-here r _ (m .root .given .1))
+    ∙ write-is s v (a .id) bs
 
 pub write-record-spec : {M : Type 1} → statement M
 write-record-spec =
@@ -199,29 +145,17 @@ write-record-spec =
     same-length-3
     same-length-4
     returns-2
+    root-of-requires
+    enum-told
+    enum-told-2
+    enum-known-root
+    write-slot-requires
     same-length-5
     same-length-6
     returns-3
-    page-sound-requires
     same-length-7
     same-length-8
     returns-4
-    slot-on-requires
-    enum-told
-    write-ordinary-requires
-    enum-told-2
-    enum-known-s
-    write-forwarded-requires
-    enum-told-3
     same-length-9
     same-length-10
-    returns-5
-    same-length-11
-    same-length-12
-    returns-6
-    same-length-13
-    same-length-14
-    returns-7
-    same-length-15
-    same-length-16
-    returns-8)
+    returns-5)

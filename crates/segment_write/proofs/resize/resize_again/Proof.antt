@@ -1,0 +1,69 @@
+-- `segment_write::resize::resize_again` meets its contract.
+use denote.Ref.{now}
+use mathlib.Core.Path.{ap, _∙_}
+use Prim.Native.Nat.{ℕ}
+use native.Mathlib.Omega.{arith}
+use lib.ListN.{take, length-take, length-replicate}
+use Rattle.store.specs.Numbers.{fit}
+use Rattle.store.specs.Laws.Calls.{back-ok}
+use Rattle.segment_pages.proofs.Root.{back-taken}
+use Rattle.segment_write.proofs.Stored.{again-same}
+use borrow.Author.Needs.{needs}
+use Rattle.segment_write.proofs.resize.resize_again.Statement.{statement}
+use Rattle.segment_write.proofs.resize.resize_again.Tie as tie
+
+abbrev entry : tie.After-save-target → tie.Start
+entry c = c .before .before .before .before .before
+
+slice-aggregate-save-target : tie.Need-slice-aggregate-save-target
+slice-aggregate-save-target c = search needs
+
+save-target-requires : tie.Need-save-target-requires
+save-target-requires c κs =
+    let z = c .before .before .before .before in
+    let s = now (z .args .segment) in
+    let back = z .pre .1 .0 .back in
+    let h = back-taken s (z .args .id) (z .args .t) back in
+    (record { whole = h .whole; sound = h .sound }, (back-ok s (z .args .id) (z .args .t) back .1, length-replicate {A = ℕ} 16384 0))
+
+array-share-prefix-old : tie.Need-array-share-prefix-old
+array-share-prefix-old c = search needs
+
+slice-aggregate-forward-again : tie.Need-slice-aggregate-forward-again
+slice-aggregate-forward-again c =
+    let w = c .before .before .before .before in
+    rw length-take (omega (arith, w .save-target .ensures .0))
+
+forward-again-requires : tie.Need-forward-again-requires
+forward-again-requires c κs = search needs
+
+same-length : tie.Need-same-length
+same-length c = search needs
+
+same-length-2 : tie.Need-same-length-2
+same-length-2 c = search needs
+
+returns : tie.Need-returns
+returns c =
+    let y = c .before .before .before .before in
+    let w = y .before .before .before .before .before in
+    let z = entry w in
+    let a = z .args in
+    let s = now (a .segment) in
+    let v = now (a .inventory) in
+    let old = take (w .save-target .result) (w .save-target .last .1 .1 .0) in
+    y .forward-again .ensures
+    ∙ again-same s v (a .id) (a .size) (fit (a .size)) (a .t) (fit (a .size) old) (ap (fit (a .size)) (w .save-target .ensures .1))
+
+pub resize-again-spec : {M : Type 1} → statement M
+resize-again-spec =
+    tie.close
+    (tie.spec
+    slice-aggregate-save-target
+    save-target-requires
+    array-share-prefix-old
+    slice-aggregate-forward-again
+    forward-again-requires
+    same-length
+    same-length-2
+    returns)

@@ -1,0 +1,72 @@
+-- `segment_write::resize::resize_home` meets its contract.
+use denote.Ref.{now}
+use mathlib.Core.Path.{ap, _∙_}
+use Prim.Native.Nat.{ℕ}
+use native.Mathlib.Omega.{arith}
+use lib.ListN.{take, length-take, length-replicate}
+use borrow.Author.Tests.{le-leb}
+use Rattle.store.specs.Numbers.{fit, pageNo}
+use Rattle.store.specs.Segment.{segView}
+use Rattle.store.specs.Laws.Calls.{back-ok}
+use Rattle.segment_pages.proofs.Root.{back-taken}
+use Rattle.segment_write.proofs.Stored.{goes-home, home-same}
+use borrow.Author.Needs.{needs}
+use Rattle.segment_write.proofs.resize.resize_home.Statement.{statement}
+use Rattle.segment_write.proofs.resize.resize_home.Tie as tie
+
+abbrev entry : tie.After-save-target → tie.Start
+entry c = c .before .before .before .before .before
+
+slice-aggregate-save-target : tie.Need-slice-aggregate-save-target
+slice-aggregate-save-target c = search needs
+
+save-target-requires : tie.Need-save-target-requires
+save-target-requires c κs =
+    let z = c .before .before .before .before in
+    let s = now (z .args .segment) in
+    let back = z .pre .1 .0 .back in
+    let h = back-taken s (z .args .id) (z .args .t) back in
+    (record { whole = h .whole; sound = h .sound }, (back-ok s (z .args .id) (z .args .t) back .1, length-replicate {A = ℕ} 16384 0))
+
+array-share-prefix-old : tie.Need-array-share-prefix-old
+array-share-prefix-old c = search needs
+
+slice-aggregate-at-home : tie.Need-slice-aggregate-at-home
+slice-aggregate-at-home c =
+    let w = c .before .before .before .before in
+    rw length-take (omega (arith, w .save-target .ensures .0))
+
+at-home-requires : tie.Need-at-home-requires
+at-home-requires c κs = search needs
+
+same-length : tie.Need-same-length
+same-length c = search needs
+
+same-length-2 : tie.Need-same-length-2
+same-length-2 c = search needs
+
+returns : tie.Need-returns
+returns c =
+    let y = c .before .before .before .before in
+    let w = y .before .before .before .before .before in
+    let z = entry w in
+    let a = z .args in
+    let s = now (a .segment) in
+    let v = now (a .inventory) in
+    let old = take (w .save-target .result) (w .save-target .last .1 .1 .0) in
+    let room = le-leb (a .size) (segView s .page (pageNo (a .id)) .freeSpace) (z .pre .1 .1) in
+    y .at-home .ensures ∙ home-same s v (a .id) (a .size) (fit (a .size)) (a .t) (fit (a .size) old) (ap (fit (a .size)) (w .save-target .ensures .1))
+    (goes-home s v (a .id) (a .size) (fit (a .size)) (a .t) (z .pre .1 .0) room)
+
+pub resize-home-spec : {M : Type 1} → statement M
+resize-home-spec =
+    tie.close
+    (tie.spec
+    slice-aggregate-save-target
+    save-target-requires
+    array-share-prefix-old
+    slice-aggregate-at-home
+    at-home-requires
+    same-length
+    same-length-2
+    returns)

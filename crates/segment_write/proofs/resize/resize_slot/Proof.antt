@@ -1,0 +1,99 @@
+-- `segment_write::resize::resize_slot` meets its contract.
+use denote.Ref.{now}
+use mathlib.Core.Path.{subst, _∙_}
+use Rattle.store.specs.Numbers.{fit}
+use Rattle.store.specs.Laws.Lent.{RootIs}
+use Rattle.segment_write.proofs.Stored.{by-entry, by-free, by-target}
+use borrow.Author.Needs.{needs}
+use Rattle.segment_write.proofs.resize.resize_slot.Statement.{statement}
+use Rattle.segment_write.proofs.resize.resize_slot.Tie as tie
+
+abbrev entry : tie.After-slice-known2 → tie.Start
+entry c = c .before .before
+
+enum-known-slot : tie.Need-enum-known-slot
+enum-known-slot c = search needs
+
+resize-ordinary-requires : tie.Need-resize-ordinary-requires
+resize-ordinary-requires c κs =
+    let m = c .before .before .before in
+    let z = entry (m .before .before) in
+    (z .pre .0, (subst (RootIs (now (z .args .segment)) (z .args .id)) (m .slot .given .1) (z .pre .1 .0), z .pre .1 .1))
+
+enum-told : tie.Need-enum-told
+enum-told c = search needs
+
+enum-known-slot-2 : tie.Need-enum-known-slot-2
+enum-known-slot-2 c = search needs
+
+resize-forwarded-requires : tie.Need-resize-forwarded-requires
+resize-forwarded-requires c κs =
+    let m = c .before .before .before in
+    let z = entry (m .before .before) in
+    (z .pre .0, (subst (RootIs (now (z .args .segment)) (z .args .id)) (m .slot2 .given .1) (z .pre .1 .0), z .pre .1 .1))
+
+enum-told-2 : tie.Need-enum-told-2
+enum-told-2 c = search needs
+
+same-length : tie.Need-same-length
+same-length c = search needs
+
+same-length-2 : tie.Need-same-length-2
+same-length-2 c = search needs
+
+returns : tie.Need-returns
+returns c =
+    let w = c .before .before .before .before in
+    let m = w .before .before .before .before in
+    let a = entry (m .before .before) .args in
+    let s = now (a .segment) in
+    let v = now (a .inventory) in
+    w .resize-ordinary .ensures ∙ by-entry s v (a .id) (a .size) (fit (a .size)) (a .slot) _ (m .slot .given .1)
+
+returns-2 : tie.Need-returns-2
+returns-2 c =
+    let a = entry (c .before .before) .args in
+    let s = now (a .segment) in
+    let v = now (a .inventory) in
+    by-free s v (a .id) (a .size) (fit (a .size)) ∙ by-entry s v (a .id) (a .size) (fit (a .size)) (a .slot) _ (c .enum-told .given .1)
+
+same-length-3 : tie.Need-same-length-3
+same-length-3 c = search needs
+
+same-length-4 : tie.Need-same-length-4
+same-length-4 c = search needs
+
+returns-3 : tie.Need-returns-3
+returns-3 c =
+    let w = c .before .before .before .before in
+    let m = w .before .before .before .before in
+    let a = entry (m .before .before) .args in
+    let s = now (a .segment) in
+    let v = now (a .inventory) in
+    w .resize-forwarded .ensures ∙ by-entry s v (a .id) (a .size) (fit (a .size)) (a .slot) _ (m .slot2 .given .1)
+
+returns-4 : tie.Need-returns-4
+returns-4 c =
+    let a = entry (c .before .before) .args in
+    let s = now (a .segment) in
+    let v = now (a .inventory) in
+    by-target s v (a .id) (a .size) (fit (a .size)) 0 0 ∙ by-entry s v (a .id) (a .size) (fit (a .size)) (a .slot) _ (c .enum-told2 .given .1)
+
+pub resize-slot-spec : {M : Type 1} → statement M
+resize-slot-spec =
+    tie.close
+    (tie.spec
+    enum-known-slot
+    resize-ordinary-requires
+    enum-told
+    enum-known-slot-2
+    resize-forwarded-requires
+    enum-told-2
+    same-length
+    same-length-2
+    returns
+    returns-2
+    same-length-3
+    same-length-4
+    returns-3
+    returns-4)

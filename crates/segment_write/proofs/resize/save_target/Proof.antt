@@ -1,0 +1,102 @@
+-- `segment_write::resize::save_target` meets its contract.
+use denote.Ref.{now}
+use mathlib.Core.Path.{sym, ap, _∙_}
+use Prim.Native.Nat.{ℕ, _+_, _-_, _*_, _≤_}
+use native.Mathlib.Omega.{arith}
+use Rattle.store.specs.Numbers.{cut, pageNo, slotNo}
+use Rattle.store.specs.Slots.{off, len, isTarget}
+use Rattle.segment_pages.proofs.Seen.{few-slots, slot-high, target-long}
+use Rattle.segment_write.proofs.Stored.{saved, target-cut}
+use borrow.Author.Needs.{needs}
+use Rattle.segment_write.proofs.resize.save_target.Statement.{statement}
+use Rattle.segment_write.proofs.resize.save_target.Tie as tie
+
+abbrev entry : tie.After-slot-on → tie.Start
+entry c = c .before .before .before
+
+-- the target's record lies on its page, and has its 8 bytes
+inside : (c : tie.After-slot-on) → let x = c .slot-on .result in (8 ≤ len x) × (off x + len x ≤ 16384)
+inside c =
+    let z = entry c in
+    let s = now (z .args .segment) in
+    let p = pageNo (z .args .t) in
+    let k = slotNo (z .args .t) in
+    let x = c .slot-on in (
+      target-long s p (z .pre .0 .whole) (z .pre .0 .sound) k (x .result) (sym (x .ensures .0)) (ap isTarget (x .ensures .0) ∙ z .pre .1 .0),
+      slot-high s p (z .pre .0 .whole) (z .pre .0 .sound) k (x .result) (sym (x .ensures .0)),
+    )
+
+slot-on-requires : tie.Need-slot-on-requires
+slot-on-requires c κs =
+    let z = c .before .before in
+    (z .pre .0 .whole, few-slots (now (z .args .segment)) (pageNo (z .args .t)) (z .pre .0 .whole) (z .pre .0 .sound))
+
+len-of-requires : tie.Need-len-of-requires
+len-of-requires c κs = search needs
+
+sub-n : tie.Need-sub-n
+sub-n c = let i = inside (c .before) in omega (arith, c .len-of .ensures, i .0)
+
+mul-at : tie.Need-mul-at
+mul-at c = search needs
+
+off-of-requires : tie.Need-off-of-requires
+off-of-requires c κs = search needs
+
+add-at : tie.Need-add-at
+add-at c =
+    let x = c .before .before in
+    omega (arith, c .off-of .ensures, inside x .1, entry x .pre .0 .whole)
+
+add-at-2 : tie.Need-add-at-2
+add-at-2 c =
+    let x = c .before .before in
+    omega (arith, c .off-of .ensures, inside x .0, inside x .1, entry x .pre .0 .whole)
+
+save-requires : tie.Need-save-requires
+save-requires c κs =
+    let o = c .before in
+    let l = o .before in
+    let x = l .before in
+    let z = entry x in (
+      omega (arith, o .off-of .ensures, l .len-of .ensures, inside x .0, inside x .1, z .pre .0 .whole),
+      omega (arith, l .len-of .ensures, inside x .1, z .pre .1 .1),
+    )
+
+same-length : tie.Need-same-length
+same-length c = search needs
+
+returns : tie.Need-returns
+returns c =
+    let w = c .before .before in
+    let o = w .before .before in
+    let l = o .before in
+    let x = l .before in
+    let z = entry x in
+    let s = now (z .args .segment) in
+    let p = pageNo (z .args .t) in
+    let n : ℕ = l .len-of .result - 8 in
+    let at : ℕ = p * 16384 + o .off-of .result + 8 in
+    let y = x .slot-on .result in (
+      omega (arith, l .len-of .ensures, inside x .1),
+      saved s (now (z .args .old)) at n (omega (arith, o .off-of .ensures, l .len-of .ensures, inside x .0, inside x .1, z .pre .0 .whole))
+          (omega (arith, l .len-of .ensures, inside x .1, z .pre .1 .1)) (w .save .last .1 .1 .1 .0) (w .save .ensures)
+          ∙ ap (λ (m : ℕ). cut s (p * 16384 + m + 8) n) (o .off-of .ensures)
+          ∙ ap (λ (m : ℕ). cut s (p * 16384 + off y + 8) (m - 8)) (l .len-of .ensures)
+          ∙ target-cut s p (slotNo (z .args .t)) y (sym (x .slot-on .ensures .0)) (inside x .1),
+    )
+
+pub save-target-spec : {M : Type 1} → statement M
+save-target-spec =
+    tie.close
+    (tie.spec
+    slot-on-requires
+    len-of-requires
+    sub-n
+    mul-at
+    off-of-requires
+    add-at
+    add-at-2
+    save-requires
+    same-length
+    returns)
