@@ -31,8 +31,8 @@ array-share-prefix-old c = search needs
 
 slice-aggregate-forward-again : tie.Need-slice-aggregate-forward-again
 slice-aggregate-forward-again c =
-    let w = c .before .before .before .before in
-    rw length-take (omega (arith, w .save-target .ensures .0))
+    let copied = c .before .before .before .before in
+    rw length-take (omega (arith, copied .save-target .ensures .0))
 
 forward-again-requires : tie.Need-forward-again-requires
 forward-again-requires c κs = search needs
@@ -45,15 +45,15 @@ same-length-2 c = search needs
 
 returns : tie.Need-returns
 returns c =
-    let y = c .before .before .before .before in
-    let w = y .before .before .before .before .before in
-    let z = entry w in
+    let sent = c .before .before .before .before in
+    let copied = sent .before .before .before .before .before in
+    let z = entry copied in
     let a = z .args in
     let s = now (a .segment) in
     let v = now (a .inventory) in
-    let old = take (w .save-target .result) (w .save-target .last .1 .1 .0) in
-    y .forward-again .ensures
-    ∙ again-same s v (a .id) (a .size) (fit (a .size)) (a .t) (fit (a .size) old) (ap (fit (a .size)) (w .save-target .ensures .1))
+    let old = take (copied .save-target .result) (copied .save-target .last .1 .1 .0) in
+    sent .forward-again .ensures
+    ∙ again-same s v (a .id) (a .size) (fit (a .size)) (a .t) (fit (a .size) old) (ap (fit (a .size)) (copied .save-target .ensures .1))
 
 pub resize-again-spec : {M : Type 1} → statement M
 resize-again-spec =

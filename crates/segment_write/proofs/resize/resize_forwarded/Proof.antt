@@ -42,32 +42,32 @@ far : (c : tie.Else2) → let a = start (c .before) .args in
 far c = sym (c .before .fits-home .ensures) ∙ c .if2 .left
 
 -- at the target: the record there, or every byte
-moved-there : (c : tie.Then3) → let x = c .before .before .before in let a = start (tested x) .args in
+moved-there : (c : tie.Then3) → let tried = c .before .before .before in let a = start (tested tried) .args in
     let s = now (a .segment) in let p = pageNo (a .t) in let k = slotNo (a .t) in let old = drop 8 (segView s .page p .bytes k) in
-    Moves s p k (a .size + 8) (toBE 8 (a .id) ++ fit (a .size) old) (x .resize-target-on .last .0)
+    Moves s p k (a .size + 8) (toBE 8 (a .id) ++ fit (a .size) old) (tried .resize-target-on .last .0)
 moved-there c =
-    let x = c .before .before .before in
-    let a = start (tested x) .args in
+    let tried = c .before .before .before in
+    let a = start (tested tried) .args in
     let s = now (a .segment) in
     let p = pageNo (a .t) in
     let k = slotNo (a .t) in
     let old = drop 8 (segView s .page p .bytes k) in
-    let y = x .resize-target-on in
-    moves s p k (back-taken s (a .id) (a .t) (follows (tested x) .back)) (a .size + 8) (toBE 8 (a .id) ++ fit (a .size) old)
-    (y .last .0) (y .ensures .0) (y .result) (y .ensures .1) (λ e. omega arith)
+    let step = tried .resize-target-on in
+    moves s p k (back-taken s (a .id) (a .t) (follows (tested tried) .back)) (a .size + 8) (toBE 8 (a .id) ++ fit (a .size) old)
+    (step .last .0) (step .ensures .0) (step .result) (step .ensures .1) (λ e. omega arith)
     (target-length (a .id) (fit (a .size) old) (a .size) (length-fit (a .size) old)) (c .if3 .taken)
 
-same-there : (c : tie.Else3) → let x = c .before .before .before in x .resize-target-on .last .0 ≡ now (start (tested x) .args .segment)
+same-there : (c : tie.Else3) → let tried = c .before .before .before in tried .resize-target-on .last .0 ≡ now (start (tested tried) .args .segment)
 same-there c =
-    let x = c .before .before .before in
-    let a = start (tested x) .args in
+    let tried = c .before .before .before in
+    let a = start (tested tried) .args in
     let s = now (a .segment) in
     let p = pageNo (a .t) in
     let k = slotNo (a .t) in
     let old = drop 8 (segView s .page p .bytes k) in
-    let y = x .resize-target-on in
-    unmoved s p k (back-taken s (a .id) (a .t) (follows (tested x) .back)) (a .size + 8) (toBE 8 (a .id) ++ fit (a .size) old)
-    (y .last .0) (y .ensures .0) (y .result) (y .ensures .1) (c .if3 .left)
+    let step = tried .resize-target-on in
+    unmoved s p k (back-taken s (a .id) (a .t) (follows (tested tried) .back)) (a .size + 8) (toBE 8 (a .id) ++ fit (a .size) old)
+    (step .last .0) (step .ensures .0) (step .result) (step .ensures .1) (c .if3 .left)
 
 points-back-requires : tie.Need-points-back-requires
 points-back-requires c κs = search needs
@@ -89,11 +89,11 @@ fits-home-requires c κs =
 
 resize-home-requires : tie.Need-resize-home-requires
 resize-home-requires c κs =
-    let m = c .before .before in
-    let z = start (m .before) in
+    let fits = c .before .before in
+    let z = start (fits .before) in
     let a = z .args in
     let free = segView (now (a .segment)) .page (pageNo (a .id)) .freeSpace in
-    (z .pre .0, (follows (m .before), leb-true (a .size) free (sym (m .before .fits-home .ensures) ∙ m .if2 .taken)))
+    (z .pre .0, (follows (fits .before), leb-true (a .size) free (sym (fits .before .fits-home .ensures) ∙ fits .if2 .taken)))
 
 same-length-2 : tie.Need-same-length-2
 same-length-2 c = search needs
@@ -103,23 +103,23 @@ same-length-3 c = search needs
 
 returns-2 : tie.Need-returns-2
 returns-2 c =
-    let y = c .before .before .before .before in
-    let m = y .before .before .before in
-    let a = start (m .before) .args in
-    y .resize-home .ensures
-    ∙ by-home (now (a .segment)) (now (a .inventory)) (a .id) (a .size) (fit (a .size)) (a .t) (follows (m .before))
+    let sent = c .before .before .before .before in
+    let fits = sent .before .before .before in
+    let a = start (fits .before) .args in
+    sent .resize-home .ensures
+    ∙ by-home (now (a .segment)) (now (a .inventory)) (a .id) (a .size) (fit (a .size)) (a .t) (follows (fits .before))
 
 resize-target-on-requires : tie.Need-resize-target-on-requires
 resize-target-on-requires c κs =
-    let h = c .before .before in
-    let z = start h in
-    (back-taken (now (z .args .segment)) (z .args .id) (z .args .t) (follows h .back), z .pre .1 .1)
+    let home = c .before .before in
+    let z = start home in
+    (back-taken (now (z .args .segment)) (z .args .id) (z .args .t) (follows home .back), z .pre .1 .1)
 
 update-on-requires : tie.Need-update-on-requires
 update-on-requires c κs =
-    let m = c .before .before in
-    let z = start (tested (m .before .before .before)) in
-    told-asks (now (z .args .segment)) _ _ _ _ _ (moved-there m) (now (z .args .inventory)) (z .pre .0)
+    let there = c .before .before in
+    let z = start (tested (there .before .before .before)) in
+    told-asks (now (z .args .segment)) _ _ _ _ _ (moved-there there) (now (z .args .inventory)) (z .pre .0)
 
 same-length-4 : tie.Need-same-length-4
 same-length-4 c = search needs
@@ -129,23 +129,23 @@ same-length-5 c = search needs
 
 returns-3 : tie.Need-returns-3
 returns-3 c =
-    let u = c .before .before in
-    let m = u .before .before .before in
-    let x = m .before .before .before in
-    let h = tested x in
-    let a = start h .args in
+    let updated = c .before .before in
+    let there = updated .before .before .before in
+    let tried = there .before .before .before in
+    let home = tested tried in
+    let a = start home .args in
     let s = now (a .segment) in
-    by-stay s (now (a .inventory)) (a .id) (a .size) (fit (a .size)) (a .t) (follows h) (far (x .before .before))
-    (x .resize-target-on .last .0) _ (moved-there m) (u .update-on .ensures)
+    by-stay s (now (a .inventory)) (a .id) (a .size) (fit (a .size)) (a .t) (follows home) (far (tried .before .before))
+    (tried .resize-target-on .last .0) _ (moved-there there) (updated .update-on .ensures)
 
 resize-again-requires : tie.Need-resize-again-requires
 resize-again-requires c κs =
-    let e = c .before .before in
-    let h = tested (e .before .before .before) in
-    let z = start h in
+    let refused = c .before .before in
+    let home = tested (refused .before .before .before) in
+    let z = start home in
     let a = z .args in
-    subst (λ (l : List ℕ). Sizes l (now (a .inventory)) × (Follows l (a .id) (a .t) × (a .size ≤ 16364))) (sym (same-there e))
-    (z .pre .0, (follows h, z .pre .1 .1))
+    subst (λ (l : List ℕ). Sizes l (now (a .inventory)) × (Follows l (a .id) (a .t) × (a .size ≤ 16364))) (sym (same-there refused))
+    (z .pre .0, (follows home, z .pre .1 .1))
 
 same-length-6 : tie.Need-same-length-6
 same-length-6 c = search needs
@@ -155,15 +155,16 @@ same-length-7 c = search needs
 
 returns-4 : tie.Need-returns-4
 returns-4 c =
-    let y = c .before .before .before .before in
-    let e = y .before .before .before in
-    let x = e .before .before .before in
-    let h = tested x in
-    let a = start h .args in
+    let sent = c .before .before .before .before in
+    let refused = sent .before .before .before in
+    let tried = refused .before .before .before in
+    let home = tested tried in
+    let a = start home .args in
     let s = now (a .segment) in
     let v = now (a .inventory) in
-    by-again s v (a .id) (a .size) (fit (a .size)) (a .t) (follows h) (far (x .before .before)) (sym (x .resize-target-on .ensures .1) ∙ e .if3 .left)
-    (x .resize-target-on .last .0) (same-there e) _ (y .resize-again .ensures)
+    by-again s v (a .id) (a .size) (fit (a .size)) (a .t) (follows home) (far (tried .before .before))
+    (sym (tried .resize-target-on .ensures .1) ∙ refused .if3 .left)
+    (tried .resize-target-on .last .0) (same-there refused) _ (sent .resize-again .ensures)
 
 pub resize-forwarded-spec : {M : Type 1} → statement M
 resize-forwarded-spec =

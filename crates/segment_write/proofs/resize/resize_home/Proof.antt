@@ -33,8 +33,8 @@ array-share-prefix-old c = search needs
 
 slice-aggregate-at-home : tie.Need-slice-aggregate-at-home
 slice-aggregate-at-home c =
-    let w = c .before .before .before .before in
-    rw length-take (omega (arith, w .save-target .ensures .0))
+    let copied = c .before .before .before .before in
+    rw length-take (omega (arith, copied .save-target .ensures .0))
 
 at-home-requires : tie.Need-at-home-requires
 at-home-requires c κs = search needs
@@ -47,15 +47,15 @@ same-length-2 c = search needs
 
 returns : tie.Need-returns
 returns c =
-    let y = c .before .before .before .before in
-    let w = y .before .before .before .before .before in
-    let z = entry w in
+    let sent = c .before .before .before .before in
+    let copied = sent .before .before .before .before .before in
+    let z = entry copied in
     let a = z .args in
     let s = now (a .segment) in
     let v = now (a .inventory) in
-    let old = take (w .save-target .result) (w .save-target .last .1 .1 .0) in
+    let old = take (copied .save-target .result) (copied .save-target .last .1 .1 .0) in
     let room = le-leb (a .size) (segView s .page (pageNo (a .id)) .freeSpace) (z .pre .1 .1) in
-    y .at-home .ensures ∙ home-same s v (a .id) (a .size) (fit (a .size)) (a .t) (fit (a .size) old) (ap (fit (a .size)) (w .save-target .ensures .1))
+    sent .at-home .ensures ∙ home-same s v (a .id) (a .size) (fit (a .size)) (a .t) (fit (a .size) old) (ap (fit (a .size)) (copied .save-target .ensures .1))
     (goes-home s v (a .id) (a .size) (fit (a .size)) (a .t) (z .pre .1 .0) room)
 
 pub resize-home-spec : {M : Type 1} → statement M

@@ -36,49 +36,49 @@ entry c = c .before .before .before .before
 abbrev saving : tie.After-save → tie.Else1
 saving c = c .before .before .before
 
-moved-here : (c : tie.Then1) → let x = c .before .before .before in let a = entry x .args in
+moved-here : (c : tie.Then1) → let tried = c .before .before .before in let a = entry tried .args in
     let s = now (a .segment) in let p = pageNo (a .id) in let k = slotNo (a .id) in let old = segView s .page p .bytes k in
-    Moves s p k (a .size) (fit (a .size) old) (x .resize-on .last .0)
+    Moves s p k (a .size) (fit (a .size) old) (tried .resize-on .last .0)
 moved-here c =
-    let x = c .before .before .before in
-    let z = entry x in
+    let tried = c .before .before .before in
+    let z = entry tried in
     let a = z .args in
     let s = now (a .segment) in
     let p = pageNo (a .id) in
     let k = slotNo (a .id) in
     let old = segView s .page p .bytes k in
-    let y = x .resize-on in
+    let step = tried .resize-on in
     moves s p k (root-taken s (a .id) (Ordinary (a .offset) (a .n)) (z .pre .1 .0) refl) (a .size) (fit (a .size) old)
-    (y .last .0) (y .ensures .0) (y .result) (y .ensures .1) (no-target (segView s .page p .at k) (a .size) (ap isTarget (z .pre .1 .0 .entry)))
+    (step .last .0) (step .ensures .0) (step .result) (step .ensures .1) (no-target (segView s .page p .at k) (a .size) (ap isTarget (z .pre .1 .0 .entry)))
     (length-fit (a .size) old) (c .if1 .taken)
 
-same-here : (c : tie.Else1) → let x = c .before .before .before in x .resize-on .last .0 ≡ now (entry x .args .segment)
+same-here : (c : tie.Else1) → let tried = c .before .before .before in tried .resize-on .last .0 ≡ now (entry tried .args .segment)
 same-here c =
-    let x = c .before .before .before in
-    let z = entry x in
+    let tried = c .before .before .before in
+    let z = entry tried in
     let a = z .args in
     let s = now (a .segment) in
     let p = pageNo (a .id) in
     let k = slotNo (a .id) in
     let old = segView s .page p .bytes k in
-    let y = x .resize-on in
+    let step = tried .resize-on in
     unmoved s p k (root-taken s (a .id) (Ordinary (a .offset) (a .n)) (z .pre .1 .0) refl) (a .size) (fit (a .size) old)
-    (y .last .0) (y .ensures .0) (y .result) (y .ensures .1) (c .if1 .left)
+    (step .last .0) (step .ensures .0) (step .result) (step .ensures .1) (c .if1 .left)
 
 -- its bytes, saved
-kept : (c : tie.After-save) → let x = saving c .before .before .before in let a = entry x .args in
+kept : (c : tie.After-save) → let tried = saving c .before .before .before in let a = entry tried .args in
     take (a .n) (c .save .last .1 .1 .1 .0) ≡ segView (now (a .segment)) .page (pageNo (a .id)) .bytes (slotNo (a .id))
 kept c =
-    let e = saving c in
-    let x = e .before .before .before in
-    let z = entry x in
+    let refused = saving c in
+    let tried = refused .before .before .before in
+    let z = entry tried in
     let a = z .args in
     let s = now (a .segment) in
     let at = pageNo (a .id) * 16384 + a .offset in
-    let inside : at + a .n ≤ length (x .resize-on .last .0) = omega (arith, in-page z .1, ap length (same-here e)) in
-    saved (x .resize-on .last .0) (replicate 16384 0) at (a .n) inside (rw length-replicate (omega (arith, in-page z .0)))
+    let inside : at + a .n ≤ length (tried .resize-on .last .0) = omega (arith, in-page z .1, ap length (same-here refused)) in
+    saved (tried .resize-on .last .0) (replicate 16384 0) at (a .n) inside (rw length-replicate (omega (arith, in-page z .0)))
     (c .save .last .1 .1 .1 .0) (c .save .ensures)
-    ∙ ap (λ (t : List ℕ). cut t at (a .n)) (same-here e)
+    ∙ ap (λ (t : List ℕ). cut t at (a .n)) (same-here refused)
     ∙ slot-bytes s (pageNo (a .id)) (slotNo (a .id)) (Ordinary (a .offset) (a .n)) (z .pre .1 .0 .entry) (in-page z .0)
 
 resize-on-requires : tie.Need-resize-on-requires
@@ -88,9 +88,9 @@ resize-on-requires c κs =
 
 update-on-requires : tie.Need-update-on-requires
 update-on-requires c κs =
-    let m = c .before .before in
-    let z = entry (m .before .before .before) in
-    told-asks (now (z .args .segment)) _ _ _ _ _ (moved-here m) (now (z .args .inventory)) (z .pre .0)
+    let there = c .before .before in
+    let z = entry (there .before .before .before) in
+    told-asks (now (z .args .segment)) _ _ _ _ _ (moved-here there) (now (z .args .inventory)) (z .pre .0)
 
 same-length : tie.Need-same-length
 same-length c = search needs
@@ -100,12 +100,12 @@ same-length-2 c = search needs
 
 returns : tie.Need-returns
 returns c =
-    let u = c .before .before in
-    let m = u .before .before .before in
-    let x = m .before .before .before in
-    let a = entry x .args in
+    let updated = c .before .before in
+    let there = updated .before .before .before in
+    let tried = there .before .before .before in
+    let a = entry tried .args in
     by-page (now (a .segment)) (now (a .inventory)) (a .id) (a .size) (fit (a .size)) (a .offset) (a .n)
-    (x .resize-on .last .0) _ (moved-here m) (u .update-on .ensures)
+    (tried .resize-on .last .0) _ (moved-here there) (updated .update-on .ensures)
 
 mul-save : tie.Need-mul-save
 mul-save c = search needs
@@ -118,30 +118,30 @@ slice-aggregate-save c = search needs
 
 save-requires : tie.Need-save-requires
 save-requires c κs =
-    let e = c .before .before in
-    let z = entry (e .before .before .before) in
-    (omega (arith, in-page z .1, ap length (same-here e)), rw length-replicate (omega (arith, in-page z .0)))
+    let refused = c .before .before in
+    let z = entry (refused .before .before .before) in
+    (omega (arith, in-page z .1, ap length (same-here refused)), rw length-replicate (omega (arith, in-page z .0)))
 
 array-share-prefix-old : tie.Need-array-share-prefix-old
 array-share-prefix-old c =
-    let w = c .before .before .before in
-    let z = entry (saving w .before .before .before) in
-    rw (w .save .ensures, length-put, length-replicate) (omega (arith, in-page z .0))
+    let copied = c .before .before .before in
+    let z = entry (saving copied .before .before .before) in
+    rw (copied .save .ensures, length-put, length-replicate) (omega (arith, in-page z .0))
 
 slice-aggregate-forward : tie.Need-slice-aggregate-forward
 slice-aggregate-forward c =
-    let w = c .before .before .before .before in
-    let z = entry (saving w .before .before .before) in
-    rw (length-take, w .save .ensures, length-put, length-replicate) (omega (arith, in-page z .0))
+    let copied = c .before .before .before .before in
+    let z = entry (saving copied .before .before .before) in
+    rw (length-take, copied .save .ensures, length-put, length-replicate) (omega (arith, in-page z .0))
 
 forward-requires : tie.Need-forward-requires
 forward-requires c κs =
-    let e = saving (c .before .before .before .before) in
-    let z = entry (e .before .before .before) in
+    let refused = saving (c .before .before .before .before) in
+    let z = entry (refused .before .before .before) in
     let a = z .args in
     let taken = root-taken (now (a .segment)) (a .id) (Ordinary (a .offset) (a .n)) (z .pre .1 .0) refl in
     subst (λ (l : List ℕ). Sizes l (now (a .inventory)) × (TakenOn l (pageNo (a .id)) (slotNo (a .id)) × (a .size ≤ 16364)))
-    (sym (same-here e)) (z .pre .0, (taken, z .pre .1 .1))
+    (sym (same-here refused)) (z .pre .0, (taken, z .pre .1 .1))
 
 same-length-3 : tie.Need-same-length-3
 same-length-3 c = search needs
@@ -151,14 +151,14 @@ same-length-4 c = search needs
 
 returns-2 : tie.Need-returns-2
 returns-2 c =
-    let f = c .before .before .before .before in
-    let w = f .before .before .before .before .before in
-    let e = saving w in
-    let x = e .before .before .before in
-    let a = entry x .args in
+    let sent = c .before .before .before .before in
+    let copied = sent .before .before .before .before .before in
+    let refused = saving copied in
+    let tried = refused .before .before .before in
+    let a = entry tried .args in
     by-forward (now (a .segment)) (now (a .inventory)) (a .id) (a .size) (fit (a .size)) (a .offset) (a .n)
-    (sym (x .resize-on .ensures .1) ∙ e .if1 .left) (fit (a .size) (take (a .n) (w .save .last .1 .1 .1 .0))) (ap (fit (a .size)) (kept w))
-    (x .resize-on .last .0) (same-here e) _ (f .forward .ensures)
+    (sym (tried .resize-on .ensures .1) ∙ refused .if1 .left) (fit (a .size) (take (a .n) (copied .save .last .1 .1 .1 .0))) (ap (fit (a .size)) (kept copied))
+    (tried .resize-on .last .0) (same-here refused) _ (sent .forward .ensures)
 
 pub resize-ordinary-spec : {M : Type 1} → statement M
 resize-ordinary-spec =

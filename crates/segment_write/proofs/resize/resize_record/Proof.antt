@@ -75,11 +75,11 @@ enum-known-root c = search needs
 
 resize-slot-requires : tie.Need-resize-slot-requires
 resize-slot-requires c κs =
-    let m = c .before .before .before in
-    let r = m .before .before in
-    let a = start r .args in
+    let told = c .before .before .before in
+    let root = told .before .before in
+    let a = start root .args in
     let s = now (a .segment) in
-    (sizes s (now (a .inventory)) (sizes-here (r .before .before .before)), (root-is s (a .id) _ (root-here r _ (m .root .given .1)), short r))
+    (sizes s (now (a .inventory)) (sizes-here (root .before .before .before)), (root-is s (a .id) _ (root-here root _ (told .root .given .1)), short root))
 
 same-length-5 : tie.Need-same-length-5
 same-length-5 c = search needs
@@ -89,11 +89,11 @@ same-length-6 c = search needs
 
 returns-3 : tie.Need-returns-3
 returns-3 c =
-    let r = c .before .before in
-    let a = start r .args in
+    let root = c .before .before in
+    let a = start root .args in
     let s = now (a .segment) in
     let v = now (a .inventory) in
-    step-past s v (a .id) (a .size) (fit (a .size)) (sizes-here (r .before .before .before)) (short r) (root-here r _ (c .enum-told .given .1))
+    step-past s v (a .id) (a .size) (fit (a .size)) (sizes-here (root .before .before .before)) (short root) (root-here root _ (c .enum-told .given .1))
     ∙ resize-is s v (a .id) (a .size)
 
 same-length-7 : tie.Need-same-length-7
@@ -104,11 +104,11 @@ same-length-8 c = search needs
 
 returns-4 : tie.Need-returns-4
 returns-4 c =
-    let r = c .before .before in
-    let a = start r .args in
+    let root = c .before .before in
+    let a = start root .args in
     let s = now (a .segment) in
     let v = now (a .inventory) in
-    step-damaged s v (a .id) (a .size) (fit (a .size)) (sizes-here (r .before .before .before)) (short r) (root-here r _ (c .enum-told2 .given .1))
+    step-damaged s v (a .id) (a .size) (fit (a .size)) (sizes-here (root .before .before .before)) (short root) (root-here root _ (c .enum-told2 .given .1))
     ∙ resize-is s v (a .id) (a .size)
 
 same-length-9 : tie.Need-same-length-9
@@ -119,14 +119,14 @@ same-length-10 c = search needs
 
 returns-5 : tie.Need-returns-5
 returns-5 c =
-    let w = c .before .before .before .before in
-    let m = w .before .before .before .before in
-    let r = m .before .before in
-    let a = start r .args in
+    let sent = c .before .before .before .before in
+    let told = sent .before .before .before .before in
+    let root = told .before .before in
+    let a = start root .args in
     let s = now (a .segment) in
     let v = now (a .inventory) in
-    w .resize-slot .ensures
-    ∙ step-by s v (a .id) (a .size) (fit (a .size)) (sizes-here (r .before .before .before)) (short r) _ (root-here r _ (m .root .given .1))
+    sent .resize-slot .ensures
+    ∙ step-by s v (a .id) (a .size) (fit (a .size)) (sizes-here (root .before .before .before)) (short root) _ (root-here root _ (told .root .given .1))
     ∙ resize-is s v (a .id) (a .size)
 
 pub resize-record-spec : {M : Type 1} → statement M

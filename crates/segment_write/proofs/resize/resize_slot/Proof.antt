@@ -16,9 +16,9 @@ enum-known-slot c = search needs
 
 resize-ordinary-requires : tie.Need-resize-ordinary-requires
 resize-ordinary-requires c κs =
-    let m = c .before .before .before in
-    let z = entry (m .before .before) in
-    (z .pre .0, (subst (RootIs (now (z .args .segment)) (z .args .id)) (m .slot .given .1) (z .pre .1 .0), z .pre .1 .1))
+    let told = c .before .before .before in
+    let z = entry (told .before .before) in
+    (z .pre .0, (subst (RootIs (now (z .args .segment)) (z .args .id)) (told .slot .given .1) (z .pre .1 .0), z .pre .1 .1))
 
 enum-told : tie.Need-enum-told
 enum-told c = search needs
@@ -28,9 +28,9 @@ enum-known-slot-2 c = search needs
 
 resize-forwarded-requires : tie.Need-resize-forwarded-requires
 resize-forwarded-requires c κs =
-    let m = c .before .before .before in
-    let z = entry (m .before .before) in
-    (z .pre .0, (subst (RootIs (now (z .args .segment)) (z .args .id)) (m .slot2 .given .1) (z .pre .1 .0), z .pre .1 .1))
+    let told = c .before .before .before in
+    let z = entry (told .before .before) in
+    (z .pre .0, (subst (RootIs (now (z .args .segment)) (z .args .id)) (told .slot2 .given .1) (z .pre .1 .0), z .pre .1 .1))
 
 enum-told-2 : tie.Need-enum-told-2
 enum-told-2 c = search needs
@@ -43,12 +43,12 @@ same-length-2 c = search needs
 
 returns : tie.Need-returns
 returns c =
-    let w = c .before .before .before .before in
-    let m = w .before .before .before .before in
-    let a = entry (m .before .before) .args in
+    let sent = c .before .before .before .before in
+    let told = sent .before .before .before .before in
+    let a = entry (told .before .before) .args in
     let s = now (a .segment) in
     let v = now (a .inventory) in
-    w .resize-ordinary .ensures ∙ by-entry s v (a .id) (a .size) (fit (a .size)) (a .slot) _ (m .slot .given .1)
+    sent .resize-ordinary .ensures ∙ by-entry s v (a .id) (a .size) (fit (a .size)) (a .slot) _ (told .slot .given .1)
 
 returns-2 : tie.Need-returns-2
 returns-2 c =
@@ -65,12 +65,12 @@ same-length-4 c = search needs
 
 returns-3 : tie.Need-returns-3
 returns-3 c =
-    let w = c .before .before .before .before in
-    let m = w .before .before .before .before in
-    let a = entry (m .before .before) .args in
+    let sent = c .before .before .before .before in
+    let told = sent .before .before .before .before in
+    let a = entry (told .before .before) .args in
     let s = now (a .segment) in
     let v = now (a .inventory) in
-    w .resize-forwarded .ensures ∙ by-entry s v (a .id) (a .size) (fit (a .size)) (a .slot) _ (m .slot2 .given .1)
+    sent .resize-forwarded .ensures ∙ by-entry s v (a .id) (a .size) (fit (a .size)) (a .slot) _ (told .slot2 .given .1)
 
 returns-4 : tie.Need-returns-4
 returns-4 c =

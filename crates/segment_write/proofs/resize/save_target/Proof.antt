@@ -45,22 +45,22 @@ off-of-requires c κs = search needs
 
 add-at : tie.Need-add-at
 add-at c =
-    let x = c .before .before in
-    omega (arith, c .off-of .ensures, inside x .1, entry x .pre .0 .whole)
+    let slot = c .before .before in
+    omega (arith, c .off-of .ensures, inside slot .1, entry slot .pre .0 .whole)
 
 add-at-2 : tie.Need-add-at-2
 add-at-2 c =
-    let x = c .before .before in
-    omega (arith, c .off-of .ensures, inside x .0, inside x .1, entry x .pre .0 .whole)
+    let slot = c .before .before in
+    omega (arith, c .off-of .ensures, inside slot .0, inside slot .1, entry slot .pre .0 .whole)
 
 save-requires : tie.Need-save-requires
 save-requires c κs =
-    let o = c .before in
-    let l = o .before in
-    let x = l .before in
-    let z = entry x in (
-      omega (arith, o .off-of .ensures, l .len-of .ensures, inside x .0, inside x .1, z .pre .0 .whole),
-      omega (arith, l .len-of .ensures, inside x .1, z .pre .1 .1),
+    let offset = c .before in
+    let length = offset .before in
+    let slot = length .before in
+    let z = entry slot in (
+      omega (arith, offset .off-of .ensures, length .len-of .ensures, inside slot .0, inside slot .1, z .pre .0 .whole),
+      omega (arith, length .len-of .ensures, inside slot .1, z .pre .1 .1),
     )
 
 same-length : tie.Need-same-length
@@ -68,22 +68,22 @@ same-length c = search needs
 
 returns : tie.Need-returns
 returns c =
-    let w = c .before .before in
-    let o = w .before .before in
-    let l = o .before in
-    let x = l .before in
-    let z = entry x in
+    let copied = c .before .before in
+    let offset = copied .before .before in
+    let length = offset .before in
+    let slot = length .before in
+    let z = entry slot in
     let s = now (z .args .segment) in
     let p = pageNo (z .args .t) in
-    let n : ℕ = l .len-of .result - 8 in
-    let at : ℕ = p * 16384 + o .off-of .result + 8 in
-    let y = x .slot-on .result in (
-      omega (arith, l .len-of .ensures, inside x .1),
-      saved s (now (z .args .old)) at n (omega (arith, o .off-of .ensures, l .len-of .ensures, inside x .0, inside x .1, z .pre .0 .whole))
-          (omega (arith, l .len-of .ensures, inside x .1, z .pre .1 .1)) (w .save .last .1 .1 .1 .0) (w .save .ensures)
-          ∙ ap (λ (m : ℕ). cut s (p * 16384 + m + 8) n) (o .off-of .ensures)
-          ∙ ap (λ (m : ℕ). cut s (p * 16384 + off y + 8) (m - 8)) (l .len-of .ensures)
-          ∙ target-cut s p (slotNo (z .args .t)) y (sym (x .slot-on .ensures .0)) (inside x .1),
+    let n : ℕ = length .len-of .result - 8 in
+    let at : ℕ = p * 16384 + offset .off-of .result + 8 in
+    let here = slot .slot-on .result in (
+      omega (arith, length .len-of .ensures, inside slot .1),
+      saved s (now (z .args .old)) at n (omega (arith, offset .off-of .ensures, length .len-of .ensures, inside slot .0, inside slot .1, z .pre .0 .whole))
+          (omega (arith, length .len-of .ensures, inside slot .1, z .pre .1 .1)) (copied .save .last .1 .1 .1 .0) (copied .save .ensures)
+          ∙ ap (λ (m : ℕ). cut s (p * 16384 + m + 8) n) (offset .off-of .ensures)
+          ∙ ap (λ (m : ℕ). cut s (p * 16384 + off here + 8) (m - 8)) (length .len-of .ensures)
+          ∙ target-cut s p (slotNo (z .args .t)) here (sym (slot .slot-on .ensures .0)) (inside slot .1),
     )
 
 pub save-target-spec : {M : Type 1} → statement M

@@ -42,32 +42,32 @@ far : (c : tie.Else2) → let a = start (c .before) .args in let bs = now (a .by
 far c = sym (c .before .fits-home .ensures) ∙ c .if2 .left
 
 -- at the target: the record there, or every byte
-moved-there : (c : tie.Then3) → let x = c .before .before .before in let a = start (tested x) .args in
+moved-there : (c : tie.Then3) → let tried = c .before .before .before in let a = start (tested tried) .args in
     let s = now (a .segment) in let bs = now (a .bytes) in let p = pageNo (a .t) in let k = slotNo (a .t) in
-    Moves s p k (length bs + 8) (toBE 8 (a .id) ++ bs) (x .rewrite-target-on .last .0)
+    Moves s p k (length bs + 8) (toBE 8 (a .id) ++ bs) (tried .rewrite-target-on .last .0)
 moved-there c =
-    let x = c .before .before .before in
-    let a = start (tested x) .args in
+    let tried = c .before .before .before in
+    let a = start (tested tried) .args in
     let s = now (a .segment) in
     let bs = now (a .bytes) in
     let p = pageNo (a .t) in
     let k = slotNo (a .t) in
-    let y = x .rewrite-target-on in
-    moves s p k (back-taken s (a .id) (a .t) (follows (tested x) .back)) (length bs + 8) (toBE 8 (a .id) ++ bs)
-    (y .last .0) (y .ensures .0) (y .result) (y .ensures .1) (λ e. omega arith)
+    let step = tried .rewrite-target-on in
+    moves s p k (back-taken s (a .id) (a .t) (follows (tested tried) .back)) (length bs + 8) (toBE 8 (a .id) ++ bs)
+    (step .last .0) (step .ensures .0) (step .result) (step .ensures .1) (λ e. omega arith)
     (target-length (a .id) bs (length bs) refl) (c .if3 .taken)
 
-same-there : (c : tie.Else3) → let x = c .before .before .before in x .rewrite-target-on .last .0 ≡ now (start (tested x) .args .segment)
+same-there : (c : tie.Else3) → let tried = c .before .before .before in tried .rewrite-target-on .last .0 ≡ now (start (tested tried) .args .segment)
 same-there c =
-    let x = c .before .before .before in
-    let a = start (tested x) .args in
+    let tried = c .before .before .before in
+    let a = start (tested tried) .args in
     let s = now (a .segment) in
     let bs = now (a .bytes) in
     let p = pageNo (a .t) in
     let k = slotNo (a .t) in
-    let y = x .rewrite-target-on in
-    unmoved s p k (back-taken s (a .id) (a .t) (follows (tested x) .back)) (length bs + 8) (toBE 8 (a .id) ++ bs)
-    (y .last .0) (y .ensures .0) (y .result) (y .ensures .1) (c .if3 .left)
+    let step = tried .rewrite-target-on in
+    unmoved s p k (back-taken s (a .id) (a .t) (follows (tested tried) .back)) (length bs + 8) (toBE 8 (a .id) ++ bs)
+    (step .last .0) (step .ensures .0) (step .result) (step .ensures .1) (c .if3 .left)
 
 points-back-requires : tie.Need-points-back-requires
 points-back-requires c κs = search needs
@@ -90,12 +90,12 @@ fits-home-requires c κs =
 
 at-home-requires : tie.Need-at-home-requires
 at-home-requires c κs =
-    let m = c .before .before in
-    let z = start (m .before) in
+    let fits = c .before .before in
+    let z = start (fits .before) in
     let a = z .args in
     let bs = now (a .bytes) in
     let free = segView (now (a .segment)) .page (pageNo (a .id)) .freeSpace in
-    (z .pre .0, (follows (m .before), leb-true (length bs) free (sym (m .before .fits-home .ensures) ∙ m .if2 .taken)))
+    (z .pre .0, (follows (fits .before), leb-true (length bs) free (sym (fits .before .fits-home .ensures) ∙ fits .if2 .taken)))
 
 same-length-2 : tie.Need-same-length-2
 same-length-2 c = search needs
@@ -105,28 +105,28 @@ same-length-3 c = search needs
 
 returns-2 : tie.Need-returns-2
 returns-2 c =
-    let y = c .before .before .before .before in
-    let m = y .before .before .before in
-    let a = start (m .before) .args in
+    let sent = c .before .before .before .before in
+    let fits = sent .before .before .before in
+    let a = start (fits .before) .args in
     let s = now (a .segment) in
     let bs = now (a .bytes) in
     let v = now (a .inventory) in
-    let h = follows (m .before) in
-    let went = goes-home s v (a .id) (length bs) (λ old. bs) (a .t) h (sym (m .before .fits-home .ensures) ∙ m .if2 .taken) in
-    y .at-home .ensures ∙ home-same s v (a .id) (length bs) (λ old. bs) (a .t) (fit (length bs) bs) (fit-all bs) went
-    ∙ by-home s v (a .id) (length bs) (λ old. bs) (a .t) h
+    let follow = follows (fits .before) in
+    let went = goes-home s v (a .id) (length bs) (λ old. bs) (a .t) follow (sym (fits .before .fits-home .ensures) ∙ fits .if2 .taken) in
+    sent .at-home .ensures ∙ home-same s v (a .id) (length bs) (λ old. bs) (a .t) (fit (length bs) bs) (fit-all bs) went
+    ∙ by-home s v (a .id) (length bs) (λ old. bs) (a .t) follow
 
 rewrite-target-on-requires : tie.Need-rewrite-target-on-requires
 rewrite-target-on-requires c κs =
-    let h = c .before .before in
-    let z = start h in
-    (back-taken (now (z .args .segment)) (z .args .id) (z .args .t) (follows h .back), z .pre .1 .1)
+    let home = c .before .before in
+    let z = start home in
+    (back-taken (now (z .args .segment)) (z .args .id) (z .args .t) (follows home .back), z .pre .1 .1)
 
 update-on-requires : tie.Need-update-on-requires
 update-on-requires c κs =
-    let m = c .before .before in
-    let z = start (tested (m .before .before .before)) in
-    told-asks (now (z .args .segment)) _ _ _ _ _ (moved-there m) (now (z .args .inventory)) (z .pre .0)
+    let there = c .before .before in
+    let z = start (tested (there .before .before .before)) in
+    told-asks (now (z .args .segment)) _ _ _ _ _ (moved-there there) (now (z .args .inventory)) (z .pre .0)
 
 same-length-4 : tie.Need-same-length-4
 same-length-4 c = search needs
@@ -136,24 +136,24 @@ same-length-5 c = search needs
 
 returns-3 : tie.Need-returns-3
 returns-3 c =
-    let u = c .before .before in
-    let m = u .before .before .before in
-    let x = m .before .before .before in
-    let h = tested x in
-    let a = start h .args in
+    let updated = c .before .before in
+    let there = updated .before .before .before in
+    let tried = there .before .before .before in
+    let home = tested tried in
+    let a = start home .args in
     let s = now (a .segment) in
     let bs = now (a .bytes) in
-    by-stay s (now (a .inventory)) (a .id) (length bs) (λ old. bs) (a .t) (follows h) (far (x .before .before))
-    (x .rewrite-target-on .last .0) _ (moved-there m) (u .update-on .ensures)
+    by-stay s (now (a .inventory)) (a .id) (length bs) (λ old. bs) (a .t) (follows home) (far (tried .before .before))
+    (tried .rewrite-target-on .last .0) _ (moved-there there) (updated .update-on .ensures)
 
 forward-again-requires : tie.Need-forward-again-requires
 forward-again-requires c κs =
-    let e = c .before .before in
-    let h = tested (e .before .before .before) in
-    let z = start h in
+    let refused = c .before .before in
+    let home = tested (refused .before .before .before) in
+    let z = start home in
     let a = z .args in
-    subst (λ (l : List ℕ). Sizes l (now (a .inventory)) × (Follows l (a .id) (a .t) × (length (now (a .bytes)) ≤ 16364))) (sym (same-there e))
-    (z .pre .0, (follows h, z .pre .1 .1))
+    subst (λ (l : List ℕ). Sizes l (now (a .inventory)) × (Follows l (a .id) (a .t) × (length (now (a .bytes)) ≤ 16364))) (sym (same-there refused))
+    (z .pre .0, (follows home, z .pre .1 .1))
 
 same-length-6 : tie.Need-same-length-6
 same-length-6 c = search needs
@@ -163,17 +163,18 @@ same-length-7 c = search needs
 
 returns-4 : tie.Need-returns-4
 returns-4 c =
-    let y = c .before .before .before .before in
-    let e = y .before .before .before in
-    let x = e .before .before .before in
-    let h = tested x in
-    let a = start h .args in
+    let sent = c .before .before .before .before in
+    let refused = sent .before .before .before in
+    let tried = refused .before .before .before in
+    let home = tested tried in
+    let a = start home .args in
     let s = now (a .segment) in
     let bs = now (a .bytes) in
     let v = now (a .inventory) in
-    by-again s v (a .id) (length bs) (λ old. bs) (a .t) (follows h) (far (x .before .before)) (sym (x .rewrite-target-on .ensures .1) ∙ e .if3 .left)
-    (x .rewrite-target-on .last .0) (same-there e) _ (y .forward-again .ensures
-    ∙ again-same (x .rewrite-target-on .last .0) v (a .id) (length bs) (λ old. bs) (a .t) (fit (length bs) bs) (fit-all bs))
+    by-again s v (a .id) (length bs) (λ old. bs) (a .t) (follows home) (far (tried .before .before))
+    (sym (tried .rewrite-target-on .ensures .1) ∙ refused .if3 .left)
+    (tried .rewrite-target-on .last .0) (same-there refused) _ (sent .forward-again .ensures
+    ∙ again-same (tried .rewrite-target-on .last .0) v (a .id) (length bs) (λ old. bs) (a .t) (fit (length bs) bs) (fit-all bs))
 
 pub write-forwarded-spec : {M : Type 1} → statement M
 write-forwarded-spec =

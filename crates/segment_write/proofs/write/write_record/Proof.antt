@@ -77,11 +77,11 @@ enum-known-root c = search needs
 
 write-slot-requires : tie.Need-write-slot-requires
 write-slot-requires c κs =
-    let m = c .before .before .before in
-    let r = m .before .before in
-    let a = start r .args in
+    let told = c .before .before .before in
+    let root = told .before .before in
+    let a = start root .args in
     let s = now (a .segment) in
-    (sizes s (now (a .inventory)) (sizes-here (r .before .before .before)), (root-is s (a .id) _ (root-here r _ (m .root .given .1)), short r))
+    (sizes s (now (a .inventory)) (sizes-here (root .before .before .before)), (root-is s (a .id) _ (root-here root _ (told .root .given .1)), short root))
 
 same-length-5 : tie.Need-same-length-5
 same-length-5 c = search needs
@@ -91,12 +91,12 @@ same-length-6 c = search needs
 
 returns-3 : tie.Need-returns-3
 returns-3 c =
-    let r = c .before .before in
-    let a = start r .args in
+    let root = c .before .before in
+    let a = start root .args in
     let s = now (a .segment) in
     let v = now (a .inventory) in
     let bs = now (a .bytes) in
-    step-past s v (a .id) (length bs) (λ old. bs) (sizes-here (r .before .before .before)) (short r) (root-here r _ (c .enum-told .given .1))
+    step-past s v (a .id) (length bs) (λ old. bs) (sizes-here (root .before .before .before)) (short root) (root-here root _ (c .enum-told .given .1))
     ∙ write-is s v (a .id) bs
 
 same-length-7 : tie.Need-same-length-7
@@ -107,12 +107,12 @@ same-length-8 c = search needs
 
 returns-4 : tie.Need-returns-4
 returns-4 c =
-    let r = c .before .before in
-    let a = start r .args in
+    let root = c .before .before in
+    let a = start root .args in
     let s = now (a .segment) in
     let v = now (a .inventory) in
     let bs = now (a .bytes) in
-    step-damaged s v (a .id) (length bs) (λ old. bs) (sizes-here (r .before .before .before)) (short r) (root-here r _ (c .enum-told2 .given .1))
+    step-damaged s v (a .id) (length bs) (λ old. bs) (sizes-here (root .before .before .before)) (short root) (root-here root _ (c .enum-told2 .given .1))
     ∙ write-is s v (a .id) bs
 
 same-length-9 : tie.Need-same-length-9
@@ -123,15 +123,15 @@ same-length-10 c = search needs
 
 returns-5 : tie.Need-returns-5
 returns-5 c =
-    let w = c .before .before .before .before in
-    let m = w .before .before .before .before in
-    let r = m .before .before in
-    let a = start r .args in
+    let sent = c .before .before .before .before in
+    let told = sent .before .before .before .before in
+    let root = told .before .before in
+    let a = start root .args in
     let s = now (a .segment) in
     let v = now (a .inventory) in
     let bs = now (a .bytes) in
-    w .write-slot .ensures
-    ∙ step-by s v (a .id) (length bs) (λ old. bs) (sizes-here (r .before .before .before)) (short r) _ (root-here r _ (m .root .given .1))
+    sent .write-slot .ensures
+    ∙ step-by s v (a .id) (length bs) (λ old. bs) (sizes-here (root .before .before .before)) (short root) _ (root-here root _ (told .root .given .1))
     ∙ write-is s v (a .id) bs
 
 pub write-record-spec : {M : Type 1} → statement M

@@ -18,10 +18,10 @@ enum-told c = search needs
 
 write-ordinary-requires : tie.Need-write-ordinary-requires
 write-ordinary-requires c κs =
-    let m = c .before .before in
-    let z = entry (m .before .before) in
+    let told = c .before .before in
+    let z = entry (told .before .before) in
     let a = z .args in
-    let e = m .enum-told .given .1 in (
+    let e = told .enum-told .given .1 in (
       z .pre .0,
       (root-taken (now (a .segment)) (a .id) (a .slot) (z .pre .1 .0) (ap isFree e), (ap isTarget (z .pre .1 .0 .entry ∙ e), z .pre .1 .1)),
     )
@@ -34,9 +34,9 @@ enum-known-slot c = search needs
 
 write-forwarded-requires : tie.Need-write-forwarded-requires
 write-forwarded-requires c κs =
-    let m = c .before .before .before in
-    let z = entry (m .before .before) in
-    (z .pre .0, (subst (RootIs (now (z .args .segment)) (z .args .id)) (m .slot .given .1) (z .pre .1 .0), z .pre .1 .1))
+    let told = c .before .before .before in
+    let z = entry (told .before .before) in
+    (z .pre .0, (subst (RootIs (now (z .args .segment)) (z .args .id)) (told .slot .given .1) (z .pre .1 .0), z .pre .1 .1))
 
 enum-told-3 : tie.Need-enum-told-3
 enum-told-3 c = search needs
@@ -49,13 +49,13 @@ same-length-2 c = search needs
 
 returns : tie.Need-returns
 returns c =
-    let w = c .before .before .before .before in
-    let m = w .before .before .before in
-    let a = entry (m .before .before) .args in
+    let sent = c .before .before .before .before in
+    let told = sent .before .before .before in
+    let a = entry (told .before .before) .args in
     let s = now (a .segment) in
     let v = now (a .inventory) in
     let bs = now (a .bytes) in
-    w .write-ordinary .ensures ∙ by-entry s v (a .id) (length bs) (λ old. bs) (a .slot) _ (m .enum-told .given .1)
+    sent .write-ordinary .ensures ∙ by-entry s v (a .id) (length bs) (λ old. bs) (a .slot) _ (told .enum-told .given .1)
 
 returns-2 : tie.Need-returns-2
 returns-2 c =
@@ -73,13 +73,13 @@ same-length-4 c = search needs
 
 returns-3 : tie.Need-returns-3
 returns-3 c =
-    let w = c .before .before .before .before in
-    let m = w .before .before .before .before in
-    let a = entry (m .before .before) .args in
+    let sent = c .before .before .before .before in
+    let told = sent .before .before .before .before in
+    let a = entry (told .before .before) .args in
     let s = now (a .segment) in
     let v = now (a .inventory) in
     let bs = now (a .bytes) in
-    w .write-forwarded .ensures ∙ by-entry s v (a .id) (length bs) (λ old. bs) (a .slot) _ (m .slot .given .1)
+    sent .write-forwarded .ensures ∙ by-entry s v (a .id) (length bs) (λ old. bs) (a .slot) _ (told .slot .given .1)
 
 returns-4 : tie.Need-returns-4
 returns-4 c =
