@@ -3,14 +3,12 @@
 use layout::little::get_u64_le;
 use layout::little::put_u64_le;
 use store::Named;
+use store::ROOM;
 ghost use mathlib.Core.Path.{_≡_};
 ghost use Prim.Native.Nat.{_+_, _-_, _*_, _/_, _<_, _≤_};
 ghost use lib.ListN.{length};
 ghost use Rattle.store.specs.Answers.{namedPage};
 ghost use Rattle.store.specs.Inventory.{classOf, nibbleAt, setNibble, entryAt, setEntry, Room, foundIn, runEnd, nextPage, setFrom, pulledBack, update};
-
-// The bytes of a page that slots and records can take.
-const ROOM: usize = 16372;
 
 // The classes, and so the entries.
 const CLASSES: usize = 15;

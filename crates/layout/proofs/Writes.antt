@@ -1,14 +1,14 @@
 -- Laws of writes, the store's `put`, by which the loops of the leaves turn.
 use mathlib.Core.Path.{_≡_, sym, ap, _∙_}
-use mathlib.Core.List.{List, [], _∷_, _++_, append-assoc, append-nil}
+use mathlib.Core.List.{List, [], _∷_, _++_, append-assoc}
 use mathlib.Core.Logic.{inl, inr}
 use Prim.Native.Nat.{ℕ, zero, suc, _+_, _-_, _≤_, _<_}
 use native.Mathlib.Nat.{add-zero, add-suc}
 use native.Mathlib.Numerals.{add-one}
 use native.Mathlib.Omega.{arith}
 use lib.ListN.{length, getD, take, drop, set, length-drop, length-replicate, length-append, replicate-append-replicate}
-use lib.Seq.{take-suc, drop-cons, getD-take, getD-drop, length-take-le, take-at, take-all}
-use Rattle.store.specs.Numbers.{cut, put, zeros, fit}
+use lib.Seq.{take-suc, drop-cons, getD-take, getD-drop, length-take-le, take-at}
+use Rattle.store.specs.Numbers.{cut, put, zeros}
 use Rattle.store.specs.Laws.Numbers.{put-set, set-put, put-nil, put-parts, put-swap, getD-put}
 
 -- two runs, one after the other
@@ -89,11 +89,3 @@ move-up-more from n to (suc j) p h k l z =
     rw o (ap (set (put p (to + suc j) (drop (suc j) (cut p from n))) (to + j))
     (getD-put p (to + suc j) (drop (suc j) (cut p from n)) (from + j) (inl (omega arith)) ∙ sym (getD-cut p from n j l))
     ∙ write-drop-more to j (cut p from n) p (omega arith))
-
--- ---- bytes at another size
-
-pub fit-cut : (n : ℕ) (bs : List ℕ) → n ≤ length bs → fit n bs ≡ take n bs
-fit-cut n bs h = let e : n - length bs ≡ 0 = omega arith in rw e (append-nil (take n bs))
-
-pub fit-filled : (n : ℕ) (bs : List ℕ) → length bs ≤ n → fit n bs ≡ bs ++ zeros (n - length bs)
-fit-filled n bs h = ap (λ (l : List ℕ). l ++ zeros (n - length bs)) (take-all n bs h)

@@ -1,61 +1,45 @@
 -- The search for a new target's page: what the code answered is what the plan says.
 use Prim.Native.Nat.{ℕ, _+_, _*_, _/_, _≤_, _<_}
-use mathlib.Core.Path.{_≡_, refl, sym, ap, subst, _∙_}
-use mathlib.Core.Bool.{Bool, true, false, cond, _||_}
+use mathlib.Core.Path.{_≡_, refl, sym, ap, _∙_}
+use mathlib.Core.Bool.{Bool, true, false, _||_}
 use mathlib.Core.List.{List, _++_}
 use mathlib.Core.Logic.{_≢_}
 use native.Mathlib.Omega.{arith}
 use lib.ListN.{length}
-use lib.Dec.{eqb, ltb}
-use borrow.Author.Tests.{ltb-false, eq-eqb, ne-eqb}
+use lib.Dec.{eqb}
+use borrow.Author.Tests.{eq-eqb, ne-eqb}
 use Rattle.store.specs.Numbers.{put, toBE, idOf, pageNo}
 use Rattle.store.specs.Page.{sound}
 use Rattle.store.specs.PageSteps.{Plan, Alloc, noRoom, got, allocate}
-use Rattle.store.specs.Inventory.{foundIn, entryAt, entryFor}
+use Rattle.store.specs.Inventory.{foundIn}
 use Rattle.store.specs.Segment.{segView, pageOf, Result, result, taken, find, findOn}
 use Rattle.store.specs.Answers.{outcome}
 use Rattle.store.specs.Laws.Lent.{Within, SoundOn}
-use Rattle.store.specs.Laws.Segments.{length-page}
-use Rattle.store.specs.Laws.Calls.{by-test, NamedOk, named-ok, AllocOk, alloc-ok}
+use Rattle.store.specs.Laws.Calls.{named-within, named-tells}
 use Rattle.store.specs.Laws.SoundSegment.{seen-pages}
 use Rattle.store.specs.declared.Named.{Named}
 use Rattle.store.specs.declared.Named.the-variants.{At, Full}
 use Rattle.store.specs.declared.Place.the-variants as place
 use Rattle.store.specs.declared.Answer.the-variants as answer
 use Rattle.slotted_page.specs.Words.{pageAfter, placeOf, targetAt}
-use Rattle.segment_steps.proofs.After.{got-at, got-none, no-room-same}
+use Rattle.segment_steps.proofs.After.{got-at, got-none, no-room-same, place-made}
 use Rattle.segment_forward.specs.Words.{rootOrOld, newTarget}
 
 -- ---- the page that the inventory names, and the slot that the page gives
 
--- a page is named only for a need that some page may have
-abbrev NeedOk : ℕ → Named → Type 0
-NeedOk need (At p) = need ≤ 16372
-NeedOk need Full = Unit {0}
-
-need-ok : (v : List ℕ) (n need : ℕ) → NeedOk need (foundIn v n need)
-unfolding foundIn
-need-ok v n need =
-    let e : ℕ = entryAt v (entryFor need) in
-    by-test (NeedOk need) (ltb 16372 need) Full (cond (ltb e n) (At e) Full) (λ t. tt)
-    (λ t. by-test (NeedOk need) (ltb e n) (At e) Full (λ l. ltb-false 16372 need t) (λ l. tt))
-
 module _ (s : List ℕ) (p : ℕ) (h : SoundOn s p) (m k : ℕ) where
   pub got-small : (a : Plan) → allocate (segView s .page p) m ≡ got k a → k < 65536
-  unfolding segView
-  got-small a e =
-      let o : AllocOk (pageOf s p) m (got k a) = subst (AllocOk (pageOf s p) m) e (alloc-ok (pageOf s p) m (length-page s p (h .whole)) (h .sound)) in
-      omega (arith, o .1, o .0 .sound .few)
+  got-small a e = let o = place-made s p h m k a e in omega (arith, o .1, o .0 .sound .few)
 
   pub slot-small : (o : ℕ) → placeOf (allocate (segView s .page p) m) ≡ place.At k o → k < 65536
   slot-small o e = let x = got-at (allocate (segView s .page p) m) k o e in got-small (x .to) (x .is)
 
 module _ (s v : List ℕ) (n p : ℕ) (named : foundIn v (length s / 16384) (n + 16) ≡ At p) where
   pub named-fits : Within s p
-  named-fits = let h = subst (NamedOk (length s / 16384)) named (named-ok v (length s / 16384) (n + 16)) in omega arith
+  named-fits = named-within s v (n + 16) p named
 
   pub named-short : n ≤ 16356
-  named-short = let h = subst (NeedOk (n + 16)) named (need-ok v (length s / 16384) (n + 16)) in omega arith
+  named-short = omega (arith, named-tells v (length s / 16384) (n + 16) p named .most)
 
 -- ---- 7, 4 (new page), 8, or the new target's id
 

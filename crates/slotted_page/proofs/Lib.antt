@@ -1,6 +1,5 @@
 pub mod AllocateLaws
 pub mod EraseLaws
 pub mod FillLaws
-pub mod FitLaws
 pub mod FreshLaws
 pub mod RecordLaws

@@ -22,18 +22,17 @@ use Rattle.store.specs.Laws.Calls.{by-test}
 use Rattle.store.specs.Laws.Exact.{length-run}
 use Rattle.store.specs.Laws.Compactify.{placed-is as placed-slot-is}
 use Rattle.store.specs.Laws.Relocate.{Answered, relocate-answer}
-use Rattle.store.specs.Laws.Fit.{length-fit}
+use Rattle.store.specs.Laws.Fit.{length-fit, fit-cut, fit-filled, fit-none, fit-add}
 use Rattle.store.specs.declared.Slot.{Slot}
 use Rattle.store.specs.declared.Slot.the-variants.{Ordinary, Free, Redirect, Target}
 use Rattle.store.specs.declared.Place.the-variants.{At}
 use Rattle.layout.specs.Run.{headOf}
-use Rattle.layout.proofs.Writes.{write-append, fit-cut, fit-filled}
+use Rattle.layout.proofs.Writes.{write-append}
 use Rattle.page_compactify.proofs.PackLaws.{shown-bytes}
 use Rattle.page_places.specs.Words.{unfilled, shrinkPlan, growPlan, allocOf, pageBare, placeOf}
 use Rattle.slotted_page.specs.Words.{pageAfter, pageMoved, wasMoved, refilled}
 use Rattle.page_places.proofs.PlaceLaws.{placed-is}
 use Rattle.page_places.proofs.BareLaws.{commit-writes, run-bare}
-use Rattle.slotted_page.proofs.FitLaws.{fit-none, fit-add}
 use Rattle.slotted_page.proofs.FillLaws.{Ends, Ended, ends-by, commit-ends, written-done, fill-done, moved-done, refilled-done}
 
 length-head : (c f d n : ℕ) → length (headOf c f d n) ≡ 12
@@ -102,7 +101,7 @@ module _ (p : List ℕ) (k n : ℕ) (used : UsedSlot p k) where
   unfolding v old
   home-ended i e =
       let w : View = makeRoom v n .after in
-      let f : zeros n ≡ fit n (v .bytes k) = fit-none n ∙ ap (fit n) (sym (no-bytes i e)) in
+      let f : zeros n ≡ fit n (v .bytes k) = sym (fit-none n) ∙ ap (fit n) (sym (no-bytes i e)) in
       subst (λ (bs : List ℕ). Ends p k bs (moveUnder v k (Ordinary 0 0) n (zeros n) .edits) (moveUnder v k (Ordinary 0 0) n (zeros n) .after)) f
       (commit-ends p (makeRoom v n .edits) (withHead w (w .slotCount) (w .firstFree) (w .dataStart - n) (w .freeSpace - n)) k
       (Ordinary (w .dataStart - n) n) (zeros n))
@@ -162,7 +161,7 @@ module _ (p : List ℕ) (k n : ℕ) (used : UsedSlot p k) where
   unfolding v old
   stands-home i e h =
       let z : n ≡ 0 = omega (arith, ap len e) in
-      let f : old ≡ [] = sym (fit-none n ∙ ap (fit n) (sym (no-bytes i e))) ∙ ap zeros z in
+      let f : old ≡ [] = sym (sym (fit-none n) ∙ ap (fit n) (sym (no-bytes i e))) ∙ ap zeros z in
       sym (home-ended i e .written ∙ rw f (put-nil _ _))
 
   pub stands : n ≤ len (view p .at k) → pageBare (allocOf k (relocate (view p) k n)) p ≡ pageAfter (allocOf k (relocate (view p) k n)) p

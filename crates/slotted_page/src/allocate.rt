@@ -1,5 +1,7 @@
 // Allocate on any sound page, but for the record's bytes: a fresh one is initialised first.
+use store::PAGE_SIZE;
 use store::Place;
+use store::ROOM;
 ghost use mathlib.Core.Path.{_≡_};
 ghost use mathlib.Core.Bool.{true};
 ghost use Prim.Native.Nat.{_≤_};
@@ -14,7 +16,7 @@ fn initialize(page: &mut [u8])
     requires { ⌜ length (now page) ≡ 16384 ⌝ }
     ensures { λ _. ⌜ now (page .exit) ≡ putHead initialised (now (page .entry)) ⌝ }
 {
-    layout::header::set_header(page, 0, 0, crate::PAGE_SIZE, crate::ROOM);
+    layout::header::set_header(page, 0, 0, PAGE_SIZE, ROOM);
 }
 
 // A size of at most 16,364 finds room on a fresh page, so a refusal never leaves one initialised.

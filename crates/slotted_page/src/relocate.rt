@@ -1,4 +1,5 @@
 // Relocate: the record's place, and its old bytes there.
+use store::PAGE_SIZE;
 use store::Place;
 use store::Slot;
 ghost use mathlib.Core.Path.{_≡_};
@@ -17,7 +18,7 @@ fn grow_packed(page: &mut [u8], k: usize, s: Slot, size: usize) -> bool
         × (r ≡ wasMoved (relocate (view (now (page .entry))) k size)) ⌝ }
 {
     let n = layout::slots::len_of(s);
-    let mut saved = [0u8; crate::PAGE_SIZE];
+    let mut saved = [0u8; PAGE_SIZE];
     layout::save(page, layout::slots::off_of(s), n, &mut saved);
     let place = page_places::relocation::move_slot(page, k, size);
     match place {

@@ -4,7 +4,8 @@ use Prim.Native.Nat.{_-_}
 use native.Mathlib.Omega.{arith}
 use lib.ListN.{length, length-take}
 use Rattle.store.specs.Numbers.{zeros}
-use Rattle.layout.proofs.Writes.{write-append, fit-cut, fit-filled}
+use Rattle.store.specs.Laws.Fit.{fit-cut, fit-filled}
+use Rattle.layout.proofs.Writes.{write-append}
 use borrow.Author.Needs.{needs}
 use Rattle.layout.proofs.fit_in.Statement.{statement}
 use Rattle.layout.proofs.fit_in.Tie as tie

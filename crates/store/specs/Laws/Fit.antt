@@ -1,10 +1,11 @@
 -- A record at another size: its bytes as far as both sizes go, and zeros behind.
-use Prim.Native.Nat.{ℕ, zero, suc, _-_, _≤_, _<_}
+use Prim.Native.Nat.{ℕ, zero, suc, _+_, _-_, _≤_, _<_}
 use mathlib.Core.Path.{_≡_, refl, ap, _∙_}
-use mathlib.Core.List.{List, [], _∷_, _++_, append-nil}
+use mathlib.Core.List.{List, [], _∷_, _++_, append-assoc, append-nil}
+use native.Mathlib.Decide.{decLt}
 use native.Mathlib.Omega.{arith}
-use lib.ListN.{length, take, getD, length-append, length-take, length-replicate}
-use lib.Seq.{take-all}
+use lib.ListN.{length, take, drop, getD, length-append, length-take, length-drop, length-replicate, drop-of-length-le, replicate-append-replicate}
+use lib.Seq.{take-all, take-add}
 use Rattle.store.specs.Numbers.{zeros, fit}
 
 pub length-fit : (n : ℕ) (bs : List ℕ) → length (fit n bs) ≡ n
@@ -23,6 +24,26 @@ fit-none n = let e : n - 0 ≡ n = omega arith in fit-filled n [] (omega arith) 
 
 pub fit-all : (bs : List ℕ) → fit (length bs) bs ≡ bs
 fit-all bs = fit-cut (length bs) bs (omega arith) ∙ take-all (length bs) bs (omega arith)
+
+-- at a size of a + b: the first a bytes, and then the rest at size b
+pub fit-add : (a b : ℕ) (bs : List ℕ) → fit (a + b) bs ≡ fit a bs ++ fit b (drop a bs)
+fit-add a b bs = go (decLt (length bs) a)
+  where
+    go : Dec (length bs < a) → fit (a + b) bs ≡ fit a bs ++ fit b (drop a bs)
+    go (yes h) =
+        let e : a + b - length bs ≡ (a - length bs) + b = omega arith in
+        fit-filled (a + b) bs (omega arith)
+        ∙ rw (
+          e,
+          ← replicate-append-replicate {A = ℕ} (a - length bs) b 0,
+          fit-filled a bs (omega arith),
+          drop-of-length-le bs {i = a} (omega arith),
+          fit-none b,
+          append-assoc,
+        )
+    go (no h) =
+        let e : b - (length bs - a) ≡ a + b - length bs = omega arith in
+        rw (take-add a b bs, fit-cut a bs (omega arith), append-assoc, length-drop, e)
 
 -- ---- byte by byte
 
