@@ -1,4 +1,3 @@
 pub mod Turns
 pub mod Search
 pub mod Update
-pub mod Named

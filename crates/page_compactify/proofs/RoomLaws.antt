@@ -1,16 +1,16 @@
 -- Making room against the store's plan.
 use mathlib.Core.Path.{_≡_, refl}
-use mathlib.Core.Bool.{Bool, true, false, cond}
+use mathlib.Core.Bool.{true, false}
 use mathlib.Core.List.{List}
 use Prim.Native.Nat.{ℕ, _≤_, _<_}
 use native.Mathlib.Omega.{arith}
 use lib.ListN.{length}
 use lib.Dec.{ltb}
 use borrow.Author.Tests.{lt-ltb, le-ltb}
-use Rattle.store.specs.Page.{View, view}
-use Rattle.store.specs.PageSteps.{run, stay, gap, makeRoom, compactify}
+use Rattle.store.specs.Page.{view}
+use Rattle.store.specs.PageSteps.{run, gap, compactify}
 use Rattle.store.specs.Laws.Views.{Sound}
-use Rattle.store.specs.Laws.Compactify.{Kept, compact-exact, compact-keeps, compact-gap}
+use Rattle.store.specs.Laws.Compactify.{compact-exact, compact-keeps, compact-gap}
 use Rattle.page_compactify.specs.Room.{Roomed}
 
 module _ (p : List ℕ) (n r : ℕ) (whole : length p ≡ 16384) (s : Sound (view p)) where
@@ -31,10 +31,3 @@ module _ (p : List ℕ) (n r : ℕ) (whole : length p ≡ 16384) (s : Sound (vie
   room-there g b =
       let t : ltb (gap (view p)) n ≡ false = le-ltb (gap (view p)) n g in
       record { is = rw t; begins = rw t b; low = omega (arith, s .dir); high = omega (arith, s .start≤) }
-
-pub roomy-keeps : (v : View) (n : ℕ) → Sound v → Kept v (makeRoom v n .after)
-roomy-keeps v n s = go (ltb (gap v) n)
-  where
-    go : (b : Bool) → Kept v (cond b (compactify v) (stay v) .after)
-    go true = compact-keeps v s
-    go false = record { slotCount = refl; firstFree = refl; freeSpace = refl; bytes = λ j. refl; lens = λ j. refl; kinds = λ j. refl; tags = λ j. refl }

@@ -9,15 +9,15 @@ use borrow.Author.Tests.{lt-ltb, le-ltb}
 use Rattle.store.specs.Numbers.{put, zeros, upd}
 use Rattle.store.specs.Slots.{slotBytes, off, isFree}
 use Rattle.store.specs.Page.{View}
-use Rattle.store.specs.Answers.{placed, allotted}
+use Rattle.store.specs.Answers.{givenPlace, allotted}
 use Rattle.store.specs.PageSteps.{Edit, commit, run, withHead, makeRoom, nextFree, isNew, cost, allocated, allocate}
+use Rattle.store.specs.Laws.Changes.{roomy-kept}
 use Rattle.store.specs.Laws.Views.{Sound, upd-same}
 use Rattle.store.specs.Laws.Compactify.{Kept}
 use Rattle.store.specs.declared.Slot.{Slot}
 use Rattle.store.specs.declared.Slot.the-variants.{Ordinary}
 use Rattle.store.specs.declared.Place.the-variants.{At, NoRoom}
 use Rattle.layout.specs.Run.{headOf}
-use Rattle.page_compactify.proofs.RoomLaws.{roomy-keeps}
 use Rattle.page_places.specs.Words.{unfilled, pageBare}
 use Rattle.page_places.proofs.BareLaws.{run-bare}
 
@@ -60,7 +60,7 @@ module _ (v : View) (size c f n m : ℕ) (ec : c ≡ v .slotCount) (ef : f ≡ v
   cost-is : cost v size ≡ size + m
   cost-is = rw (em, ec, ef) (new-cost (isNew v) size)
 
-  pub reserve-none : (p : List ℕ) → n < size + m → (p ≡ pageBare (allocate v size) p) × (placed NoRoom ≡ allotted (allocate v size))
+  pub reserve-none : (p : List ℕ) → n < size + m → (p ≡ pageBare (allocate v size) p) × (givenPlace NoRoom ≡ allotted (allocate v size))
   unfolding allocate
   reserve-none p h =
       let t : ltb (v .freeSpace) (cost v size) ≡ true = lt-ltb (v .freeSpace) (cost v size) (omega (arith, cost-is)) in
@@ -87,12 +87,12 @@ module _ (v : View) (size c f n m : ℕ) (ec : c ≡ v .slotCount) (ef : f ≡ v
       → q₁ ≡ run (makeRoom v (size + m) .edits) p → r ≡ makeRoom v (size + m) .after .dataStart
       → q₂ ≡ put q₁ 0 (headOf (c + m / 8) next (r - size) (n - (size + m)))
       → q₃ ≡ put q₂ (12 + 8 * f) (slotBytes (Ordinary (r - size) size))
-      → (q₃ ≡ pageBare (allocate v size) p) × (placed (At f (r - size)) ≡ allotted (allocate v size))
+      → (q₃ ≡ pageBare (allocate v size) p) × (givenPlace (At f (r - size)) ≡ allotted (allocate v size))
   unfolding allocate
   reserve-done s r next p q₁ q₂ q₃ h ex e₁ er e₂ e₃ =
       let t : ltb (v .freeSpace) (cost v size) ≡ false = le-ltb (v .freeSpace) (cost v size) (omega (arith, cost-is)) in
       let w : View = makeRoom v (size + m) .after in
-      let k : Kept v w = roomy-keeps v (size + m) s in
+      let k : Kept v w = roomy-kept v (size + m) s in
       let j : off (upd (w .at) (w .firstFree) (Ordinary (w .dataStart - size) size) (v .firstFree)) ≡ r - size =
       rw (k .firstFree) (ap off (upd-same (w .at) (v .firstFree) (Ordinary (w .dataStart - size) size)) ∙ rw er) in
-      rw (t, cost-is) (entry-done w k (makeRoom v (size + m) .edits) r next p q₁ q₂ q₃ er ex e₁ e₂ e₃, λ i. placed (At (ef i) (sym j i)))
+      rw (t, cost-is) (entry-done w k (makeRoom v (size + m) .edits) r next p q₁ q₂ q₃ er ex e₁ e₂ e₃, λ i. givenPlace (At (ef i) (sym j i)))

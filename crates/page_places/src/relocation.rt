@@ -6,9 +6,9 @@ ghost use mathlib.Core.Bool.{true};
 ghost use Prim.Native.Nat.{_+_, _-_, _*_, _≤_, _<_, _^_};
 ghost use lib.ListN.{length};
 ghost use Rattle.store.specs.Numbers.{put};
-ghost use Rattle.store.specs.Slots.{slotBytes, placed as placedSlot, isRecord, len};
+ghost use Rattle.store.specs.Slots.{slotBytes, placed, isRecord, len};
 ghost use Rattle.store.specs.Page.{view};
-ghost use Rattle.store.specs.Answers.{placed, allotted};
+ghost use Rattle.store.specs.Answers.{givenPlace, allotted};
 ghost use Rattle.store.specs.PageSteps.{run, makeRoom, resized, relocate};
 ghost use Rattle.store.specs.Laws.Slots.{Codable};
 ghost use Rattle.store.specs.Laws.Lent.{UsedSlot};
@@ -18,7 +18,7 @@ ghost use Rattle.page_places.specs.Words.{underPage, shrinkPlan, homeOf,
 // The record at another place, of the same kind.
 fn placed_slot(s: Slot, d: usize, n: usize) -> Slot
     requires { ⌜ (d < 2 ^ 30) × (n < 2 ^ 32) ⌝ }
-    ensures { λ r. ⌜ (r ≡ placedSlot s d n) × Codable r ⌝ }
+    ensures { λ r. ⌜ (r ≡ placed s d n) × Codable r ⌝ }
 {
     match s {
         Slot::Ordinary {
@@ -102,7 +102,7 @@ fn resize_slot(page: &mut [u8], k: usize, s: Slot, size: usize) -> Place
     requires { ⌜ UsedSlot (now page) k ⌝ }
     requires { ⌜ (s ≡ view (now page) .at k) × (isRecord s ≡ true) ⌝ }
     ensures { λ r. ⌜ (now (page .exit) ≡ pageBare (allocOf k (resized (view (now (page .entry))) k size)) (now (page .entry)))
-        × (placed r ≡ allotted (allocOf k (resized (view (now (page .entry))) k size))) × Inside r size ⌝ }
+        × (givenPlace r ≡ allotted (allocOf k (resized (view (now (page .entry))) k size))) × Inside r size ⌝ }
 {
     let n = layout::slots::len_of(s);
     let offset = layout::slots::off_of(s);
@@ -126,7 +126,7 @@ fn resize_slot(page: &mut [u8], k: usize, s: Slot, size: usize) -> Place
 fn home_slot(page: &mut [u8], k: usize, size: usize) -> Place
     requires { ⌜ UsedSlot (now page) k ⌝ }
     ensures { λ r. ⌜ (now (page .exit) ≡ pageBare (allocOf k (homeOf (view (now (page .entry))) k size)) (now (page .entry)))
-        × (placed r ≡ allotted (allocOf k (homeOf (view (now (page .entry))) k size))) × Inside r size ⌝ }
+        × (givenPlace r ≡ allotted (allocOf k (homeOf (view (now (page .entry))) k size))) × Inside r size ⌝ }
 {
     let room = layout::header::get_free_space(page);
     if room < size {
@@ -144,7 +144,7 @@ fn home_slot(page: &mut [u8], k: usize, size: usize) -> Place
 pub fn move_slot(page: &mut [u8], k: usize, size: usize) -> Place
     requires { ⌜ UsedSlot (now page) k ⌝ }
     ensures { λ r. ⌜ (now (page .exit) ≡ pageBare (allocOf k (relocate (view (now (page .entry))) k size)) (now (page .entry)))
-        × (placed r ≡ allotted (allocOf k (relocate (view (now (page .entry))) k size))) × Inside r size ⌝ }
+        × (givenPlace r ≡ allotted (allocOf k (relocate (view (now (page .entry))) k size))) × Inside r size ⌝ }
 {
     let s = layout::slots::get_slot(page, k);
     if layout::slots::is_free(s) {

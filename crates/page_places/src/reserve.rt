@@ -7,7 +7,7 @@ ghost use Prim.Native.Nat.{_+_, _-_, _*_, _≤_, _<_};
 ghost use lib.Dec.{eqb};
 ghost use lib.ListN.{length};
 ghost use Rattle.store.specs.Page.{view};
-ghost use Rattle.store.specs.Answers.{placed, allotted};
+ghost use Rattle.store.specs.Answers.{givenPlace, allotted};
 ghost use Rattle.store.specs.PageSteps.{nextFree, allocate};
 ghost use Rattle.store.specs.Laws.Lent.{UsedPage};
 ghost use Rattle.page_places.specs.Words.{pageBare, Inside, PastEntry};
@@ -44,7 +44,7 @@ pub fn reserve(page: &mut [u8], size: usize) -> Place
     requires { ⌜ UsedPage (now page) ⌝ }
     requires { ⌜ size ≤ 16384 ⌝ }
     ensures { λ r. ⌜ (now (page .exit) ≡ pageBare (allocate (view (now (page .entry))) size) (now (page .entry)))
-        × (placed r ≡ allotted (allocate (view (now (page .entry))) size)) × Inside r size × PastEntry r ⌝ }
+        × (givenPlace r ≡ allotted (allocate (view (now (page .entry))) size)) × Inside r size × PastEntry r ⌝ }
 {
     let c = layout::header::get_slot_count(page);
     let f = layout::header::get_first_free_slot(page);

@@ -9,7 +9,7 @@ ghost use Rattle.store.specs.Numbers.{toBE, fit};
 ghost use Rattle.store.specs.Page.{view};
 ghost use Rattle.store.specs.PageSteps.{allocate, erase, eraseForRedirect, relocate};
 ghost use Rattle.store.specs.Inventory.{Room, update};
-ghost use Rattle.store.specs.Answers.{placed, allotted};
+ghost use Rattle.store.specs.Answers.{givenPlace, allotted};
 ghost use Rattle.store.specs.Laws.Lent.{Within, SoundOn, TakenOn};
 ghost use Rattle.store.specs.Segment.{pageOf, on, carriedOn};
 ghost use Rattle.slotted_page.specs.Words.{Inside, PastEntry, redirectPlan, wasMoved, refilled};
@@ -20,7 +20,7 @@ pub fn allocate_on(segment: &mut [u8], p: usize, size: usize) -> Place
     requires { ⌜ SoundOn (now segment) p ⌝ }
     requires { ⌜ size ≤ 16364 ⌝ }
     ensures { λ r. ⌜ (now (segment .exit) ≡ allocatedOn (now (segment .entry)) p (allocate (seen (now (segment .entry)) p) size))
-        × (placed r ≡ allotted (allocate (seen (now (segment .entry)) p) size)) × Inside r size × PastEntry r ⌝ }
+        × (givenPlace r ≡ allotted (allocate (seen (now (segment .entry)) p) size)) × Inside r size × PastEntry r ⌝ }
 {
     slotted_page::allocate::allocate(&mut segment[p * 16384..(p + 1) * 16384], size)
 }

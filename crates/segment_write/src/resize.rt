@@ -40,7 +40,7 @@ fn resize_ordinary(
         segment_steps::update_on(segment, inventory, id / IDS_A_PAGE);
         return Answer::Done { id };
     }
-    let mut old = [0u8; 16384];
+    let mut old = [0u8; PAGE_SIZE];
     layout::save(segment, id / IDS_A_PAGE * PAGE_SIZE + offset, n, &mut old);
     segment_forward::forward(segment, inventory, id, &old[..n], size)
 }
@@ -69,7 +69,7 @@ fn resize_home(segment: &mut [u8], inventory: &mut [u8], id: usize, t: usize, si
         (atHome foundIn (segView (now (segment .entry))) (now (inventory .entry)) id size (fit size) t
         (drop 8 (seen (now (segment .entry)) (pageNo t) .bytes (slotNo t))) (relocate (seen (now (segment .entry)) (pageNo id)) (slotNo id) size)) ⌝ }
 {
-    let mut old = [0u8; 16384];
+    let mut old = [0u8; PAGE_SIZE];
     let n = save_target(segment, t, &mut old);
     segment_forward::at_home(segment, inventory, id, t, &old[..n], size)
 }
@@ -91,7 +91,7 @@ fn resize_again(
         (drop 8 (seen (now (segment .entry)) (pageNo t) .bytes (slotNo t)))
         (find foundIn (segView (now (segment .entry))) (now (inventory .entry)) (size + 8) (λ p. eqb p (pageNo id) || eqb p (pageNo t)))) ⌝ }
 {
-    let mut old = [0u8; 16384];
+    let mut old = [0u8; PAGE_SIZE];
     let n = save_target(segment, t, &mut old);
     segment_forward::forward_again(segment, inventory, id, t, &old[..n], size)
 }

@@ -7,10 +7,10 @@ use Rattle.store.specs.Numbers.{zeros}
 use Rattle.store.specs.Slots.{len}
 use Rattle.store.specs.Page.{View}
 use Rattle.store.specs.PageSteps.{Edit, commit, plan, andThen, makeRoom, cost, allocated, noRoom, got, allocate}
+use Rattle.store.specs.Laws.Changes.{roomy-kept}
 use Rattle.store.specs.Laws.Views.{Sound, upd-same}
 use Rattle.store.specs.Laws.Calls.{by-test}
 use Rattle.store.specs.declared.Slot.the-variants.{Ordinary}
-use Rattle.page_compactify.proofs.RoomLaws.{roomy-keeps}
 use Rattle.slotted_page.proofs.FillLaws.{Ends, Ended, Sized, commit-ends}
 use Rattle.page_places.proofs.ReserveLaws.{headAfter}
 
@@ -24,7 +24,7 @@ allocate-ended p v n s =
     (λ e.
     let w : View = makeRoom v (cost v n) .after in
     let es : List Edit = makeRoom v (cost v n) .edits in
-    subst (λ (j : ℕ). Ends p j (zeros n) (es ++ commit (w .firstFree) (allocated w n) ∷ []) (allocated w n)) (roomy-keeps v (cost v n) s .firstFree)
+    subst (λ (j : ℕ). Ends p j (zeros n) (es ++ commit (w .firstFree) (allocated w n) ∷ []) (allocated w n)) (roomy-kept v (cost v n) s .firstFree)
     (commit-ends p es (headAfter w n) (w .firstFree) (Ordinary (w .dataStart - n) n) (zeros n)))
 
 pub allocate-sized : (v : View) (n : ℕ) → Sound v → Sized n (allocate v n)
@@ -35,5 +35,5 @@ allocate-sized v n s =
     (λ e. tt)
     (λ e.
     let w : View = makeRoom v (cost v n) .after in
-    ap (λ (j : ℕ). len (allocated w n .at j)) (sym (roomy-keeps v (cost v n) s .firstFree))
+    ap (λ (j : ℕ). len (allocated w n .at j)) (sym (roomy-kept v (cost v n) s .firstFree))
     ∙ ap len (upd-same (w .at) (w .firstFree) (Ordinary (w .dataStart - n) n)))

@@ -9,7 +9,7 @@ use lib.ListN.{length}
 use Rattle.store.specs.Numbers.{put}
 use Rattle.store.specs.Slots.{off, len, slotBytes}
 use Rattle.store.specs.Page.{View}
-use Rattle.store.specs.Answers.{Placed, placed, allotted}
+use Rattle.store.specs.Answers.{Placed, givenPlace, allotted}
 use Rattle.store.specs.PageSteps.{Edit, apply, commit, fill, move, run, withSlot, Alloc, noRoom, got, Relocated, refused, moved}
 use Rattle.store.specs.Laws.Numbers.{put-over, put-swap}
 use Rattle.store.specs.Laws.Views.{upd-same}
@@ -20,7 +20,7 @@ use Rattle.store.specs.declared.Place.the-variants.{At, NoRoom}
 use Rattle.page_places.specs.Words.{unfilled, pageBare, placeOf, allocOf}
 use Rattle.slotted_page.specs.Words.{pageAfter, filledAt, targetAt, pageMoved, wasMoved, refilled}
 use Rattle.page_places.proofs.BareLaws.{commit-writes, run-bare}
-pub use Rattle.page_places.proofs.PlaceLaws.{placed-is}
+pub use Rattle.page_places.proofs.PlaceLaws.{given-is}
 
 -- ---- the bytes written afterwards
 
@@ -114,7 +114,7 @@ module _ (p q : List ℕ) where
   none-done noRoom e e₁ = (e₁, λ bs. (e₁, e₁))
   none-done (got j a) e e₁ = let z : _≡_ {A = ℕ} 0 1 = cc in absurd (omega arith)
 
-  pub refused-done : (k : ℕ) (r : Relocated) → placed NoRoom ≡ allotted (allocOf k r) → q ≡ pageBare (allocOf k r) p
+  pub refused-done : (k : ℕ) (r : Relocated) → givenPlace NoRoom ≡ allotted (allocOf k r) → q ≡ pageBare (allocOf k r) p
       → (q ≡ pageMoved r p) × (false ≡ wasMoved r) × ((bs : List ℕ) → q ≡ pageMoved (refilled r k bs) p)
   refused-done k refused e e₁ = (e₁, refl, λ bs. e₁)
   refused-done k (moved a) e e₁ = absurd (omega (arith, ap (λ (x : Placed). x .answer) e))

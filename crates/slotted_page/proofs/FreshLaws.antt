@@ -10,7 +10,7 @@ use borrow.Author.Tests.{le-ltb}
 use Rattle.store.specs.Numbers.{put, zeros, toBE}
 use Rattle.store.specs.Slots.{slotBytes}
 use Rattle.store.specs.Page.{View, view, fresh, sound}
-use Rattle.store.specs.Answers.{placed, allotted}
+use Rattle.store.specs.Answers.{givenPlace, allotted}
 use Rattle.store.specs.PageSteps.{opened, initialised, apply, putHead, headBytes, withHead, allocate}
 use Rattle.store.specs.Laws.Numbers.{length-put, put-over}
 use Rattle.store.specs.Laws.Edits.{head-view}
@@ -48,15 +48,15 @@ init-reserve p n h =
 
 module _ (p : List ℕ) (n : ℕ) where
   pub fresh-done : (q₁ q₂ : List ℕ) (r : Place) → fresh (view p) ≡ true → length p ≡ 16384 → n ≤ 16364 → q₁ ≡ putHead initialised p
-      → (q₂ ≡ pageBare (allocate (view q₁) n) q₁) × (placed r ≡ allotted (allocate (view q₁) n))
-      → (q₂ ≡ pageBare (allocate (opened (view p)) n) p) × (placed r ≡ allotted (allocate (opened (view p)) n))
+      → (q₂ ≡ pageBare (allocate (view q₁) n) q₁) × (givenPlace r ≡ allotted (allocate (view q₁) n))
+      → (q₂ ≡ pageBare (allocate (opened (view p)) n) p) × (givenPlace r ≡ allotted (allocate (opened (view p)) n))
   fresh-done q₁ q₂ r f whole h e₁ e₂ =
       let s : view q₁ ≡ initialised = ap view e₁ ∙ init-view p whole in
       rw f (e₂ .0 ∙ rw (s, e₁) (init-reserve p n h), e₂ .1 ∙ rw s)
 
   pub used-done : (q : List ℕ) (r : Place) → fresh (view p) ≡ false
-      → (q ≡ pageBare (allocate (view p) n) p) × (placed r ≡ allotted (allocate (view p) n))
-      → (q ≡ pageBare (allocate (opened (view p)) n) p) × (placed r ≡ allotted (allocate (opened (view p)) n))
+      → (q ≡ pageBare (allocate (view p) n) p) × (givenPlace r ≡ allotted (allocate (view p) n))
+      → (q ≡ pageBare (allocate (opened (view p)) n) p) × (givenPlace r ≡ allotted (allocate (opened (view p)) n))
   used-done q r f e = rw f e
 
 pub used-sound : (p : List ℕ) → fresh (view p) ≡ false → length p ≡ 16384 → sound (view p) ≡ true → UsedPage p

@@ -10,9 +10,9 @@ use lib.Seq.{take-take, take-all}
 use lib.Dec.{ltb, eqb}
 use borrow.Author.Tests.{ltb-true, ltb-false, eqb-true, eqb-false, le-ltb}
 use Rattle.store.specs.Numbers.{put, cut, zeros, fit}
-use Rattle.store.specs.Slots.{slotBytes, off, len, isRecord, placed as placedSlot}
+use Rattle.store.specs.Slots.{slotBytes, off, len, isRecord, placed}
 use Rattle.store.specs.Page.{View, view}
-use Rattle.store.specs.Answers.{placed, allotted}
+use Rattle.store.specs.Answers.{givenPlace, allotted}
 use Rattle.store.specs.PageSteps.{Edit, commit, run, withHead, stay, makeRoom, gap, moveUnder, parked, shrunk, resized, relocateBy, relocate, got}
 use Rattle.store.specs.PageSteps.{Relocated, refused, moved}
 use Rattle.store.specs.Laws.Numbers.{put-nil, put-own, put-over, put-swap, length-put, cut-apart, cut-same}
@@ -20,7 +20,7 @@ use Rattle.store.specs.Laws.Views.{upd-same}
 use Rattle.store.specs.Laws.Lent.{UsedSlot}
 use Rattle.store.specs.Laws.Calls.{by-test}
 use Rattle.store.specs.Laws.Exact.{length-run}
-use Rattle.store.specs.Laws.Compactify.{placed-is as placed-slot-is}
+use Rattle.store.specs.Laws.Compactify.{placed-is}
 use Rattle.store.specs.Laws.Relocate.{Answered, relocate-answer}
 use Rattle.store.specs.Laws.Fit.{length-fit, fit-cut, fit-filled, fit-none, fit-add}
 use Rattle.store.specs.declared.Slot.{Slot}
@@ -31,7 +31,7 @@ use Rattle.layout.proofs.Writes.{write-append}
 use Rattle.page_compactify.proofs.PackLaws.{shown-bytes}
 use Rattle.page_places.specs.Words.{unfilled, shrinkPlan, growPlan, allocOf, pageBare, placeOf}
 use Rattle.slotted_page.specs.Words.{pageAfter, pageMoved, wasMoved, refilled}
-use Rattle.page_places.proofs.PlaceLaws.{placed-is}
+use Rattle.page_places.proofs.PlaceLaws.{given-is}
 use Rattle.page_places.proofs.BareLaws.{commit-writes, run-bare}
 use Rattle.slotted_page.proofs.FillLaws.{Ends, Ended, ends-by, commit-ends, written-done, fill-done, moved-done, refilled-done}
 
@@ -88,14 +88,14 @@ module _ (p : List ℕ) (k n : ℕ) (used : UsedSlot p k) where
       let f : take n (v .bytes k) ≡ fit n (v .bytes k) = sym (fit-cut n (v .bytes k) (omega (arith, used .sound .lens k))) in
       subst (λ (bs : List ℕ). Ends p k bs (shrinkPlan v k n .edits) (shrunk v k n)) f
       (commit-ends p [] (withHead v (v .slotCount) (v .firstFree) (v .dataStart) (v .freeSpace + (len (v .at k) - n))) k
-      (placedSlot (v .at k) (off (v .at k)) n) (take n (v .bytes k)))
+      (placed (v .at k) (off (v .at k)) n) (take n (v .bytes k)))
 
   more-ended : Ends p k old (growPlan v k n .edits) (growPlan v k n .after)
   unfolding v old
   more-ended =
       let w : View = makeRoom (parked v k) n .after in
       commit-ends p (commit k (parked v k) ∷ makeRoom (parked v k) n .edits)
-      (withHead w (w .slotCount) (w .firstFree) (w .dataStart - n) (w .freeSpace - n)) k (placedSlot (v .at k) (w .dataStart - n) n) old
+      (withHead w (w .slotCount) (w .firstFree) (w .dataStart - n) (w .freeSpace - n)) k (placed (v .at k) (w .dataStart - n) n) old
 
   home-ended : (i : ℕ) → v .at k ≡ Redirect i → Ends p k old (moveUnder v k (Ordinary 0 0) n (zeros n) .edits) (moveUnder v k (Ordinary 0 0) n (zeros n) .after)
   unfolding v old
@@ -143,7 +143,7 @@ module _ (p : List ℕ) (k n : ℕ) (used : UsedSlot p k) where
   unfolding v old
   stands-less h =
       let o : ℕ = off (v .at k) in
-      let y : Slot = placedSlot (v .at k) o n in
+      let y : Slot = placed (v .at k) o n in
       let u : View = withHead v (v .slotCount) (v .firstFree) (v .dataStart) (v .freeSpace + (len (v .at k) - n)) in
       let q : List ℕ = run (unfilled (shrinkPlan v k n .edits)) p in
       let b = run-bare [] u k y (take n (v .bytes k)) p in
@@ -153,7 +153,7 @@ module _ (p : List ℕ) (k n : ℕ) (used : UsedSlot p k) where
       ap (λ (z : List ℕ). cut z o n) b ∙ cut-past p k (u .slotCount) (u .firstFree) (u .dataStart) (u .freeSpace) o n y (past n (omega arith))
       ∙ sym (take-take n (len (v .at k)) (drop o p) (omega arith)) ∙ ap (take n) (shown-bytes p k)
       ∙ sym (fit-cut n (v .bytes k) (omega (arith, used .sound .lens k))) in
-      let a : off (shrunk v k n .at k) ≡ o = ap off (upd-same (v .at) k y) ∙ placed-slot-is (v .at k) o n (long-record (v .at k) (omega arith)) .off in
+      let a : off (shrunk v k n .at k) ≡ o = ap off (upd-same (v .at) k y) ∙ placed-is (v .at k) o n (long-record (v .at k) (omega arith)) .off in
       sym (less-ended h .written ∙ rw (a, ← e) (put-own q o n (omega (arith, used .sound .high k))))
 
   stands-home : (i : ℕ) → v .at k ≡ Redirect i → n ≤ len (v .at k)
@@ -178,7 +178,7 @@ module _ (p : List ℕ) (k n : ℕ) (used : UsedSlot p k) where
       let w : View = makeRoom (parked v k) n .after in
       let es : List Edit = commit k (parked v k) ∷ makeRoom (parked v k) n .edits in
       let t : ltb (gap v) n ≡ false = le-ltb (gap v) n g in
-      let y : Slot = placedSlot (v .at k) (w .dataStart - n) n in
+      let y : Slot = placed (v .at k) (w .dataStart - n) n in
       let q : List ℕ = put (put p 0 (headOf (v .slotCount) (v .firstFree) (v .dataStart) (v .freeSpace + l))) (12 + 8 * k) (slotBytes (Redirect 0)) in
       let r : run es p ≡ q = rw t (commit-writes (withHead v (v .slotCount) (v .firstFree) (v .dataStart) (v .freeSpace + l)) k (Redirect 0) [] p
       ∙ put-nil q 0) in
@@ -200,10 +200,10 @@ module _ (p : List ℕ) (k n : ℕ) (used : UsedSlot p k) where
   abbrev R : Relocated
   R = relocate (view p) k n
 
-  module _ (j d : ℕ) (q₁ q₂ : List ℕ) (e : placed (At j d) ≡ allotted (allocOf k (relocate (view p) k n)))
+  module _ (j d : ℕ) (q₁ q₂ : List ℕ) (e : givenPlace (At j d) ≡ allotted (allocOf k (relocate (view p) k n)))
       (e₁ : q₁ ≡ pageBare (allocOf k (relocate (view p) k n)) p) where
     there : At j d ≡ placeOf (allocOf k (relocate (view p) k n))
-    there = placed-is (At j d) (allocOf k R) e
+    there = given-is (At j d) (allocOf k R) e
 
     pub bytes-done : (bs : List ℕ) → length bs ≡ n → q₂ ≡ put q₁ d bs
         → (q₂ ≡ pageMoved (refilled (relocate (view p) k n) k bs) p) × (true ≡ wasMoved (relocate (view p) k n))

@@ -7,7 +7,7 @@ ghost use mathlib.Core.Bool.{true};
 ghost use Prim.Native.Nat.{_≤_};
 ghost use lib.ListN.{length};
 ghost use Rattle.store.specs.Page.{view, sound};
-ghost use Rattle.store.specs.Answers.{placed, allotted};
+ghost use Rattle.store.specs.Answers.{givenPlace, allotted};
 ghost use Rattle.store.specs.PageSteps.{opened, putHead, initialised, allocate};
 ghost use Rattle.page_places.specs.Words.{pageBare, Inside, PastEntry};
 
@@ -23,7 +23,7 @@ fn initialize(page: &mut [u8])
 pub fn allocate(page: &mut [u8], size: usize) -> Place
     requires { ⌜ (length (now page) ≡ 16384) × (sound (view (now page)) ≡ true) × (size ≤ 16364) ⌝ }
     ensures { λ r. ⌜ (now (page .exit) ≡ pageBare (allocate (opened (view (now (page .entry)))) size) (now (page .entry)))
-        × (placed r ≡ allotted (allocate (opened (view (now (page .entry)))) size)) × Inside r size × PastEntry r ⌝ }
+        × (givenPlace r ≡ allotted (allocate (opened (view (now (page .entry)))) size)) × Inside r size × PastEntry r ⌝ }
 {
     if layout::header::is_fresh(page) {
         initialize(page);

@@ -84,9 +84,9 @@ pub record Placed : Type 0 where
   pub slot : ℕ
   pub offset : ℕ
 
-abbrev pub placed : Place → Placed
-placed (place.At k o) = record { answer = DONE; slot = k; offset = o }
-placed place.NoRoom = record { answer = STALE; slot = 0; offset = 0 }
+abbrev pub givenPlace : Place → Placed
+givenPlace (place.At k o) = record { answer = DONE; slot = k; offset = o }
+givenPlace place.NoRoom = record { answer = STALE; slot = 0; offset = 0 }
 
 abbrev pub allotted : Alloc → Placed
 allotted noRoom = record { answer = STALE; slot = 0; offset = 0 }

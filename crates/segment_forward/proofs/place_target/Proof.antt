@@ -18,8 +18,8 @@ use Rattle.store.specs.declared.Named.the-variants.{At}
 use Rattle.store.specs.declared.Place.{Place}
 use Rattle.store.specs.declared.Place.the-variants as place
 use Rattle.slotted_page.specs.Words.{pageAfter, placeOf, targetAt, Inside, PastEntry}
-use Rattle.slotted_page.proofs.FillLaws.{placed-is}
-use Rattle.free_space_inventory.proofs.Named.{named-is}
+use Rattle.slotted_page.proofs.FillLaws.{given-is}
+use Rattle.store.specs.Promises.Outcome.{named-single}
 use Rattle.segment_steps.proofs.After.{target-length}
 use Rattle.segment_steps.proofs.Written.{bare-whole, none-written, target-written}
 use Rattle.segment_forward.specs.Words.{rootOrOld}
@@ -60,7 +60,7 @@ named-here : (c : tie.After-known-told) → let a = entry (asked c) .args in
 named-here c =
     let x = asked c .find-page in
     let a = entry (asked c) .args in
-    sym (named-is (x .result) (foundIn (now (a .inventory)) (length (now (a .segment)) / 16384) (a .size + 16)) (x .ensures)) ∙ c .before .named .given .1
+    sym (named-single (x .result) (foundIn (now (a .inventory)) (length (now (a .segment)) / 16384) (a .size + 16)) (x .ensures)) ∙ c .before .named .given .1
 
 fits-here : (c : tie.After-known-told) → Within (now (entry (asked c) .args .segment)) (named c)
 fits-here c = let a = entry (asked c) .args in named-fits (now (a .segment)) (now (a .inventory)) (a .size) _ (named-here c)
@@ -79,7 +79,7 @@ place-of : (c : tie.After-allocate-on) → let m = chosen c in let a = entry (as
 place-of c =
     let m = chosen c in
     let a = entry (asked m) .args in
-    placed-is (c .allocate-on .result) (allocate (segView (now (a .segment)) .page (named m)) (a .size + 8)) (c .allocate-on .ensures .1)
+    given-is (c .allocate-on .result) (allocate (segView (now (a .segment)) .page (named m)) (a .size + 8)) (c .allocate-on .ensures .1)
 
 place-here : (c : tie.After-known-told2) → let m = chosen (placing c) in let a = entry (asked m) .args in
     placeOf (allocate (segView (now (a .segment)) .page (named m)) (a .size + 8))
@@ -120,7 +120,7 @@ returns c =
     let s = now (a .segment) in
     let v = now (a .inventory) in
     place-full s v (a .id) (a .size) (fit (a .size) (now (a .bytes))) (rootOrOld (a .id) (a .old))
-    (sym (named-is (x .find-page .result) (foundIn v (length s / 16384) (a .size + 16)) (x .find-page .ensures)) ∙ c .enum-told .given .1)
+    (sym (named-single (x .find-page .result) (foundIn v (length s / 16384) (a .size + 16)) (x .find-page .ensures)) ∙ c .enum-told .given .1)
 
 page-sound-requires : tie.Need-page-sound-requires
 page-sound-requires c κs = fits-here (c .before)

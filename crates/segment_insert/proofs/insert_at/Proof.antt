@@ -14,7 +14,7 @@ use Rattle.store.specs.Laws.Lent.{SoundOn}
 use Rattle.store.specs.declared.Place.{Place}
 use Rattle.store.specs.declared.Place.the-variants.{At}
 use Rattle.slotted_page.specs.Words.{pageAfter, placeOf, filledAt, Inside}
-use Rattle.slotted_page.proofs.FillLaws.{placed-is}
+use Rattle.slotted_page.proofs.FillLaws.{given-is}
 use Rattle.segment_steps.proofs.After.{sizes-room, Took, took-length, left-own, left-room, GotAt, got-at, got-none, small-id, no-room-same}
 use Rattle.segment_steps.proofs.Written.{bare-whole, none-written, bytes-written}
 use Rattle.segment_insert.proofs.Placed.{on-damaged, on-stale, took-place, on-done}
@@ -52,7 +52,7 @@ abbrev planned : tie.After-allocate-on → Alloc
 planned c = let a = start c .args in allocate (segView (now (a .segment)) .page (a .p)) (a .size)
 
 place-is : (c : tie.After-allocate-on) (r : Place) → c .allocate-on .result ≡ r → placeOf (planned c) ≡ r
-place-is c r e = sym (placed-is (c .allocate-on .result) (planned c) (c .allocate-on .ensures .1)) ∙ e
+place-is c r e = sym (given-is (c .allocate-on .result) (planned c) (c .allocate-on .ensures .1)) ∙ e
 
 place-here : (c : tie.After-known-told) → placeOf (planned (allocated c)) ≡ At (c .before .place .given .0 .0) (c .before .place .given .0 .1 .0)
 place-here c = place-is (allocated c) _ (c .before .place .given .1)

@@ -11,7 +11,7 @@ use Rattle.store.specs.Segment.{sizeOk, invOk}
 use Rattle.store.specs.Laws.Calls.{named-within}
 use Rattle.store.specs.declared.Named.{Named}
 use Rattle.store.specs.declared.Named.the-variants.{Full}
-use Rattle.free_space_inventory.proofs.Named.{named-is}
+use Rattle.store.specs.Promises.Outcome.{named-single}
 use Rattle.segment_steps.proofs.After.{sizes}
 use Rattle.segment_insert.specs.Words.{sizedOn, sizedStep}
 use Rattle.segment_insert.proofs.Placed.{sized-size, sized-long, sized-named, on-none}
@@ -38,7 +38,7 @@ sizes-here c = sym (c .before .sizes-ok .ensures) ∙ not-false _ (c .if1 .left)
 
 named-here : (c : tie.After-find-page) (m : Named) → c .find-page .result ≡ m → let a = found-on-entry c .args in
     foundIn (now (a .inventory)) (length (now (a .segment)) / 16384) (a .size + 8) ≡ m
-named-here c m e = sym (named-is _ _ (c .find-page .ensures)) ∙ e
+named-here c m e = sym (named-single _ _ (c .find-page .ensures)) ∙ e
 
 by-answer : (c : tie.After-find-page) (m : Named) → c .find-page .result ≡ m → let a = found-on-entry c .args in
     sizedOn (now (a .segment)) (now (a .inventory)) (now (a .bytes)) (a .size) m

@@ -145,7 +145,7 @@ module _ (v : View) (k : ℕ) (small : k < 65536) (a : Plan) (kept : Kept v (a .
 self-kept : (v : View) → Kept v v
 self-kept v = record { slotCount = refl; firstFree = refl; freeSpace = refl; bytes = λ j. refl; lens = λ j. refl; kinds = λ j. refl; tags = λ j. refl }
 
-roomy-kept : (v : View) (need : ℕ) → Sound v → Kept v (makeRoom v need .after)
+pub roomy-kept : (v : View) (need : ℕ) → Sound v → Kept v (makeRoom v need .after)
 roomy-kept v need s = by-test (λ a. Kept v (a .after)) (ltb (gap v) need) (compactify v) (stay v) (λ e. compact-keeps v s) (λ e. self-kept v)
 
 -- ---- allocate

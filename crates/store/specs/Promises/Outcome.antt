@@ -7,7 +7,7 @@ use mathlib.Core.List.{List, [], _∷_}
 use lib.ListN.{getD}
 use Rattle.store.specs.Segment.{Result, Located}
 use Rattle.store.specs.Scan.{Scanned}
-use Rattle.store.specs.Answers.{outcome, located, scannedOf, Placed, placed, NamedPage, namedPage}
+use Rattle.store.specs.Answers.{outcome, located, scannedOf, Placed, givenPlace, NamedPage, namedPage}
 use Rattle.store.specs.declared.Place.{Place}
 use Rattle.store.specs.declared.Place.the-variants as place
 use Rattle.store.specs.declared.Named.{Named}
@@ -82,13 +82,13 @@ scanned-single s = undone (λ r. scannedOf r s) answer back
 
 -- ---- inside a call: a place on a page, and a page that the inventory names
 
-pub placed-single : (r r′ : Place) → placed r ≡ placed r′ → r ≡ r′
-placed-single = undone placed answer back
+pub placed-single : (r r′ : Place) → givenPlace r ≡ givenPlace r′ → r ≡ r′
+placed-single = undone givenPlace answer back
   where
     answer : Placed → Place
     answer d = getD (place.At (d .slot) (d .offset) ∷ []) (d .answer) place.NoRoom
 
-    back : (r : Place) → answer (placed r) ≡ r
+    back : (r : Place) → answer (givenPlace r) ≡ r
     back (place.At k o) = refl
     back place.NoRoom = refl
 

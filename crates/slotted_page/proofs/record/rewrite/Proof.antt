@@ -9,7 +9,7 @@ use Rattle.store.specs.Laws.Fit.{length-fit}
 use Rattle.store.specs.declared.Place.{Place}
 use Rattle.page_places.specs.Words.{Inside}
 use Rattle.slotted_page.proofs.RecordLaws.{bytes-done}
-use Rattle.store.specs.Answers.{placed}
+use Rattle.store.specs.Answers.{givenPlace}
 use Rattle.slotted_page.proofs.FillLaws.{refused-done}
 use borrow.Author.Needs.{needs}
 use Rattle.slotted_page.proofs.record.rewrite.Statement.{statement}
@@ -51,7 +51,7 @@ returns c =
     let a = start .args in
     bytes-done (a .page .now) (a .k) (a .size) (start .pre) (at .place .given .0 .0) (at .place .given .0 .1 .0)
     (moved .move-slot .last .0) (written .fit-in .last .0)
-    (ap placed (sym (at .place .given .1)) ∙ moved .move-slot .ensures .1) (moved .move-slot .ensures .0) (fit (a .size) (a .bytes .now))
+    (ap givenPlace (sym (at .place .given .1)) ∙ moved .move-slot .ensures .1) (moved .move-slot .ensures .0) (fit (a .size) (a .bytes .now))
     (length-fit (a .size) (a .bytes .now)) (written .fit-in .ensures)
 
 same-length-2 : tie.Need-same-length-2
@@ -62,7 +62,7 @@ returns-2 c =
     let moved = c .before .before .before .before in
     let a = entry moved .args in
     let y = refused-done (a .page .now) (moved .move-slot .last .0) (a .k) (relocate (view (a .page .now)) (a .k) (a .size))
-    (ap placed (sym (c .enum-told .given .1)) ∙ moved .move-slot .ensures .1) (moved .move-slot .ensures .0) in
+    (ap givenPlace (sym (c .enum-told .given .1)) ∙ moved .move-slot .ensures .1) (moved .move-slot .ensures .0) in
     (y .2 (fit (a .size) (a .bytes .now)), y .1)
 
 pub rewrite-spec : {M : Type 1} → statement M

@@ -11,7 +11,7 @@ use Rattle.layout.proofs.Writes.{write-append}
 use Rattle.store.specs.declared.Place.{Place}
 use Rattle.page_places.specs.Words.{Inside}
 use Rattle.slotted_page.proofs.RecordLaws.{bytes-done}
-use Rattle.store.specs.Answers.{placed}
+use Rattle.store.specs.Answers.{givenPlace}
 use Rattle.slotted_page.proofs.FillLaws.{refused-done}
 use borrow.Author.Needs.{needs}
 use Rattle.slotted_page.proofs.record.rewrite_target.Statement.{statement}
@@ -69,7 +69,7 @@ returns c =
     let i = toBE 8 (a .id) in
     bytes-done (a .page .now) (a .k) (length (a .bytes .now) + 8) (start .pre .0) (at .place .given .0 .0) o
     (moved .move-slot .last .0) (written .copy-in .last .0)
-    (ap placed (sym (at .place .given .1)) ∙ moved .move-slot .ensures .1) (moved .move-slot .ensures .0) (i ++ a .bytes .now) (omega arith)
+    (ap givenPlace (sym (at .place .given .1)) ∙ moved .move-slot .ensures .1) (moved .move-slot .ensures .0) (i ++ a .bytes .now) (omega arith)
     (written .copy-in .ensures ∙ ap (λ (q : List ℕ). put q (o + 8) (a .bytes .now)) (named .put-u64 .ensures)
     ∙ sym (write-append o i (a .bytes .now) (moved .move-slot .last .0)))
 
@@ -81,7 +81,7 @@ returns-2 c =
     let moved = c .before .before .before .before in
     let a = entry moved .args in
     let y = refused-done (a .page .now) (moved .move-slot .last .0) (a .k) (relocate (view (a .page .now)) (a .k) (length (a .bytes .now) + 8))
-    (ap placed (sym (c .enum-told .given .1)) ∙ moved .move-slot .ensures .1) (moved .move-slot .ensures .0) in
+    (ap givenPlace (sym (c .enum-told .given .1)) ∙ moved .move-slot .ensures .1) (moved .move-slot .ensures .0) in
     (y .2 (toBE 8 (a .id) ++ a .bytes .now), y .1)
 
 pub rewrite-target-spec : {M : Type 1} → statement M

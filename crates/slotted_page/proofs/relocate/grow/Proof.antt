@@ -8,7 +8,7 @@ use Rattle.store.specs.Page.{view}
 use Rattle.store.specs.declared.Place.{Place}
 use Rattle.page_places.specs.Words.{Inside}
 use Rattle.slotted_page.proofs.RecordLaws.{grow-done, old-done}
-use Rattle.store.specs.Answers.{placed}
+use Rattle.store.specs.Answers.{givenPlace}
 use Rattle.slotted_page.proofs.FillLaws.{refused-done}
 use borrow.Author.Needs.{needs}
 use Rattle.slotted_page.proofs.relocate.grow.Statement.{statement}
@@ -91,7 +91,7 @@ returns c =
     let length = reading moved in
     let b = start length in
     let a = b .args in
-    let e = ap placed (sym (at .place .given .1)) ∙ moved .move-slot .ensures .1 in
+    let e = ap givenPlace (sym (at .place .given .1)) ∙ moved .move-slot .ensures .1 in
     let j = at .place .given .0 .0 in
     let d = at .place .given .0 .1 .0 in
     let x = grow-done (a .page .now) (a .k) (a .size) (b .pre .0) j d (moved .move-slot .last .0) (copied .move-within .last .0) e
@@ -108,7 +108,7 @@ returns-2 c =
     let moved = c .before .before .before .before in
     let a = start (reading moved) .args in
     let y = refused-done (a .page .now) (moved .move-slot .last .0) (a .k) (relocate (view (a .page .now)) (a .k) (a .size))
-    (ap placed (sym (c .enum-told .given .1)) ∙ moved .move-slot .ensures .1) (moved .move-slot .ensures .0) in
+    (ap givenPlace (sym (c .enum-told .given .1)) ∙ moved .move-slot .ensures .1) (moved .move-slot .ensures .0) in
     (y .0, y .1)
 
 pub grow-spec : {M : Type 1} → statement M

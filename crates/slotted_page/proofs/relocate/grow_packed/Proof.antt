@@ -9,7 +9,7 @@ use Rattle.store.specs.Page.{view}
 use Rattle.store.specs.declared.Place.{Place}
 use Rattle.page_places.specs.Words.{Inside}
 use Rattle.slotted_page.proofs.RecordLaws.{saved-old, old-done}
-use Rattle.store.specs.Answers.{placed}
+use Rattle.store.specs.Answers.{givenPlace}
 use Rattle.slotted_page.proofs.FillLaws.{refused-done}
 use Rattle.store.specs.Laws.Numbers.{length-put}
 use borrow.Author.Needs.{needs}
@@ -101,7 +101,7 @@ returns c =
     let d = at .place .given .0 .1 .0 in
     let q = moved .move-slot .last .0 in
     old-done (a .page .now) (a .k) (a .size) (b .pre .0) (at .place .given .0 .0) d q (filled .fit-in .last .0)
-    (ap placed (sym (at .place .given .1)) ∙ moved .move-slot .ensures .1) (moved .move-slot .ensures .0)
+    (ap givenPlace (sym (at .place .given .1)) ∙ moved .move-slot .ensures .1) (moved .move-slot .ensures .0)
     (filled .fit-in .ensures ∙ rw x)
 
 same-length-2 : tie.Need-same-length-2
@@ -112,7 +112,7 @@ returns-2 c =
     let moved = c .before .before .before .before in
     let a = start (reading (saving moved)) .args in
     let y = refused-done (a .page .now) (moved .move-slot .last .0) (a .k) (relocate (view (a .page .now)) (a .k) (a .size))
-    (ap placed (sym (c .enum-told .given .1)) ∙ moved .move-slot .ensures .1) (moved .move-slot .ensures .0) in
+    (ap givenPlace (sym (c .enum-told .given .1)) ∙ moved .move-slot .ensures .1) (moved .move-slot .ensures .0) in
     (y .0, y .1)
 
 pub grow-packed-spec : {M : Type 1} → statement M

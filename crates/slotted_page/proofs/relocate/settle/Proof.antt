@@ -3,7 +3,7 @@ use mathlib.Core.Path.{sym, ap, _∙_}
 use Rattle.store.specs.PageSteps.{relocate}
 use Rattle.store.specs.Page.{view}
 use Rattle.slotted_page.proofs.RecordLaws.{settle-done}
-use Rattle.store.specs.Answers.{placed}
+use Rattle.store.specs.Answers.{givenPlace}
 use Rattle.slotted_page.proofs.FillLaws.{refused-done}
 use borrow.Author.Needs.{needs}
 use Rattle.slotted_page.proofs.relocate.settle.Statement.{statement}
@@ -31,7 +31,7 @@ returns c =
     let a = start .args in
     settle-done (a .page .now) (a .k) (a .size) (start .pre .0) (c .enum-told .given .0 .0) (c .enum-told .given .0 .1 .0)
     (moved .move-slot .last .0) (moved .move-slot .last .0)
-    (ap placed (sym (c .enum-told .given .1)) ∙ moved .move-slot .ensures .1) (moved .move-slot .ensures .0) (start .pre .1)
+    (ap givenPlace (sym (c .enum-told .given .1)) ∙ moved .move-slot .ensures .1) (moved .move-slot .ensures .0) (start .pre .1)
 
 same-length-2 : tie.Need-same-length-2
 same-length-2 c = search needs
@@ -41,7 +41,7 @@ returns-2 c =
     let moved = c .before .before .before .before in
     let a = entry moved .args in
     let y = refused-done (a .page .now) (moved .move-slot .last .0) (a .k) (relocate (view (a .page .now)) (a .k) (a .size))
-    (ap placed (sym (c .enum-told2 .given .1)) ∙ moved .move-slot .ensures .1) (moved .move-slot .ensures .0) in
+    (ap givenPlace (sym (c .enum-told2 .given .1)) ∙ moved .move-slot .ensures .1) (moved .move-slot .ensures .0) in
     (y .0, y .1)
 
 pub settle-spec : {M : Type 1} → statement M
