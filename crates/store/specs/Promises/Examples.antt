@@ -99,7 +99,11 @@ moved = record {
 
 -- "Then write 16,356: stays, page 2 free 0."
 abbrev fills : Row
-fills = record { got = then forwarded (λ u v. writePlan foundIn u v (idOf 1 0) (zeros 16356)) .seen .page 2 .freeSpace ∷ []; want = 0 ∷ [] }
+fills = record {
+  got = did forwarded (λ u v. writePlan foundIn u v (idOf 1 0) (zeros 16356)) .answer
+      ∷ then forwarded (λ u v. writePlan foundIn u v (idOf 1 0) (zeros 16356)) .seen .page 2 .freeSpace ∷ [];
+  want = 0 ∷ 0 ∷ [];
+}
 
 -- "16,357 instead: 7."
 abbrev over : Row

@@ -3,14 +3,14 @@
 use Prim.Native.Nat.{ℕ}
 use mathlib.Core.Path.{_≡_, refl}
 use mathlib.Core.List.{List, [], _∷_, _++_, map}
-use Rattle.store.specs.Numbers.{cut, put, toBE, toLE, zeros, idOf}
+use Rattle.store.specs.Numbers.{cut, toBE, toLE, zeros, idOf}
 use Rattle.store.specs.Slots.{slotBytes}
 use Rattle.store.specs.Page.{view, sound}
 use Rattle.store.specs.PageSteps.{initialised, headBytes, apply, compactify, allocate, relocate}
 use Rattle.store.specs.Inventory.{classOf, nibbleAt, setNibble, entryAt, setEntry, firstFrom, nextPage, runEnd, setFrom, pulledBack}
 use Rattle.store.specs.Inventory.{movedOn, updated, update, foundIn}
 use Rattle.store.specs.Segment.{Result, segView, result, find, insertPlan, storePlan, insertStep, resizeStep, rootOf}
-use Rattle.store.specs.declared.Slot.the-variants.{Ordinary, Redirect, Target}
+use Rattle.store.specs.declared.Slot.the-variants.{Redirect, Target}
 
 pub record Row : Type 0 where
   pub got : List ℕ
@@ -32,11 +32,11 @@ abbrev header : ℕ → ℕ → ℕ → ℕ → List ℕ
 header count first start free = toBE 2 count ++ (toBE 2 first ++ (toBE 4 start ++ toBE 4 free))
 
 -- a record of 100 alone, grown to 300
-hundred : List ℕ
-hundred = put blank 0 (header 1 1 16284 16264 ++ slotBytes (Ordinary 16284 100))
+hundred : Result
+hundred = insertStep blank blank (zeros 100)
 
 grown : Result
-grown = resizeStep hundred blank 0 300
+grown = resizeStep (hundred .seg) (hundred .inv) 0 300
 
 -- P1 initialised header
 abbrev p1 : Row
