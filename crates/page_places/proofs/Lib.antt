@@ -1,4 +1,3 @@
 pub mod BareLaws
 pub mod PlaceLaws
-pub mod RelocationLaws
 pub mod ReserveLaws

@@ -1,16 +1,8 @@
--- Words for the place of a record, before its bytes are written.
+-- Words for the place of a new record, before its bytes are written.
 use mathlib.Core.List.{List, [], _∷_}
-use mathlib.Core.Bool.{cond}
-use Prim.Native.Nat.{ℕ, _+_, _-_, _*_, _≤_}
-use lib.Dec.{ltb}
-use Rattle.store.specs.Numbers.{put, zeros, fit}
-use Rattle.layout.specs.Run.{headOf}
-use Rattle.store.specs.Slots.{off, slotBytes, placed}
-use Rattle.store.specs.Page.{View}
-use Rattle.store.specs.PageSteps.{Edit, head, move, commit, fill, Plan, run, withSlot, andThen, makeRoom, moveUnder, shrunk, parked, Alloc, noRoom}
-use Rattle.store.specs.PageSteps.{got, Relocated, refused, moved, plan}
-use Rattle.store.specs.declared.Slot.{Slot}
-use Rattle.store.specs.declared.Slot.the-variants.{Ordinary}
+use Prim.Native.Nat.{ℕ, _+_, _*_, _≤_}
+use Rattle.store.specs.Slots.{off}
+use Rattle.store.specs.PageSteps.{Edit, head, move, commit, fill, run, withSlot, Alloc, noRoom, got}
 use Rattle.store.specs.declared.Place.{Place}
 use Rattle.store.specs.declared.Place.the-variants.{At, NoRoom}
 
@@ -43,26 +35,3 @@ Inside NoRoom n = Unit {0}
 abbrev pub PastEntry : Place → Type 0
 PastEntry (At k o) = 20 + 8 * k ≤ o
 PastEntry NoRoom = Unit {0}
-
--- ---- relocate: its plans by name
-
-abbrev pub shrinkPlan : View → ℕ → ℕ → Plan
-shrinkPlan v k n = plan (commit k (shrunk v k n) ∷ []) (shrunk v k n)
-
-abbrev pub growPlan : View → ℕ → ℕ → Plan
-growPlan v k n = andThen (plan (commit k (parked v k) ∷ []) (parked v k)) (λ w. moveUnder w k (v .at k) n (fit n (v .bytes k)))
-
-abbrev pub homeOf : View → ℕ → ℕ → Relocated
-homeOf v k n = cond (ltb (v .freeSpace) n) refused (moved (moveUnder v k (Ordinary 0 0) n (zeros n)))
-
--- as the place that slot k's record gets
-abbrev pub allocOf : ℕ → Relocated → Alloc
-allocOf k refused = noRoom
-allocOf k (moved a) = got k a
-
--- room is made, and slot k's entry is a record of kind s just under data start; its bytes are not written yet
-unfoldable pub underPage : View → ℕ → Slot → ℕ → List ℕ → List ℕ
-underPage v k s n p =
-    let w = makeRoom v n .after in
-    put (put (run (makeRoom v n .edits) p) 0 (headOf (w .slotCount) (w .firstFree) (w .dataStart - n) (w .freeSpace - n))) (12 + 8 * k)
-    (slotBytes (placed s (w .dataStart - n) n))

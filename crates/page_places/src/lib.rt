@@ -1,3 +1,2 @@
-// Where a record goes: allocate and relocate but for its bytes.
-pub mod relocation;
+// Where a new record goes on its page: allocate but for its bytes.
 pub mod reserve;

@@ -28,8 +28,9 @@ use Rattle.store.specs.declared.Answer.{Answer}
 use Rattle.store.specs.declared.Answer.the-variants as answer
 use Rattle.store.proofs.Answer as answers
 use Rattle.slotted_page.specs.Words.{targetPlan, redirectPlan}
-use Rattle.segment_steps.proofs.After.{Took, took-length, left-own, left-other, next-took, third-took, target-on-page, small-id}
-use Rattle.segment_steps.proofs.After.{for-redirect-on-page, redirect-on-page, target-length}
+use Rattle.segment_steps.proofs.After.{Took, took-length, left-own, left-other, next-took, third-took, small-id}
+use Rattle.segment_moves.proofs.Moved.{target-on-page}
+use Rattle.segment_moves.proofs.Moved.{for-redirect-on-page, redirect-on-page, target-length}
 use Rattle.segment_pages.proofs.Root.{root-sound}
 use Rattle.segment_forward.specs.Words.{Follows, rootOrOld, newTarget}
 use Rattle.segment_forward.proofs.Steps.{taken-still, two-length, first-left, two-swapped, three-swapped, BothLeft, told-both}

@@ -19,9 +19,10 @@ use Rattle.store.specs.Laws.Lent.{TakenOn}
 use Rattle.store.specs.declared.Slot.{Slot}
 use Rattle.store.specs.declared.Slot.the-variants.{Redirect}
 use Rattle.store.specs.declared.Answer.the-variants as answer
-use Rattle.slotted_page.specs.Words.{pageMoved, wasMoved, refilled}
+use Rattle.page_relocate.specs.Words.{pageMoved, wasMoved, refilled}
 use Rattle.segment_pages.proofs.Root.{root-taken}
-use Rattle.segment_steps.proofs.After.{Took, left-own, next-took, MovedTo, moved-to, took-filled, no-target}
+use Rattle.segment_steps.proofs.After.{Took, left-own, next-took}
+use Rattle.segment_moves.proofs.Moved.{MovedTo, moved-to, took-filled, no-target}
 use Rattle.segment_forward.specs.Words.{Follows}
 use Rattle.segment_forward.proofs.Steps.{taken-still, two-length, first-left, BothLeft, told-both, oldStep, old-away, old-taken, old-exact}
 

@@ -51,7 +51,7 @@ fn place_target(
     let Place::At { slot, offset } = place else {
         return Answer::Stale;
     };
-    slotted_page::target::write_target(
+    page_relocate::target::write_target(
         &mut segment[page * 16384..(page + 1) * 16384],
         slot,
         offset,
@@ -85,7 +85,7 @@ pub fn forward(
         return placed;
     };
     let p = id / IDS_A_PAGE;
-    segment_steps::erase_for_redirect_on(segment, p, id % IDS_A_PAGE, target);
+    segment_moves::erase_for_redirect_on(segment, p, id % IDS_A_PAGE, target);
     segment_steps::update_on(segment, inventory, p);
     segment_steps::update_on(segment, inventory, target / IDS_A_PAGE);
     Answer::Done { id }
@@ -112,7 +112,7 @@ pub fn forward_again(
     let Answer::Done { id: new_target } = placed else {
         return placed;
     };
-    segment_steps::set_redirect_on(segment, id / IDS_A_PAGE, id % IDS_A_PAGE, new_target);
+    segment_moves::set_redirect_on(segment, id / IDS_A_PAGE, id % IDS_A_PAGE, new_target);
     segment_steps::erase_on(segment, t / IDS_A_PAGE, t % IDS_A_PAGE);
     segment_steps::update_on(segment, inventory, t / IDS_A_PAGE);
     segment_steps::update_on(segment, inventory, new_target / IDS_A_PAGE);
@@ -144,7 +144,7 @@ pub fn at_home(
         (atHome foundIn (segView (now (segment .entry))) (now (inventory .entry)) id size (λ o. fit size (now (bytes .entry))) t []
         (relocate (seen (now (segment .entry)) (pageNo id)) (slotNo id) size)) ⌝ }
 {
-    segment_steps::rewrite_on(segment, id / IDS_A_PAGE, id % IDS_A_PAGE, bytes, size);
+    segment_moves::rewrite_on(segment, id / IDS_A_PAGE, id % IDS_A_PAGE, bytes, size);
     segment_steps::erase_on(segment, t / IDS_A_PAGE, t % IDS_A_PAGE);
     segment_steps::update_on(segment, inventory, id / IDS_A_PAGE);
     segment_steps::update_on(segment, inventory, t / IDS_A_PAGE);

@@ -1,14 +1,14 @@
 -- One page of the segment lent on from its middle, to be written: what the borrow checker says of it, in the words of the plans.
 use Prim.Native.Nat.{ℕ, _+_, _-_, _*_, _≤_, _<_}
 use mathlib.Core.Path.{_≡_, refl, sym, ap, subst, _∙_}
-use mathlib.Core.Bool.{Bool, true}
+use mathlib.Core.Bool.{true}
 use mathlib.Core.List.{List}
 use native.Mathlib.Omega.{arith}
 use lib.ListN.{length}
 use borrow.Rule.Slice.PartMut.{putMid}
 use Rattle.store.specs.Numbers.{cut, put}
 use Rattle.store.specs.Page.{View, view, sound}
-use Rattle.store.specs.PageSteps.{run, Plan, Alloc, noRoom, got, relocate, Relocated, refused, moved}
+use Rattle.store.specs.PageSteps.{run, Plan, Alloc, noRoom, got}
 use Rattle.store.specs.Segment.{segView, pageOf, on, carriedOn}
 use Rattle.store.specs.Laws.Views.{Sound}
 use Rattle.store.specs.Laws.Exact.{length-run}
@@ -16,7 +16,7 @@ use Rattle.store.specs.Laws.Segments.{length-page, lent-part, lent-page}
 use Rattle.store.specs.Laws.Lent.{UsedSlot, TakenOn}
 use Rattle.store.specs.Laws.Calls.{page-ok}
 use Rattle.store.specs.Laws.SoundSegment.{seen-page, sound-closed}
-use Rattle.slotted_page.specs.Words.{unfilled, pageBare, pageMoved, wasMoved, refilled}
+use Rattle.slotted_page.specs.Words.{unfilled, pageBare}
 
 -- page p as the code lends it
 abbrev pub lentPart : List ℕ → ℕ → List ℕ
@@ -26,11 +26,6 @@ lentPart s p = cut s (p * 16384) ((p + 1) * 16384 - p * 16384)
 pub length-bare : (a : Alloc) (q : List ℕ) → length (pageBare a q) ≡ length q
 length-bare noRoom q = refl
 length-bare (got k a) q = length-run (unfilled (a .edits)) q
-
--- and so is a relocate's
-pub length-moved : (r : Relocated) (q : List ℕ) → length (pageMoved r q) ≡ length q
-length-moved refused q = refl
-length-moved (moved a) q = length-run (a .edits) q
 
 -- `see` is how the step's contract looks at its page: `view` where it is in use, as opened where it may be fresh
 module _ (s : List ℕ) (p : ℕ) (fits : p * 16384 + 16384 ≤ length s) where
@@ -83,17 +78,3 @@ module _ (s : List ℕ) (p k : ℕ) (h : TakenOn s p k) where
   lent-entry =
       let o = page-ok s p k (h .whole) (h .sound) (h .taken) in
       omega (arith, lent-whole s p (h .whole), o .counted, o .sound .few)
-
-  -- the slot's record at another size n: what is left and answered, where the bytes written are told from the page
-  pub lent-moved : (n : ℕ) (bs : View → List ℕ) (out : List ℕ) (r : Bool)
-      → (out ≡ pageMoved (refilled (relocate (view (lentPart s p)) k n) k (bs (view (lentPart s p)))) (lentPart s p))
-      × (r ≡ wasMoved (relocate (view (lentPart s p)) k n))
-      → (putMid (p * 16384) ((p + 1) * 16384 - p * 16384) s out
-      ≡ put s (p * 16384) (pageMoved (refilled (relocate (segView s .page p) k n) k (bs (segView s .page p))) (pageOf s p)))
-      × (r ≡ wasMoved (relocate (segView s .page p) k n))
-  lent-moved n bs out r e =
-      let o = page-ok s p k (h .whole) (h .sound) (h .taken) in (
-        lent-step s p (h .whole) view (o .seen) (λ (v : View) (q : List ℕ). pageMoved (refilled (relocate v k n) k (bs v)) q)
-            (λ (v : View) (q : List ℕ). length-moved (refilled (relocate v k n) k (bs v)) q) out (e .0),
-        lent-answer s p (h .whole) view (o .seen) (λ (v : View). wasMoved (relocate v k n)) r (e .1),
-      )

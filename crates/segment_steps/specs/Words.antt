@@ -5,9 +5,9 @@ use mathlib.Core.List.{List}
 use lib.ListN.{length}
 use Rattle.store.specs.Numbers.{put}
 use Rattle.store.specs.Page.{View}
-use Rattle.store.specs.PageSteps.{Alloc, Relocated}
+use Rattle.store.specs.PageSteps.{Alloc}
 use Rattle.store.specs.Segment.{pageOf, segView}
-use Rattle.slotted_page.specs.Words.{pageBare, pageMoved}
+use Rattle.slotted_page.specs.Words.{pageBare}
 
 -- sizes that were tested
 pub record Sizes (s v : List ℕ) : Type 0 where
@@ -20,7 +20,3 @@ seen s p = segView s .page p
 -- a place has been made on page p; the record's bytes are still to be written
 abbrev pub allocatedOn : List ℕ → ℕ → Alloc → List ℕ
 allocatedOn s p a = put s (p * 16384) (pageBare a (pageOf s p))
-
--- a record of page p has been relocated
-abbrev pub relocatedOn : List ℕ → ℕ → Relocated → List ℕ
-relocatedOn s p r = put s (p * 16384) (pageMoved r (pageOf s p))

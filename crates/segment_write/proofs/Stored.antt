@@ -23,10 +23,12 @@ use Rattle.store.specs.declared.Root.the-variants as root
 use Rattle.store.specs.declared.Slot.{Slot}
 use Rattle.store.specs.declared.Slot.the-variants.{Ordinary, Free, Redirect, Target}
 use Rattle.store.specs.declared.Answer.the-variants as answer
-use Rattle.slotted_page.specs.Words.{wasMoved, refilled}
+use Rattle.page_relocate.specs.Words.{wasMoved, refilled}
 use Rattle.segment_pages.proofs.Seen.{slot-bytes}
-use Rattle.segment_steps.specs.Words.{Sizes, relocatedOn}
-use Rattle.segment_steps.proofs.After.{sizes-room, Took, took-length, left-own, left-room, moved-to, not-moved, took-filled, refused-same, left-update}
+use Rattle.segment_steps.specs.Words.{Sizes}
+use Rattle.segment_moves.specs.Words.{relocatedOn}
+use Rattle.segment_steps.proofs.After.{sizes-room, Took, took-length, left-own, left-room, left-update}
+use Rattle.segment_moves.proofs.Moved.{moved-to, not-moved, took-filled, refused-same}
 use Rattle.segment_forward.specs.Words.{Follows}
 use Rattle.segment_forward.proofs.Home.{home-is}
 

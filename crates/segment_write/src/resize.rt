@@ -36,7 +36,7 @@ fn resize_ordinary(
         ≡ result (now (segment .entry))
         (storeBy foundIn (segView (now (segment .entry))) (now (inventory .entry)) id size (fit size) (Slot.Ordinary offset n)) ⌝ }
 {
-    if segment_steps::resize_on(segment, id / IDS_A_PAGE, id % IDS_A_PAGE, size) {
+    if segment_moves::resize_on(segment, id / IDS_A_PAGE, id % IDS_A_PAGE, size) {
         segment_steps::update_on(segment, inventory, id / IDS_A_PAGE);
         return Answer::Done { id };
     }
@@ -116,7 +116,7 @@ fn resize_forwarded(
     if segment_forward::fits_home(segment, id, size) {
         return resize_home(segment, inventory, id, t, size);
     }
-    if segment_steps::resize_target_on(segment, t / IDS_A_PAGE, t % IDS_A_PAGE, id, size) {
+    if segment_moves::resize_target_on(segment, t / IDS_A_PAGE, t % IDS_A_PAGE, id, size) {
         segment_steps::update_on(segment, inventory, t / IDS_A_PAGE);
         return Answer::Done { id };
     }

@@ -26,7 +26,7 @@ fn write_ordinary(segment: &mut [u8], inventory: &mut [u8], id: usize, bytes: &[
         (storeBy foundIn (segView (now (segment .entry))) (now (inventory .entry)) id (length (now (bytes .entry))) (λ old. now (bytes .entry))
         (Slot.Ordinary 0 0)) ⌝ }
 {
-    if segment_steps::rewrite_on(
+    if segment_moves::rewrite_on(
         segment,
         id / IDS_A_PAGE,
         id % IDS_A_PAGE,
@@ -61,7 +61,7 @@ fn write_forwarded(
     if segment_forward::fits_home(segment, id, bytes.len()) {
         return segment_forward::at_home(segment, inventory, id, t, bytes, bytes.len());
     }
-    if segment_steps::rewrite_target_on(segment, t / IDS_A_PAGE, t % IDS_A_PAGE, id, bytes) {
+    if segment_moves::rewrite_target_on(segment, t / IDS_A_PAGE, t % IDS_A_PAGE, id, bytes) {
         segment_steps::update_on(segment, inventory, t / IDS_A_PAGE);
         return Answer::Done { id };
     }

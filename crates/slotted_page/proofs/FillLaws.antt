@@ -1,6 +1,5 @@
 -- A plan but for its record's bytes, and those bytes written afterwards.
 use mathlib.Core.Path.{_≡_, refl, sym, ap, _∙_}
-use mathlib.Core.Bool.{true, false}
 use mathlib.Core.List.{List, [], _∷_, _++_}
 use Prim.Native.Nat.{ℕ, _+_, _*_, _≤_}
 use native.Mathlib.Omega.{arith}
@@ -9,16 +8,15 @@ use lib.ListN.{length}
 use Rattle.store.specs.Numbers.{put}
 use Rattle.store.specs.Slots.{off, len, slotBytes}
 use Rattle.store.specs.Page.{View}
-use Rattle.store.specs.Answers.{Placed, givenPlace, allotted}
-use Rattle.store.specs.PageSteps.{Edit, apply, commit, fill, move, run, withSlot, Alloc, noRoom, got, Relocated, refused, moved}
+use Rattle.store.specs.PageSteps.{Edit, apply, commit, fill, move, run, withSlot, Alloc, noRoom, got}
 use Rattle.store.specs.Laws.Numbers.{put-over, put-swap}
 use Rattle.store.specs.Laws.Views.{upd-same}
 use Rattle.store.specs.Laws.Exact.{run-append}
 use Rattle.store.specs.declared.Slot.{Slot}
 use Rattle.store.specs.declared.Slot.the-variants.{Target}
 use Rattle.store.specs.declared.Place.the-variants.{At, NoRoom}
-use Rattle.page_places.specs.Words.{unfilled, pageBare, placeOf, allocOf}
-use Rattle.slotted_page.specs.Words.{pageAfter, filledAt, targetAt, pageMoved, wasMoved, refilled}
+use Rattle.page_places.specs.Words.{unfilled, pageBare, placeOf}
+use Rattle.slotted_page.specs.Words.{pageAfter, filledAt, targetAt}
 use Rattle.page_places.proofs.BareLaws.{commit-writes, run-bare}
 pub use Rattle.page_places.proofs.PlaceLaws.{given-is}
 
@@ -94,18 +92,6 @@ module _ (k o : ℕ) (own p q₁ q₂ : List ℕ) where
       sym (run-append (a .edits) (move j (withSlot v j (Target (off (v .at j)) (len (v .at j))) bs) ∷ []) p
       ∙ move-writes v j (Target (off (v .at j)) (len (v .at j))) bs (run (a .edits) p) ∙ rw (s, w, ← same-offset, ← same-slot) g)
 
--- ---- a record that was relocated, as code that has its place finds it
-
-module _ (k : ℕ) (p q : List ℕ) where
-  pub moved-done : (r : Relocated) (j o : ℕ) → At j o ≡ placeOf (allocOf k r) → q ≡ pageAfter (allocOf k r) p → (q ≡ pageMoved r p) × (true ≡ wasMoved r)
-  moved-done refused j o e x = let z : _≡_ {A = ℕ} 0 1 = cc in absurd (omega arith)
-  moved-done (moved a) j o e x = (x, refl)
-
-  pub refilled-done : (r : Relocated) (j o : ℕ) (bs : List ℕ) → At j o ≡ placeOf (allocOf k r) → q ≡ pageAfter (filledAt (allocOf k r) bs) p
-      → (q ≡ pageMoved (refilled r k bs) p) × (true ≡ wasMoved r)
-  refilled-done refused j o bs e x = let z : _≡_ {A = ℕ} 0 1 = cc in absurd (omega arith)
-  refilled-done (moved a) j o bs e x = (x, refl)
-
 -- ---- a refusal leaves the page
 
 module _ (p q : List ℕ) where
@@ -113,12 +99,3 @@ module _ (p q : List ℕ) where
       → (q ≡ pageAfter a p) × ((bs : List ℕ) → (q ≡ pageAfter (filledAt a bs) p) × (q ≡ pageAfter (targetAt a bs) p))
   none-done noRoom e e₁ = (e₁, λ bs. (e₁, e₁))
   none-done (got j a) e e₁ = let z : _≡_ {A = ℕ} 0 1 = cc in absurd (omega arith)
-
-  pub refused-done : (k : ℕ) (r : Relocated) → givenPlace NoRoom ≡ allotted (allocOf k r) → q ≡ pageBare (allocOf k r) p
-      → (q ≡ pageMoved r p) × (false ≡ wasMoved r) × ((bs : List ℕ) → q ≡ pageMoved (refilled r k bs) p)
-  refused-done k refused e e₁ = (e₁, refl, λ bs. e₁)
-  refused-done k (moved a) e e₁ = absurd (omega (arith, ap (λ (x : Placed). x .answer) e))
-
-  pub unmoved-done : (k : ℕ) (r : Relocated) (bs : List ℕ) → false ≡ wasMoved r → q ≡ pageMoved r p → q ≡ pageMoved (refilled r k bs) p
-  unmoved-done k refused bs e e₁ = e₁
-  unmoved-done k (moved a) bs e e₁ = let z : _≡_ {A = ℕ} 0 1 = cc in absurd (omega arith)

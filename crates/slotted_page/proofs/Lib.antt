@@ -2,4 +2,3 @@ pub mod AllocateLaws
 pub mod EraseLaws
 pub mod FillLaws
 pub mod FreshLaws
-pub mod RecordLaws

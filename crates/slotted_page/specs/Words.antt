@@ -1,10 +1,9 @@
 -- Words for the contracts of the page's steps: what a step leaves and answers.
 use mathlib.Core.List.{List, [], _∷_}
-use mathlib.Core.Bool.{Bool, true, false}
 use Prim.Native.Nat.{ℕ}
 use Rattle.store.specs.Slots.{off, len}
 use Rattle.store.specs.Page.{View}
-use Rattle.store.specs.PageSteps.{move, Plan, run, withSlot, filled, andThen, Alloc, noRoom, got, Relocated, refused, moved, plan}
+use Rattle.store.specs.PageSteps.{move, Plan, run, withSlot, filled, andThen, Alloc, noRoom, got, plan}
 use Rattle.store.specs.declared.Slot.the-variants.{Redirect, Target}
 pub use Rattle.page_places.specs.Words.{unfilled, pageBare, placeOf, Inside, PastEntry}
 
@@ -31,18 +30,3 @@ targetAt (got k a) bs = got k (targetPlan k a bs)
 
 abbrev pub redirectPlan : View → ℕ → ℕ → Plan
 redirectPlan v k id = let x = withSlot v k (Redirect id) [] in plan (move k x ∷ []) x
-
--- ---- relocate
-
-abbrev pub pageMoved : Relocated → List ℕ → List ℕ
-pageMoved refused p = p
-pageMoved (moved a) p = run (a .edits) p
-
-abbrev pub wasMoved : Relocated → Bool
-wasMoved refused = false
-wasMoved (moved a) = true
-
--- slot k's record gets these bytes where it stands then
-abbrev pub refilled : Relocated → ℕ → List ℕ → Relocated
-refilled refused k bs = refused
-refilled (moved a) k bs = moved (filled a k bs)

@@ -1,6 +1,3 @@
-// One page: its header, its slots, and the steps of document 01 on it.
+// One page: allocate and erase.
 pub mod allocate;
 pub mod erase;
-pub mod record;
-pub mod relocate;
-pub mod target;

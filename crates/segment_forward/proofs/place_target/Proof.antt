@@ -20,7 +20,7 @@ use Rattle.store.specs.declared.Place.the-variants as place
 use Rattle.slotted_page.specs.Words.{pageAfter, placeOf, targetAt, Inside, PastEntry}
 use Rattle.slotted_page.proofs.FillLaws.{given-is}
 use Rattle.store.specs.Promises.Outcome.{named-single}
-use Rattle.segment_steps.proofs.After.{target-length}
+use Rattle.segment_moves.proofs.Moved.{target-length}
 use Rattle.segment_steps.proofs.Written.{bare-whole, none-written, target-written}
 use Rattle.segment_forward.specs.Words.{rootOrOld}
 use Rattle.segment_forward.proofs.Search.{named-fits, named-short, slot-small, place-full, place-damaged, place-excluded, place-no-room}

@@ -15,7 +15,7 @@ use Rattle.store.specs.declared.Slot.the-variants.{Ordinary}
 use Rattle.segment_pages.proofs.Seen.{slot-high, slot-bytes}
 use Rattle.segment_pages.proofs.Root.{root-taken}
 use Rattle.segment_steps.specs.Words.{Sizes}
-use Rattle.segment_steps.proofs.After.{no-target}
+use Rattle.segment_moves.proofs.Moved.{no-target}
 use Rattle.segment_write.proofs.Stored.{Moves, moves, unmoved, told-asks, saved, by-page, by-forward}
 use borrow.Author.Needs.{needs}
 use Rattle.segment_write.proofs.resize.resize_ordinary.Statement.{statement}

@@ -9,7 +9,7 @@ use Rattle.store.specs.Segment.{segView}
 use Rattle.store.specs.Laws.Fit.{length-fit, fit-all}
 use Rattle.store.specs.Laws.Lent.{TakenOn}
 use Rattle.segment_steps.specs.Words.{Sizes}
-use Rattle.segment_steps.proofs.After.{no-target}
+use Rattle.segment_moves.proofs.Moved.{no-target}
 use Rattle.segment_write.proofs.Stored.{Moves, moves, unmoved, told-asks, by-page, by-forward}
 use borrow.Author.Needs.{needs}
 use Rattle.segment_write.proofs.write.write_ordinary.Statement.{statement}

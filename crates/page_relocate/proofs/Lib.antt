@@ -1,0 +1,3 @@
+pub mod RelocationLaws
+pub mod MovedLaws
+pub mod RecordLaws

@@ -1,0 +1,80 @@
+-- `page_relocate::relocation::move_slot` meets its contract.
+use Rattle.store.specs.Page.{view}
+use Rattle.page_relocate.proofs.RelocationLaws.{is-free-slot, is-record-slot, is-redirect-slot}
+use mathlib.Core.Path.{refl, sym, _∙_}
+use borrow.Author.Needs.{needs}
+use Rattle.page_relocate.proofs.relocation.move_slot.Statement.{statement}
+use Rattle.page_relocate.proofs.relocation.move_slot.Tie as tie
+
+abbrev entry : tie.After-get-slot → tie.Start
+entry c = c .before .before .before
+
+get-slot-requires : tie.Need-get-slot-requires
+get-slot-requires c κs = search needs
+
+is-free-requires : tie.Need-is-free-requires
+is-free-requires c κs = search needs
+
+same-length : tie.Need-same-length
+same-length c = search needs
+
+returns : tie.Need-returns
+returns c =
+    let free = c .before in
+    let slot = free .before in
+    let a = entry slot .args in
+    rw (is-free-slot (view (a .page .now)) (a .k) (a .size) (slot .get-slot .result) (slot .get-slot .ensures .0)
+    (sym (c .if1 .taken) ∙ free .is-free .ensures)) (refl, refl, tt)
+
+is-record-requires : tie.Need-is-record-requires
+is-record-requires c κs = search needs
+
+resize-slot-requires : tie.Need-resize-slot-requires
+resize-slot-requires c κs = search needs
+
+same-length-2 : tie.Need-same-length-2
+same-length-2 c = search needs
+
+returns-2 : tie.Need-returns-2
+returns-2 c =
+    let done = c .before .before in
+    let branch = done .before .before in
+    let tested = branch .before in
+    let slot = tested .before .before .before in
+    let a = entry slot .args in
+    rw (is-record-slot (view (a .page .now)) (a .k) (a .size) (slot .get-slot .result) (slot .get-slot .ensures .0)
+    (sym (branch .if2 .taken) ∙ tested .is-record .ensures)) (done .resize-slot .ensures)
+
+home-slot-requires : tie.Need-home-slot-requires
+home-slot-requires c κs = search needs
+
+same-length-3 : tie.Need-same-length-3
+same-length-3 c = search needs
+
+returns-3 : tie.Need-returns-3
+returns-3 c =
+    let done = c .before .before in
+    let branch = done .before .before in
+    let tested = branch .before in
+    let taken = tested .before in
+    let free = taken .before in
+    let slot = free .before in
+    let a = entry slot .args in
+    rw (is-redirect-slot (view (a .page .now)) (a .k) (a .size) (slot .get-slot .result) (slot .get-slot .ensures .0)
+    (sym (taken .if1 .left) ∙ free .is-free .ensures) (sym (branch .if2 .left) ∙ tested .is-record .ensures)) (done .home-slot .ensures)
+
+pub move-slot-spec : {M : Type 1} → statement M
+move-slot-spec =
+    tie.close
+    (tie.spec
+    get-slot-requires
+    is-free-requires
+    same-length
+    returns
+    is-record-requires
+    resize-slot-requires
+    same-length-2
+    returns-2
+    home-slot-requires
+    same-length-3
+    returns-3)
