@@ -43,13 +43,16 @@ full = record { got = header (into 16364 initialised); want = 1 ∷ 1 ∷ 20 ∷
 abbrev pruned : Row
 pruned = record { got = header (without 2 (without 1 (without 0 (into 5 (into 4 (into 3 initialised)))))); want = 1 ∷ 0 ∷ 16377 ∷ 16364 ∷ [] }
 
--- "Then 3,338: compactified, offset 5,036" (its "free 4,992" takes seconds to compute, and is left to the runs)
-abbrev packed : Row
-packed = record { got = off (into 3338 holed .at 3) ∷ []; want = 5036 ∷ [] }
+-- "Then 3,338: compactified, offset 5,036, free 4,992." "3,330 instead: not compactified, offset 44." As functions of that page, which is
+-- then computed once.
+abbrev packed : View → Row
+packed v = record { got = off (into 3338 v .at 3) ∷ into 3338 v .freeSpace ∷ []; want = 5036 ∷ 4992 ∷ [] }
 
--- "3,330 instead: not compactified, offset 44."
-abbrev unpacked : Row
-unpacked = record { got = off (into 3330 holed .at 3) ∷ []; want = 44 ∷ [] }
+abbrev unpacked : View → Row
+unpacked v = record { got = off (into 3330 v .at 3) ∷ []; want = 44 ∷ [] }
+
+onHoled : View → List Row
+onHoled v = packed v ∷ unpacked v ∷ []
 
 -- ---- a segment: what is seen of it, and the inventory
 
@@ -90,24 +93,28 @@ place Free = []
 place (Redirect i) = []
 place (Target o l) = o ∷ l ∷ []
 
--- "forwarded to (2,0), offset 11,376, length 5,008; page 1 free 4,356, page 2 free 11,356."
-abbrev moved : Row
-moved = record {
-  got = place (forwarded .seen .page 2 .at 0) ++ (forwarded .seen .page 1 .freeSpace ∷ forwarded .seen .page 2 .freeSpace ∷ []);
+-- Of the segment after that write, computed once too: "forwarded to (2,0), offset 11,376, length 5,008; page 1 free 4,356, page 2 free
+-- 11,356."
+abbrev moved : State → Row
+moved s = record {
+  got = place (s .seen .page 2 .at 0) ++ (s .seen .page 1 .freeSpace ∷ s .seen .page 2 .freeSpace ∷ []);
   want = 11376 ∷ 5008 ∷ 4356 ∷ 11356 ∷ [];
 }
 
 -- "Then write 16,356: stays, page 2 free 0."
-abbrev fills : Row
-fills = record {
-  got = did forwarded (λ u v. writePlan foundIn u v (idOf 1 0) (zeros 16356)) .answer
-      ∷ then forwarded (λ u v. writePlan foundIn u v (idOf 1 0) (zeros 16356)) .seen .page 2 .freeSpace ∷ [];
+abbrev fills : State → Row
+fills s = record {
+  got = did s (λ u v. writePlan foundIn u v (idOf 1 0) (zeros 16356)) .answer
+      ∷ then s (λ u v. writePlan foundIn u v (idOf 1 0) (zeros 16356)) .seen .page 2 .freeSpace ∷ [];
   want = 0 ∷ 0 ∷ [];
 }
 
 -- "16,357 instead: 7."
-abbrev over : Row
-over = record { got = did forwarded (λ u v. writePlan foundIn u v (idOf 1 0) (zeros 16357)) .answer ∷ []; want = 7 ∷ [] }
+abbrev over : State → Row
+over s = record { got = did s (λ u v. writePlan foundIn u v (idOf 1 0) (zeros 16357)) .answer ∷ []; want = 7 ∷ [] }
+
+onForwarded : State → List Row
+onForwarded s = moved s ∷ fills s ∷ over s ∷ []
 
 full-is : full .got ≡ full .want
 unfolding into header compactify allocate
@@ -117,37 +124,23 @@ pruned-is : pruned .got ≡ pruned .want
 unfolding into without header compactify allocate erase
 pruned-is = refl
 
-packed-is : packed .got ≡ packed .want
-unfolding into without compactify allocate erase
-packed-is = refl
-
-unpacked-is : unpacked .got ≡ unpacked .want
-unfolding into without compactify allocate erase
-unpacked-is = refl
+on-holed-is : map (λ r. r .got) (onHoled holed) ≡ map (λ r. r .want) (onHoled holed)
+unfolding onHoled into without compactify allocate erase
+on-holed-is = refl
 
 long-is : long .got ≡ long .want
 unfolding start did sound compactify allocate classOf nibbleAt setNibble entryAt setEntry firstFrom nextPage runEnd setFrom pulledBack
     movedOn updated update foundIn find insertPlan
 long-is = refl
 
-moved-is : moved .got ≡ moved .want
-unfolding start did then three forwarded sound compactify allocate eraseForRedirect relocate classOf nibbleAt setNibble entryAt setEntry
-    firstFrom nextPage runEnd setFrom pulledBack movedOn updated update foundIn find insertPlan storePlan rootOf
-moved-is = refl
-
-fills-is : fills .got ≡ fills .want
-unfolding start did then three forwarded sound compactify allocate eraseForRedirect relocate classOf nibbleAt setNibble entryAt setEntry
-    firstFrom nextPage runEnd setFrom pulledBack movedOn updated update foundIn find insertPlan storePlan rootOf
-fills-is = refl
-
-over-is : over .got ≡ over .want
-unfolding start did then three forwarded sound compactify allocate eraseForRedirect relocate classOf nibbleAt setNibble entryAt setEntry
-    firstFrom nextPage runEnd setFrom pulledBack movedOn updated update foundIn find insertPlan storePlan rootOf
-over-is = refl
+on-forwarded-is : map (λ r. r .got) (onForwarded forwarded) ≡ map (λ r. r .want) (onForwarded forwarded)
+unfolding onForwarded start did then three forwarded sound compactify allocate eraseForRedirect relocate classOf nibbleAt setNibble entryAt
+    setEntry firstFrom nextPage runEnd setFrom pulledBack movedOn updated update foundIn find insertPlan storePlan rootOf
+on-forwarded-is = refl
 
 pub rows : List Row
-rows = full ∷ pruned ∷ packed ∷ unpacked ∷ long ∷ moved ∷ fills ∷ over ∷ []
+rows = full ∷ pruned ∷ long ∷ onHoled holed ++ onForwarded forwarded
 
 pub examples : map (λ r. r .got) rows ≡ map (λ r. r .want) rows
-unfolding rows
-examples = λ i. full-is i ∷ pruned-is i ∷ packed-is i ∷ unpacked-is i ∷ long-is i ∷ moved-is i ∷ fills-is i ∷ over-is i ∷ []
+unfolding rows onHoled
+examples = λ i. full-is i ∷ pruned-is i ∷ long-is i ∷ on-holed-is i ++ on-forwarded-is i

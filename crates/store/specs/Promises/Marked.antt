@@ -20,31 +20,29 @@ pub record Row : Type 0 where
 blank : List ℕ
 blank = zeros 16384
 
--- three bytes into n = 1; then n bytes more
+-- three bytes into n = 1. What is said of what they leave is a function of it, which is then computed once.
 three : Result
 three = insertStep blank blank (1 ∷ 2 ∷ 3 ∷ [])
 
-then : ℕ → ℕ
-then n = insertStep (three .seg) (three .inv) (zeros n) .answer
+-- n bytes more
+then : Result → ℕ → ℕ
+then r n = insertStep (r .seg) (r .inv) (zeros n) .answer
 
 -- the bytes of a header: count, first free, data start and free space
 abbrev header : ℕ → ℕ → ℕ → ℕ → List ℕ
 header count first start free = toBE 2 count ++ (toBE 2 first ++ (toBE 4 start ++ toBE 4 free))
 
--- a record of 100 alone, grown to 300
+-- a record of 100 alone
 hundred : Result
 hundred = insertStep blank blank (zeros 100)
-
-grown : Result
-grown = resizeStep (hundred .seg) (hundred .inv) 0 300
 
 -- P1 initialised header
 abbrev p1 : Row
 p1 = record { got = headBytes initialised; want = 0 ∷ 0 ∷ 0 ∷ 0 ∷ 0 ∷ 0 ∷ 0x40 ∷ 0 ∷ 0 ∷ 0 ∷ 0x3F ∷ 0xF4 ∷ [] }
 
 -- P2 three bytes into it
-abbrev p2 : Row
-p2 = record { got = cut (three .seg) 0 20; want = header 1 1 16381 16361 ++ (0 ∷ 0 ∷ 0x3F ∷ 0xFD ∷ 0 ∷ 0 ∷ 0 ∷ 3 ∷ []) }
+abbrev p2 : Result → Row
+p2 r = record { got = cut (r .seg) 0 20; want = header 1 1 16381 16361 ++ (0 ∷ 0 ∷ 0x3F ∷ 0xFD ∷ 0 ∷ 0 ∷ 0 ∷ 3 ∷ []) }
 
 -- P3 target at 16,368 of 16
 abbrev p3 : Row
@@ -71,76 +69,48 @@ abbrev p8 : Row
 p8 = record { got = classOf 15584 ∷ []; want = 15 ∷ [] }
 
 -- P9 n = 1, inventory all zero, then P2: nibble 2, entries 0 and 1 are 1, the rest 0: fifteen entries of 8 bytes, and then page 0's nibble
-abbrev p9 : Row
-p9 = record { got = cut (three .inv) 0 121; want = toLE 8 1 ++ (toLE 8 1 ++ (zeros 104 ++ (2 ∷ []))) }
+abbrev p9 : Result → Row
+p9 r = record { got = cut (r .inv) 0 121; want = toLE 8 1 ++ (toLE 8 1 ++ (zeros 104 ++ (2 ∷ []))) }
 
 -- P10 then 12,270 bytes go in
-abbrev p10 : Row
-p10 = record { got = then 12270 ∷ []; want = 0 ∷ [] }
+abbrev p10 : Result → Row
+p10 r = record { got = then r 12270 ∷ []; want = 0 ∷ [] }
 
 -- P11 12,271 instead: 7, though the page has room
-abbrev p11 : Row
-p11 = record { got = then 12271 ∷ []; want = 7 ∷ [] }
+abbrev p11 : Result → Row
+p11 r = record { got = then r 12271 ∷ []; want = 7 ∷ [] }
 
 -- P12 a record of 100 alone, grown to 300: data start 15,984, free 16,064
-abbrev p12 : Row
-p12 = record { got = cut (grown .seg) 0 12; want = header 1 1 15984 16064 }
+abbrev p12 : Result → Row
+p12 r = record { got = cut (resizeStep (r .seg) (r .inv) 0 300 .seg) 0 12; want = header 1 1 15984 16064 }
+
+onThree : Result → List Row
+onThree r = p2 r ∷ p9 r ∷ p10 r ∷ p11 r ∷ []
+
+onHundred : Result → List Row
+onHundred r = p12 r ∷ []
+
+coded : List Row
+coded = p1 ∷ p3 ∷ p4 ∷ p5 ∷ p6 ∷ p7 ∷ p8 ∷ []
 
 -- one after the other, as each is given its own share of steps
-p1-is : p1 .got ≡ p1 .want
-p1-is = refl
+coded-is : map (λ r. r .got) coded ≡ map (λ r. r .want) coded
+unfolding coded classOf
+coded-is = refl
 
-p2-is : p2 .got ≡ p2 .want
-unfolding blank three view sound apply compactify allocate classOf nibbleAt setNibble entryAt setEntry firstFrom nextPage runEnd setFrom
-    pulledBack movedOn updated update foundIn segView result find insertPlan insertStep
-p2-is = refl
+on-three-is : map (λ r. r .got) (onThree three) ≡ map (λ r. r .want) (onThree three)
+unfolding onThree blank three view sound apply compactify allocate classOf nibbleAt setNibble entryAt setEntry firstFrom nextPage runEnd
+    setFrom pulledBack movedOn updated update foundIn segView result find insertPlan insertStep then
+on-three-is = refl
 
-p3-is : p3 .got ≡ p3 .want
-p3-is = refl
-
-p4-is : p4 .got ≡ p4 .want
-p4-is = refl
-
-p5-is : p5 .got ≡ p5 .want
-unfolding classOf
-p5-is = refl
-
-p6-is : p6 .got ≡ p6 .want
-unfolding classOf
-p6-is = refl
-
-p7-is : p7 .got ≡ p7 .want
-unfolding classOf
-p7-is = refl
-
-p8-is : p8 .got ≡ p8 .want
-unfolding classOf
-p8-is = refl
-
-p9-is : p9 .got ≡ p9 .want
-unfolding blank three view sound apply compactify allocate classOf nibbleAt setNibble entryAt setEntry firstFrom nextPage runEnd setFrom
-    pulledBack movedOn updated update foundIn segView result find insertPlan insertStep
-p9-is = refl
-
-p10-is : p10 .got ≡ p10 .want
-unfolding blank three view sound apply compactify allocate classOf nibbleAt setNibble entryAt setEntry firstFrom nextPage runEnd setFrom
-    pulledBack movedOn updated update foundIn segView result find insertPlan insertStep then
-p10-is = refl
-
-p11-is : p11 .got ≡ p11 .want
-unfolding blank three view sound apply compactify allocate classOf nibbleAt setNibble entryAt setEntry firstFrom nextPage runEnd setFrom
-    pulledBack movedOn updated update foundIn segView result find insertPlan insertStep then
-p11-is = refl
-
-p12-is : p12 .got ≡ p12 .want
-unfolding blank three view sound apply compactify allocate classOf nibbleAt setNibble entryAt setEntry firstFrom nextPage runEnd setFrom
-    pulledBack movedOn updated update foundIn segView result find insertPlan insertStep hundred grown storePlan rootOf relocate
-    resizeStep
-p12-is = refl
+on-hundred-is : map (λ r. r .got) (onHundred hundred) ≡ map (λ r. r .want) (onHundred hundred)
+unfolding onHundred blank hundred view sound apply compactify allocate relocate classOf nibbleAt setNibble entryAt setEntry firstFrom nextPage
+    runEnd setFrom pulledBack movedOn updated update foundIn segView result find insertPlan insertStep storePlan rootOf resizeStep
+on-hundred-is = refl
 
 pub rows : List Row
-rows = p1 ∷ p2 ∷ p3 ∷ p4 ∷ p5 ∷ p6 ∷ p7 ∷ p8 ∷ p9 ∷ p10 ∷ p11 ∷ p12 ∷ []
+rows = coded ++ (onThree three ++ onHundred hundred)
 
 pub marked : map (λ r. r .got) rows ≡ map (λ r. r .want) rows
-unfolding rows
-marked = λ i. p1-is i ∷ p2-is i ∷ p3-is i ∷ p4-is i ∷ p5-is i ∷ p6-is i ∷ p7-is i ∷ p8-is i ∷ p9-is i ∷ p10-is i ∷ p11-is i ∷ p12-is i ∷ []
+unfolding rows coded onThree
+marked = λ i. coded-is i ++ (on-three-is i ++ on-hundred-is i)
