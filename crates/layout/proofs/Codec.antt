@@ -10,7 +10,7 @@ use Rattle.store.specs.Slots.{ofKind, slotOf}
 use Rattle.store.specs.Page.{view, count}
 use Rattle.store.specs.declared.Slot.the-variants.{Ordinary, Free, Redirect, Target}
 use Rattle.layout.specs.Run.{headOf}
-use Rattle.layout.proofs.Writes.{write-append}
+use Rattle.store.specs.Laws.Writes.{write-append}
 use Rattle.layout.proofs.Numbers.{num8}
 
 -- an entry in its two halves, h and l: the kind k is in the high one, above the offset o

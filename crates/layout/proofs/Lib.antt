@@ -1,4 +1,3 @@
-pub mod Writes
 pub mod Numbers
 pub mod LittleEndian
 pub mod Codec

@@ -9,7 +9,7 @@ use lib.Bits.{bitOr, or-shifted-r}
 use lib.ListN.{length, getD, length-reverse}
 use lib.Pow.{pow-add, shl-exact}
 use Rattle.store.specs.Numbers.{cut, be, toBE, le, toLE}
-use Rattle.layout.proofs.Writes.{length-cut, cut-snoc}
+use Rattle.store.specs.Laws.Writes.{length-cut, cut-snoc}
 
 -- a byte's weight, as a power of 256 and as a shift
 weight : (k : ℕ) → 256 ^ k ≡ 2 ^ (8 * k)

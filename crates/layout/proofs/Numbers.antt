@@ -6,7 +6,7 @@ use native.Mathlib.Nat.{div-one, mul-assoc, add-mul, div-div-eq-div-mul, pow-suc
 use lib.Bits.{bitOr, or-shifted}
 use lib.Pow.{pow-add, shl-exact, shl-lt}
 use lib.Seq.{take-add, drop-drop}
-use Rattle.layout.proofs.Writes.{write-append, length-cut, cut-snoc}
+use Rattle.store.specs.Laws.Writes.{write-append, length-cut, cut-snoc}
 use native.Mathlib.Omega.{arith}
 use native.Mathlib.Numerals.{add-one, towards-suc}
 use lib.ListN.{length, getD, take, drop, set, length-append}

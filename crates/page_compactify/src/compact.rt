@@ -37,7 +37,7 @@ fn place(page: &mut [u8], e: usize, d: usize)
 {
     let len = len_in(e);
     layout::slots::write_slot(page, slot_in(e), live_slot(kind_in(e), d, len));
-    layout::move_within(page, offset_in(e), len, d);
+    layout_runs::move_within(page, offset_in(e), len, d);
 }
 
 // The records of the first n keys, packed; the new data start.

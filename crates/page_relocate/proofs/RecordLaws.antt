@@ -27,7 +27,7 @@ use Rattle.store.specs.declared.Slot.{Slot}
 use Rattle.store.specs.declared.Slot.the-variants.{Ordinary, Free, Redirect, Target}
 use Rattle.store.specs.declared.Place.the-variants.{At}
 use Rattle.layout.specs.Run.{headOf}
-use Rattle.layout.proofs.Writes.{write-append}
+use Rattle.store.specs.Laws.Writes.{write-append}
 use Rattle.page_compactify.proofs.PackLaws.{shown-bytes}
 use Rattle.slotted_page.specs.Words.{unfilled, pageBare, placeOf, pageAfter}
 use Rattle.page_relocate.specs.Words.{shrinkPlan, growPlan, allocOf, pageMoved, wasMoved, refilled}

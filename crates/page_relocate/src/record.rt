@@ -20,7 +20,7 @@ pub fn rewrite(page: &mut [u8], k: usize, bytes: &[u8], size: usize) -> bool
     let place = crate::relocation::move_slot(page, k, size);
     match place {
         Place::At { slot: _, offset } => {
-            layout::fit_in(page, offset, bytes, size);
+            layout_runs::fit_in(page, offset, bytes, size);
             true
         }
         Place::NoRoom => false,
@@ -50,7 +50,7 @@ pub fn rewrite_target(page: &mut [u8], k: usize, id: usize, bytes: &[u8]) -> boo
     match place {
         Place::At { slot: _, offset } => {
             layout::put_u64(page, offset, id);
-            layout::copy_in(page, offset + 8, bytes);
+            layout_runs::copy_in(page, offset + 8, bytes);
             true
         }
         Place::NoRoom => false,

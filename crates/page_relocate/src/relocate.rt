@@ -19,11 +19,11 @@ fn grow_packed(page: &mut [u8], k: usize, s: Slot, size: usize) -> bool
 {
     let n = layout::slots::len_of(s);
     let mut saved = [0u8; PAGE_SIZE];
-    layout::save(page, layout::slots::off_of(s), n, &mut saved);
+    layout_runs::save(page, layout::slots::off_of(s), n, &mut saved);
     let place = crate::relocation::move_slot(page, k, size);
     match place {
         Place::At { slot: _, offset } => {
-            layout::fit_in(page, offset, &saved[..n], size);
+            layout_runs::fit_in(page, offset, &saved[..n], size);
             true
         }
         Place::NoRoom => false,
@@ -41,8 +41,8 @@ fn grow(page: &mut [u8], k: usize, s: Slot, size: usize) -> bool
     let place = crate::relocation::move_slot(page, k, size);
     match place {
         Place::At { slot: _, offset } => {
-            layout::move_within(page, layout::slots::off_of(s), n, offset);
-            layout::zero_fill(page, offset + n, size - n);
+            layout_runs::move_within(page, layout::slots::off_of(s), n, offset);
+            layout_runs::zero_fill(page, offset + n, size - n);
             true
         }
         Place::NoRoom => false,

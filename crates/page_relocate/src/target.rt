@@ -30,5 +30,5 @@ pub fn write_target(
         },
     );
     layout::put_u64(page, offset, id);
-    layout::fit_in(page, offset + 8, bytes, size);
+    layout_runs::fit_in(page, offset + 8, bytes, size);
 }

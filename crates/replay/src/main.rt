@@ -24,7 +24,7 @@ fn zeroed(bytes: &mut [u8], n: usize) -> bool {
     if bytes.len() < n {
         return false;
     }
-    layout::zero_fill(bytes, 0, n);
+    layout_runs::zero_fill(bytes, 0, n);
     true
 }
 
@@ -140,7 +140,7 @@ fn replay(text: &mut [u8], segment: &mut [u8], inventory: &mut [u8]) -> State {
             return s;
         }
         kept = n - e;
-        layout::move_down(text, e, kept, 0);
+        layout_runs::move_down(text, e, kept, 0);
     }
     s
 }

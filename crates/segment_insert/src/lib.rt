@@ -34,7 +34,7 @@ fn insert_at(
     let Place::At { slot, offset } = place else {
         return Answer::Stale;
     };
-    layout::fit_in(
+    layout_runs::fit_in(
         &mut segment[p * 16384..(p + 1) * 16384],
         offset,
         bytes,

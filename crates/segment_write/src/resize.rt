@@ -41,7 +41,7 @@ fn resize_ordinary(
         return Answer::Done { id };
     }
     let mut old = [0u8; PAGE_SIZE];
-    layout::save(segment, id / IDS_A_PAGE * PAGE_SIZE + offset, n, &mut old);
+    layout_runs::save(segment, id / IDS_A_PAGE * PAGE_SIZE + offset, n, &mut old);
     segment_forward::forward(segment, inventory, id, &old[..n], size)
 }
 
@@ -55,7 +55,7 @@ fn save_target(segment: &[u8], t: usize, old: &mut [u8]) -> usize
     let s = segment_pages::slot_on(segment, p, t % IDS_A_PAGE);
     let n = layout::slots::len_of(s) - 8;
     let at = p * PAGE_SIZE + layout::slots::off_of(s) + 8;
-    layout::save(segment, at, n, old);
+    layout_runs::save(segment, at, n, old);
     n
 }
 

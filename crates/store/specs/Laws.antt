@@ -1,5 +1,6 @@
 pub mod Cases
 pub mod Numbers
+pub mod Writes
 pub mod Fit
 pub mod Slots
 pub mod Classes

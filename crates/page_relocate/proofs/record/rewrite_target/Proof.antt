@@ -7,7 +7,7 @@ use lib.ListN.{length}
 use Rattle.store.specs.Numbers.{put, toBE}
 use Rattle.store.specs.PageSteps.{relocate}
 use Rattle.store.specs.Page.{view}
-use Rattle.layout.proofs.Writes.{write-append}
+use Rattle.store.specs.Laws.Writes.{write-append}
 use Rattle.store.specs.declared.Place.{Place}
 use Rattle.page_places.specs.Words.{Inside}
 use Rattle.page_relocate.proofs.RecordLaws.{bytes-done}

@@ -3,7 +3,7 @@ use mathlib.Core.Path.{sym, ap, _∙_}
 use mathlib.Core.List.{List, _++_}
 use Prim.Native.Nat.{ℕ}
 use Rattle.store.specs.Numbers.{put, toBE, fit}
-use Rattle.layout.proofs.Writes.{write-append}
+use Rattle.store.specs.Laws.Writes.{write-append}
 use borrow.Author.Needs.{needs}
 use Rattle.page_relocate.proofs.target.write_target.Statement.{statement}
 use Rattle.page_relocate.proofs.target.write_target.Tie as tie

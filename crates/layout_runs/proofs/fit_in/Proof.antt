@@ -1,14 +1,14 @@
--- `layout::fit_in` meets its contract.
+-- `layout_runs::fit_in` meets its contract.
 use mathlib.Core.Path.{sym, _∙_}
 use Prim.Native.Nat.{_-_}
 use native.Mathlib.Omega.{arith}
 use lib.ListN.{length, length-take}
 use Rattle.store.specs.Numbers.{zeros}
 use Rattle.store.specs.Laws.Fit.{fit-cut, fit-filled}
-use Rattle.layout.proofs.Writes.{write-append}
+use Rattle.store.specs.Laws.Writes.{write-append}
 use borrow.Author.Needs.{needs}
-use Rattle.layout.proofs.fit_in.Statement.{statement}
-use Rattle.layout.proofs.fit_in.Tie as tie
+use Rattle.layout_runs.proofs.fit_in.Statement.{statement}
+use Rattle.layout_runs.proofs.fit_in.Tie as tie
 
 abbrev entry : tie.After-shared-slice-known → tie.Start
 entry c = c .before .before

@@ -1,12 +1,12 @@
--- `layout::move_within` meets its contract.
+-- `layout_runs::move_within` meets its contract.
 use mathlib.Core.Path.{_≡_, sym, ap, _∙_}
 use mathlib.Core.List.{List}
 use Prim.Native.Nat.{ℕ}
 use Rattle.store.specs.Numbers.{cut, put}
 use Rattle.store.specs.Laws.Numbers.{put-own}
 use borrow.Author.Needs.{needs}
-use Rattle.layout.proofs.move_within.Statement.{statement}
-use Rattle.layout.proofs.move_within.Tie as tie
+use Rattle.layout_runs.proofs.move_within.Statement.{statement}
+use Rattle.layout_runs.proofs.move_within.Tie as tie
 
 returns : tie.Need-returns
 returns c =

@@ -1,13 +1,13 @@
--- `layout::zero_fill` meets its contract: after j turns j bytes are zero.
+-- `layout_runs::zero_fill` meets its contract: after j turns j bytes are zero.
 use mathlib.Core.Path.{_≡_, refl, sym}
 use Prim.Native.Nat.{_≤_, _-_}
 use native.Mathlib.Omega.{arith}
 use lib.ListN.{length, length-set}
 use Rattle.store.specs.Numbers.{put, zeros}
 use Rattle.store.specs.Laws.Numbers.{put-nil}
-use Rattle.layout.proofs.Writes.{cleared-more}
-use Rattle.layout.proofs.zero_fill.Statement.{statement}
-use Rattle.layout.proofs.zero_fill.Tie as tie
+use Rattle.store.specs.Laws.Writes.{cleared-more}
+use Rattle.layout_runs.proofs.zero_fill.Statement.{statement}
+use Rattle.layout_runs.proofs.zero_fill.Tie as tie
 
 abbrev Inv-loop : tie.InvT-loop
 Inv-loop page₀ at n j₀ page j = (page ≡ put page₀ at (zeros j)) × (j ≤ n) × (length page ≡ length page₀)

@@ -1,4 +1,4 @@
--- `layout::copy_in` meets its contract: the part that is lent to `bytes::copy` comes back as src.
+-- `layout_runs::copy_in` meets its contract: the part that is lent to `bytes::copy` comes back as src.
 use mathlib.Core.Path.{_≡_, sym, ap, _∙_}
 use mathlib.Core.List.{List, _++_, append-nil}
 use Prim.Native.Nat.{ℕ, _+_, _-_}
@@ -9,9 +9,9 @@ use borrow.Rule.Slice.PartMut.{putMid}
 use borrow.Author.Needs.{needs}
 use Rattle.store.specs.Numbers.{cut}
 use Rattle.store.specs.Laws.Numbers.{lent}
-use Rattle.layout.proofs.Writes.{length-cut}
-use Rattle.layout.proofs.copy_in.Statement.{statement}
-use Rattle.layout.proofs.copy_in.Tie as tie
+use Rattle.store.specs.Laws.Writes.{length-cut}
+use Rattle.layout_runs.proofs.copy_in.Statement.{statement}
+use Rattle.layout_runs.proofs.copy_in.Tie as tie
 
 -- a run of src's length, all of it written over
 over : (s d : List ℕ) → length d ≡ length s → take (length s) s ++ drop (length s) d ≡ s

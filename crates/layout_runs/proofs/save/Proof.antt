@@ -1,10 +1,10 @@
--- `layout::save` meets its contract.
+-- `layout_runs::save` meets its contract.
 use mathlib.Core.Path.{_≡_}
 use Prim.Native.Nat.{_+_, _-_}
 use native.Mathlib.Omega.{arith}
 use borrow.Author.Needs.{needs}
-use Rattle.layout.proofs.save.Statement.{statement}
-use Rattle.layout.proofs.save.Tie as tie
+use Rattle.layout_runs.proofs.save.Statement.{statement}
+use Rattle.layout_runs.proofs.save.Tie as tie
 
 add-e : tie.Need-add-e
 add-e c = search needs

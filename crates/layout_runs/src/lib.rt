@@ -1,0 +1,89 @@
+// Runs of bytes: copied in, saved, moved within a page, cleared.
+ghost use mathlib.Core.Path.{_≡_};
+ghost use Prim.Native.Nat.{_+_, _≤_};
+ghost use lib.ListN.{length};
+ghost use Rattle.store.specs.Numbers.{cut, put, zeros, fit};
+
+// n zeros from `at` on.
+pub fn zero_fill(page: &mut [u8], at: usize, n: usize)
+    requires { ⌜ at + n ≤ length (now page) ⌝ }
+    ensures { λ _. ⌜ now (page .exit) ≡ put (now (page .entry)) at (zeros n) ⌝ }
+{
+    let mut j = 0;
+    while j < n {
+        page[at + j] = 0;
+        j += 1;
+    }
+}
+
+// All of src from `at` on.
+pub fn copy_in(page: &mut [u8], at: usize, src: &[u8])
+    requires { ⌜ at + length (now src) ≤ length (now page) ⌝ }
+    ensures { λ _. ⌜ now (page .exit) ≡ put (now (page .entry)) at (now (src .entry)) ⌝ }
+{
+    let e = at + src.len();
+    bytes::copy(src, &mut page[at..e]);
+}
+
+// The n bytes at `at`, to the front of `to`: a record's bytes saved by value, for its page may be compactified.
+pub fn save(page: &[u8], at: usize, n: usize, to: &mut [u8])
+    requires { ⌜ (at + n ≤ length (now page)) × (n ≤ length (now to)) ⌝ }
+    ensures { λ _. ⌜ now (to .exit) ≡ put (now (to .entry)) 0 (cut (now (page .entry)) at n) ⌝ }
+{
+    let e = at + n;
+    copy_in(to, 0, &page[at..e]);
+}
+
+// src from `at` on, cut off or filled up with zeros to `size` bytes.
+pub fn fit_in(page: &mut [u8], at: usize, src: &[u8], size: usize)
+    requires { ⌜ at + size ≤ length (now page) ⌝ }
+    ensures { λ _. ⌜ now (page .exit) ≡ put (now (page .entry)) at (fit size (now (src .entry))) ⌝ }
+{
+    let n = src.len();
+    if size < n {
+        copy_in(page, at, &src[..size]);
+    } else {
+        copy_in(page, at, src);
+        zero_fill(page, at + n, size - n);
+    }
+}
+
+// The n bytes at `from` to `to`, which is not above it: the lowest byte first.
+pub fn move_down(page: &mut [u8], from: usize, n: usize, to: usize)
+    requires { ⌜ (from + n ≤ length (now page)) × (to ≤ from) ⌝ }
+    ensures { λ _. ⌜ now (page .exit) ≡ put (now (page .entry)) to (cut (now (page .entry)) from n) ⌝ }
+{
+    let mut j = 0;
+    while j < n {
+        page[to + j] = page[from + j];
+        j += 1;
+    }
+}
+
+// The n bytes at `from` to `to`, which is not below it: the highest byte first.
+pub fn move_up(page: &mut [u8], from: usize, n: usize, to: usize)
+    requires { ⌜ (to + n ≤ length (now page)) × (from ≤ to) ⌝ }
+    ensures { λ _. ⌜ now (page .exit) ≡ put (now (page .entry)) to (cut (now (page .entry)) from n) ⌝ }
+{
+    let mut j = n;
+    while 0 < j {
+        j -= 1;
+        page[to + j] = page[from + j];
+    }
+}
+
+// The n bytes at `from` to `to`, also where the two runs overlap. Where they are one run nothing is to be done: compactify finds most
+// records in their place.
+pub fn move_within(page: &mut [u8], from: usize, n: usize, to: usize)
+    requires { ⌜ (from + n ≤ length (now page)) × (to + n ≤ length (now page)) ⌝ }
+    ensures { λ _. ⌜ now (page .exit) ≡ put (now (page .entry)) to (cut (now (page .entry)) from n) ⌝ }
+{
+    if to == from {
+        return;
+    }
+    if to <= from {
+        move_down(page, from, n, to);
+    } else {
+        move_up(page, from, n, to);
+    }
+}
