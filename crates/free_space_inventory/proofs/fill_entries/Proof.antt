@@ -45,14 +45,4 @@ returns c = sym (down-done _ _ _ _ (c .loop-test .left)) ∙ c .before .loop .in
 
 pub fill-entries-spec : {M : Type 1} → statement M
 fill-entries-spec =
-    tie.close
-    (tie.spec
-    Inv-loop
-    μ-loop
-    loop-holds
-    sub-u
-    write-entry-requires
-    loop-less
-    loop-again
-    same-length
-    returns)
+    tie.close (tie.spec Inv-loop μ-loop loop-holds sub-u write-entry-requires loop-less loop-again same-length returns)

@@ -12,9 +12,6 @@ returns : tie.Need-returns
 unfolding foundIn
 returns c = rw (lt-ltb _ _ (c .if1 .taken))
 
-class-of-requires : tie.Need-class-of-requires
-class-of-requires c κs = search needs
-
 sub-read-entry : tie.Need-sub-read-entry
 sub-read-entry c = omega (arith, class-low (16372 - c .before .before .before .args .need))
 
@@ -37,4 +34,4 @@ returns-3 c =
 
 pub find-page-spec : {M : Type 1} → statement M
 find-page-spec =
-    tie.close (tie.spec returns class-of-requires sub-read-entry read-entry-requires returns-2 returns-3)
+    tie.close (tie.spec returns (λ c κs. search needs) sub-read-entry read-entry-requires returns-2 returns-3)

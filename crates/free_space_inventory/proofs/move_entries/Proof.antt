@@ -104,27 +104,6 @@ returns c = c .before .before .fill-entries .ensures ∙ joined (c .before .befo
 
 pub move-entries-spec : {M : Type 1} → statement M
 move-entries-spec =
-    tie.close
-    (tie.spec
-    Inv-loop
-    μ-loop
-    Inv-pages
-    μ-pages
-    add-p
-    pages-holds
-    add-read-nibble
-    read-nibble-requires
-    add-p-2
-    pages-less
-    pages-again
-    loop-holds
-    sub-u
-    write-entry-requires
-    loop-less
-    loop-again
-    add-p-3
-    pages-less-2
-    pages-again-2
-    fill-entries-requires
-    same-length
-    returns)
+    tie.close (tie.spec Inv-loop μ-loop Inv-pages μ-pages add-p pages-holds add-read-nibble read-nibble-requires add-p-2 pages-less
+    pages-again loop-holds sub-u write-entry-requires loop-less loop-again add-p-3 pages-less-2 pages-again-2 fill-entries-requires
+    same-length returns)

@@ -57,17 +57,5 @@ returns-2 c =
 
 pub pull-entries-spec : {M : Type 1} → statement M
 pull-entries-spec =
-    tie.close
-    (tie.spec
-    Inv-loop
-    μ-loop
-    loop-holds
-    read-entry-requires
-    write-entry-requires
-    add-c
-    loop-less
-    loop-again
-    same-length
-    returns
-    same-length-2
-    returns-2)
+    tie.close (tie.spec Inv-loop μ-loop loop-holds read-entry-requires write-entry-requires add-c loop-less loop-again same-length returns
+    same-length-2 returns-2)

@@ -40,14 +40,4 @@ returns-2 c = (sym (run-done _ _ _ _ (omega arith)) ∙ c .before .loop .inv .0,
 
 pub run-end-spec : {M : Type 1} → statement M
 run-end-spec =
-    tie.close
-    (tie.spec
-    Inv-loop
-    μ-loop
-    loop-holds
-    read-entry-requires
-    returns
-    add-c
-    loop-less
-    loop-again
-    returns-2)
+    tie.close (tie.spec Inv-loop μ-loop loop-holds read-entry-requires returns add-c loop-less loop-again returns-2)

@@ -7,21 +7,6 @@ use borrow.Author.Needs.{needs}
 use Rattle.free_space_inventory.proofs.update_page_size.Statement.{statement}
 use Rattle.free_space_inventory.proofs.update_page_size.Tie as tie
 
-sub-class-of : tie.Need-sub-class-of
-sub-class-of c = search needs
-
-class-of-requires : tie.Need-class-of-requires
-class-of-requires c κs = search needs
-
-add-read-nibble : tie.Need-add-read-nibble
-add-read-nibble c = search needs
-
-read-nibble-requires : tie.Need-read-nibble-requires
-read-nibble-requires c κs = search needs
-
-add-write-nibble : tie.Need-add-write-nibble
-add-write-nibble c = search needs
-
 write-nibble-requires : tie.Need-write-nibble-requires
 write-nibble-requires c κs = let class = c .before .before .before .before in omega (arith, class-le _ _ (class .class-of .ensures))
 
@@ -30,15 +15,6 @@ run-end-requires c κs =
     let marked = c .before .before .before in
     let class = marked .before .before .before .before .before in
     omega (arith, class-le _ _ (class .class-of .ensures))
-
-move-entries-requires : tie.Need-move-entries-requires
-move-entries-requires c κs = search needs
-
-pull-entries-requires : tie.Need-pull-entries-requires
-pull-entries-requires c κs = search needs
-
-same-length : tie.Need-same-length
-same-length c = search needs
 
 returns : tie.Need-returns
 unfolding update
@@ -54,9 +30,6 @@ returns c =
     (moved .move-entries .ensures) (pulled .pull-entries .ensures)
     ∙ ap (updated _ _ _) (class .class-of .ensures)
 
-same-length-2 : tie.Need-same-length-2
-same-length-2 c = search needs
-
 returns-2 : tie.Need-returns-2
 unfolding update
 returns-2 c =
@@ -66,18 +39,5 @@ returns-2 c =
 
 pub update-page-size-spec : {M : Type 1} → statement M
 update-page-size-spec =
-    tie.close
-    (tie.spec
-    sub-class-of
-    class-of-requires
-    add-read-nibble
-    read-nibble-requires
-    add-write-nibble
-    write-nibble-requires
-    run-end-requires
-    move-entries-requires
-    pull-entries-requires
-    same-length
-    returns
-    same-length-2
-    returns-2)
+    tie.close (tie.spec (λ c. search needs) (λ c κs. search needs) (λ c. search needs) (λ c κs. search needs) (λ c. search needs)
+    write-nibble-requires run-end-requires (λ c κs. search needs) (λ c κs. search needs) (λ c. search needs) returns (λ c. search needs) returns-2)

@@ -13,35 +13,17 @@ use Rattle.hekatosuy.proofs.hand_step.Tie as tie
 fits : (s t : Step) → s ≡ t → ((xs : List ℕ) → Positioned (scannedOf s xs)) → Positioned (scannedOf t [])
 fits s t e h = subst (λ (u : Step). Positioned (scannedOf u [])) e (h [])
 
-enum-known-s : tie.Need-enum-known-s
-enum-known-s c = search needs
-
 position-of-requires : tie.Need-position-of-requires
 position-of-requires c κs =
     let entry = c .before .before .before in
     let h = fits (entry .args .s) _ (c .before .s .given .1) (entry .pre) in
     (h .page, h .slot)
 
-enum-known-s-2 : tie.Need-enum-known-s-2
-enum-known-s-2 c = search needs
-
 without-record-requires : tie.Need-without-record-requires
 without-record-requires c κs =
     let entry = c .before .before .before in
     let h = fits (entry .args .s) _ (c .before .s2 .given .1) (entry .pre) in
     (h .page, h .slot)
-
-enum-told : tie.Need-enum-told
-enum-told c = search needs
-
-without-record-requires-2 : tie.Need-without-record-requires-2
-without-record-requires-2 c κs = search needs
-
-enum-told-2 : tie.Need-enum-told-2
-enum-told-2 c = search needs
-
-without-record-requires-3 : tie.Need-without-record-requires-3
-without-record-requires-3 c κs = search needs
 
 returns : tie.Need-returns
 returns c = λ xs. rw (c .before .before .s .given .1, c .position-of .ensures)
@@ -57,17 +39,5 @@ returns-4 c = λ xs. rw (c .before .enum-told2 .given .1) (c .without-record3 .e
 
 pub hand-step-spec : {M : Type 1} → statement M
 hand-step-spec =
-    tie.close
-    (tie.spec
-    enum-known-s
-    position-of-requires
-    enum-known-s-2
-    without-record-requires
-    enum-told
-    without-record-requires-2
-    enum-told-2
-    without-record-requires-3
-    returns
-    returns-2
-    returns-3
-    returns-4)
+    tie.close (tie.spec (λ c. search needs) position-of-requires (λ c. search needs) without-record-requires (λ c. search needs)
+    (λ c κs. search needs) (λ c. search needs) (λ c κs. search needs) returns returns-2 returns-3 returns-4)

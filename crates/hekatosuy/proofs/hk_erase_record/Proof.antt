@@ -5,18 +5,6 @@ use Rattle.hekatosuy.specs.Handed.{withoutId}
 use Rattle.hekatosuy.proofs.hk_erase_record.Statement.{statement}
 use Rattle.hekatosuy.proofs.hk_erase_record.Tie as tie
 
-erase-record-requires : tie.Need-erase-record-requires
-erase-record-requires c κs = search needs
-
-answer-no-requires : tie.Need-answer-no-requires
-answer-no-requires c κs = search needs
-
-same-length : tie.Need-same-length
-same-length c = search needs
-
-same-length-2 : tie.Need-same-length-2
-same-length-2 c = search needs
-
 returns : tie.Need-returns
 returns c =
     let back = c .before .before in
@@ -25,4 +13,4 @@ returns c =
 
 pub hk-erase-record-spec : {M : Type 1} → statement M
 hk-erase-record-spec =
-    tie.close (tie.spec erase-record-requires answer-no-requires same-length same-length-2 returns)
+    tie.close (tie.spec (λ c κs. search needs) (λ c κs. search needs) (λ c. search needs) (λ c. search needs) returns)

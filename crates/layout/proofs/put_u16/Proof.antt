@@ -6,35 +6,12 @@ use borrow.Author.Needs.{needs}
 use Rattle.layout.proofs.put_u16.Statement.{statement}
 use Rattle.layout.proofs.put_u16.Tie as tie
 
-cast-page : tie.Need-cast-page
-cast-page c = search needs
-
-slice-write-page : tie.Need-slice-write-page
-slice-write-page c = search needs
-
-cast-page-2 : tie.Need-cast-page-2
-cast-page-2 c = search needs
-
-add-page : tie.Need-add-page
-add-page c = search needs
-
 slice-write-page-2 : tie.Need-slice-write-page-2
 slice-write-page-2 c = simp length-set (omega arith)
-
-same-length : tie.Need-same-length
-same-length c = search needs
 
 returns : tie.Need-returns
 returns c = put2 (c .args .at) (c .args .v) (c .args .page .now)
 
 pub put-u16-spec : {M : Type 1} → statement M
 put-u16-spec =
-    tie.close
-    (tie.spec
-    cast-page
-    slice-write-page
-    cast-page-2
-    add-page
-    slice-write-page-2
-    same-length
-    returns)
+    tie.close (tie.spec (λ c. search needs) (λ c. search needs) (λ c. search needs) (λ c. search needs) slice-write-page-2 (λ c. search needs) returns)

@@ -19,27 +19,12 @@ slice-aggregate-copy-in c = rw length-take (omega arith)
 copy-in-requires : tie.Need-copy-in-requires
 copy-in-requires c κs = rw length-take (omega arith)
 
-copy-in-requires-2 : tie.Need-copy-in-requires-2
-copy-in-requires-2 c κs = search needs
-
-add-zero-fill : tie.Need-add-zero-fill
-add-zero-fill c = search needs
-
-zero-fill-requires : tie.Need-zero-fill-requires
-zero-fill-requires c κs = search needs
-
-same-length : tie.Need-same-length
-same-length c = search needs
-
 returns : tie.Need-returns
 returns c =
     let copied = c .before .before in
     let cut-off = copied .before .before .before in
     let a = entry (cut-off .before) .args in
     copied .copy-in .ensures ∙ rw (fit-cut (a .size) (a .src .now) (omega arith))
-
-same-length-2 : tie.Need-same-length-2
-same-length-2 c = search needs
 
 returns-2 : tie.Need-returns-2
 returns-2 c =
@@ -52,14 +37,5 @@ returns-2 c =
 
 pub fit-in-spec : {M : Type 1} → statement M
 fit-in-spec =
-    tie.close
-    (tie.spec
-    slice-aggregate-copy-in
-    copy-in-requires
-    copy-in-requires-2
-    add-zero-fill
-    zero-fill-requires
-    same-length
-    returns
-    same-length-2
-    returns-2)
+    tie.close (tie.spec slice-aggregate-copy-in copy-in-requires (λ c κs. search needs) (λ c. search needs) (λ c κs. search needs) (λ c. search needs)
+    returns (λ c. search needs) returns-2)

@@ -57,17 +57,5 @@ returns c =
 
 pub move-down-spec : {M : Type 1} → statement M
 move-down-spec =
-    tie.close
-    (tie.spec
-    Inv-loop
-    μ-loop
-    loop-holds
-    add-page
-    slice-read-page
-    add-page-2
-    slice-write-page
-    add-j
-    loop-less
-    loop-again
-    same-length
-    returns)
+    tie.close (tie.spec Inv-loop μ-loop loop-holds add-page slice-read-page add-page-2 slice-write-page add-j loop-less loop-again
+    same-length returns)

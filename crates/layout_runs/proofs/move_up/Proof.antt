@@ -59,17 +59,5 @@ returns c =
 
 pub move-up-spec : {M : Type 1} → statement M
 move-up-spec =
-    tie.close
-    (tie.spec
-    Inv-loop
-    μ-loop
-    loop-holds
-    sub-j
-    add-page
-    slice-read-page
-    add-page-2
-    slice-write-page
-    loop-less
-    loop-again
-    same-length
-    returns)
+    tie.close (tie.spec Inv-loop μ-loop loop-holds sub-j add-page slice-read-page add-page-2 slice-write-page loop-less loop-again
+    same-length returns)

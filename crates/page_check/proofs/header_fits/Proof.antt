@@ -15,12 +15,6 @@ returns c = tells-no (λ h. omega (arith, h .few))
 returns-2 : tie.Need-returns-2
 returns-2 c = tells-no (λ h. omega (arith, h .first))
 
-mul-if3 : tie.Need-mul-if3
-mul-if3 c = search needs
-
-add-if3 : tie.Need-add-if3
-add-if3 c = search needs
-
 returns-3 : tie.Need-returns-3
 returns-3 c = tells-no (λ h. omega (arith, h .dir))
 
@@ -29,12 +23,6 @@ returns-4 c = tells-no (λ h. omega (arith, h .start))
 
 returns-5 : tie.Need-returns-5
 returns-5 c = tells-yes (record { few = omega arith; first = omega arith; free = past-free _ _ (omega arith); dir = omega arith; start = omega arith })
-
-get-slot-requires : tie.Need-get-slot-requires
-get-slot-requires c κs = search needs
-
-is-free-requires : tie.Need-is-free-requires
-is-free-requires c κs = search needs
 
 returns-6 : tie.Need-returns-6
 returns-6 c =
@@ -46,15 +34,5 @@ returns-6 c =
 
 pub header-fits-spec : {M : Type 1} → statement M
 header-fits-spec =
-    tie.close
-    (tie.spec
-    returns
-    returns-2
-    mul-if3
-    add-if3
-    returns-3
-    returns-4
-    returns-5
-    get-slot-requires
-    is-free-requires
-    returns-6)
+    tie.close (tie.spec returns returns-2 (λ c. search needs) (λ c. search needs) returns-3 returns-4 returns-5 (λ c κs. search needs)
+    (λ c κs. search needs) returns-6)

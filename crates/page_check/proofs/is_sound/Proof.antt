@@ -39,23 +39,8 @@ fitting c = c .before .before .before
 
 -- ---- the needs
 
-is-fresh-requires : tie.Need-is-fresh-requires
-is-fresh-requires c κs = search needs
-
 returns : tie.Need-returns
 returns c = fresh-sound _ (sym (c .before .is-fresh .ensures) ∙ c .if1 .taken)
-
-get-slot-count-requires : tie.Need-get-slot-count-requires
-get-slot-count-requires c κs = search needs
-
-get-first-free-slot-requires : tie.Need-get-first-free-slot-requires
-get-first-free-slot-requires c κs = search needs
-
-get-data-start-requires : tie.Need-get-data-start-requires
-get-data-start-requires c κs = search needs
-
-header-fits-requires : tie.Need-header-fits-requires
-header-fits-requires c κs = search needs
 
 returns-2 : tie.Need-returns-2
 returns-2 c =
@@ -76,15 +61,6 @@ returns-3 c =
     let w = at-records .records-fit .ensures in
     unsound h (not-fresh (used at-header)) (λ s. not-both (w .tells .back (sound-records h s)) (not-true _ (c .if3 .taken)))
 
-get-free-space-requires : tie.Need-get-free-space-requires
-get-free-space-requires c κs = search needs
-
-mul-result : tie.Need-mul-result
-mul-result c = search needs
-
-add-result : tie.Need-add-result
-add-result c = search needs
-
 add-result-2 : tie.Need-add-result-2
 add-result-2 c =
     let at-fits = c .before .before in
@@ -104,19 +80,5 @@ returns-4 c =
 
 pub is-sound-spec : {M : Type 1} → statement M
 is-sound-spec =
-    tie.close
-    (tie.spec
-    is-fresh-requires
-    returns
-    get-slot-count-requires
-    get-first-free-slot-requires
-    get-data-start-requires
-    header-fits-requires
-    returns-2
-    records-fit-requires
-    returns-3
-    get-free-space-requires
-    mul-result
-    add-result
-    add-result-2
-    returns-4)
+    tie.close (tie.spec (λ c κs. search needs) returns (λ c κs. search needs) (λ c κs. search needs) (λ c κs. search needs) (λ c κs. search needs)
+    returns-2 records-fit-requires returns-3 (λ c κs. search needs) (λ c. search needs) (λ c. search needs) add-result-2 returns-4)

@@ -53,12 +53,6 @@ same-size c =
     both-length (now (a .segment)) (now (a .inventory)) (a .id) (a .t) (back-then x) (x .erase-on .last .0) (took x) (c .erase-on2 .last .0)
     (c .erase-on2 .ensures)
 
-points-back-requires : tie.Need-points-back-requires
-points-back-requires c κs = search needs
-
-same-length : tie.Need-same-length
-same-length c = search needs
-
 returns : tie.Need-returns
 returns c =
     let a = entry (c .before) .args in
@@ -108,12 +102,6 @@ update-on-requires-2 c κs =
       ),
     )
 
-same-length-2 : tie.Need-same-length-2
-same-length-2 c = search needs
-
-same-length-3 : tie.Need-same-length-3
-same-length-3 c = search needs
-
 returns-2 : tie.Need-returns-2
 returns-2 c =
     let root-told = c .before .before in
@@ -126,15 +114,5 @@ returns-2 c =
 
 pub erase-forwarded-spec : {M : Type 1} → statement M
 erase-forwarded-spec =
-    tie.close
-    (tie.spec
-    points-back-requires
-    same-length
-    returns
-    erase-on-requires
-    erase-on-requires-2
-    update-on-requires
-    update-on-requires-2
-    same-length-2
-    same-length-3
-    returns-2)
+    tie.close (tie.spec (λ c κs. search needs) (λ c. search needs) returns erase-on-requires erase-on-requires-2 update-on-requires
+    update-on-requires-2 (λ c. search needs) (λ c. search needs) returns-2)

@@ -19,9 +19,6 @@ erased c = c .before .before .before .before
 took : (c : tie.After-erase-on) → let a = entry c .args in Took (now (a .segment)) (erasing (now (a .segment)) (a .id)) (c .erase-on .last .0)
 took c = let a = entry c .args in took-erasing (now (a .segment)) (a .id) (entry c .pre .1) (c .erase-on .last .0) (c .erase-on .ensures)
 
-erase-on-requires : tie.Need-erase-on-requires
-erase-on-requires c κs = search needs
-
 update-on-requires : tie.Need-update-on-requires
 update-on-requires c κs =
     let x = erased c in
@@ -33,12 +30,6 @@ update-on-requires c κs =
     let l = took-length s e t (took x) in
     (sizes-room s v t v (z .pre .0) l refl, (omega (arith, l, z .pre .1 .whole), left-room t (e .on) (e .plan .after) (left-own s e t (took x))))
 
-same-length : tie.Need-same-length
-same-length c = search needs
-
-same-length-2 : tie.Need-same-length-2
-same-length-2 c = search needs
-
 returns : tie.Need-returns
 returns c =
     let told = c .before .before in
@@ -48,4 +39,4 @@ returns c =
 
 pub erase-ordinary-spec : {M : Type 1} → statement M
 erase-ordinary-spec =
-    tie.close (tie.spec erase-on-requires update-on-requires same-length same-length-2 returns)
+    tie.close (tie.spec (λ c κs. search needs) update-on-requires (λ c. search needs) (λ c. search needs) returns)

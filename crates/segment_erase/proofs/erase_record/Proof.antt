@@ -33,31 +33,10 @@ by-page c r e =
     let a = start c .args in
     step-by (now (a .segment)) (now (a .inventory)) (a .id) (sizes-here (c .before .before)) r (sym (c .root-of .ensures) ∙ e)
 
-sizes-ok-requires : tie.Need-sizes-ok-requires
-sizes-ok-requires c κs = search needs
-
-same-length : tie.Need-same-length
-same-length c = search needs
-
-same-length-2 : tie.Need-same-length-2
-same-length-2 c = search needs
-
 returns : tie.Need-returns
 returns c =
     let a = entry (c .before) .args in
     step-size (now (a .segment)) (now (a .inventory)) (a .id) (sym (c .before .sizes-ok .ensures) ∙ not-true _ (c .if1 .taken))
-
-root-of-requires : tie.Need-root-of-requires
-root-of-requires c κs = search needs
-
-enum-told : tie.Need-enum-told
-enum-told c = search needs
-
-enum-told-2 : tie.Need-enum-told-2
-enum-told-2 c = search needs
-
-enum-known-root : tie.Need-enum-known-root
-enum-known-root c = search needs
 
 erase-slot-requires : tie.Need-erase-slot-requires
 erase-slot-requires c κs =
@@ -68,35 +47,17 @@ erase-slot-requires c κs =
       root-is s (a .id) _ (sym (page .root-of .ensures) ∙ found c .root .given .1),
     )
 
-same-length-3 : tie.Need-same-length-3
-same-length-3 c = search needs
-
-same-length-4 : tie.Need-same-length-4
-same-length-4 c = search needs
-
 returns-2 : tie.Need-returns-2
 returns-2 c =
     let page = c .before .before in
     let a = start page .args in
     refused-is (now (a .segment)) (now (a .inventory)) answer.NoPage refl ∙ by-page page _ (c .enum-told .given .1)
 
-same-length-5 : tie.Need-same-length-5
-same-length-5 c = search needs
-
-same-length-6 : tie.Need-same-length-6
-same-length-6 c = search needs
-
 returns-3 : tie.Need-returns-3
 returns-3 c =
     let page = c .before .before in
     let a = start page .args in
     refused-is (now (a .segment)) (now (a .inventory)) answer.Damaged refl ∙ by-page page _ (c .enum-told2 .given .1)
-
-same-length-7 : tie.Need-same-length-7
-same-length-7 c = search needs
-
-same-length-8 : tie.Need-same-length-8
-same-length-8 c = search needs
 
 returns-4 : tie.Need-returns-4
 returns-4 c =
@@ -106,23 +67,6 @@ returns-4 c =
 
 pub erase-record-spec : {M : Type 1} → statement M
 erase-record-spec =
-    tie.close
-    (tie.spec
-    sizes-ok-requires
-    same-length
-    same-length-2
-    returns
-    root-of-requires
-    enum-told
-    enum-told-2
-    enum-known-root
-    erase-slot-requires
-    same-length-3
-    same-length-4
-    returns-2
-    same-length-5
-    same-length-6
-    returns-3
-    same-length-7
-    same-length-8
-    returns-4)
+    tie.close (tie.spec (λ c κs. search needs) (λ c. search needs) (λ c. search needs) returns (λ c κs. search needs) (λ c. search needs)
+    (λ c. search needs) (λ c. search needs) erase-slot-requires (λ c. search needs) (λ c. search needs) returns-2 (λ c. search needs)
+    (λ c. search needs) returns-3 (λ c. search needs) (λ c. search needs) returns-4)

@@ -29,35 +29,17 @@ by-slot c x e =
     let s = now (c .args .segment) in
     ap (λ (y : Slot). result s (eraseBy (segView s) (now (c .args .inventory)) (c .args .id) y)) (sym e)
 
-enum-told : tie.Need-enum-told
-enum-told c = search needs
-
 erase-ordinary-requires : tie.Need-erase-ordinary-requires
 erase-ordinary-requires c κs =
     let x = ordinary c in
     let z = entry (x .before .before) in
     (z .pre .0, root-taken (now (z .args .segment)) (z .args .id) (z .args .slot) (z .pre .1) (ap isFree (x .enum-told .given .1)))
 
-enum-told-2 : tie.Need-enum-told-2
-enum-told-2 c = search needs
-
-enum-known-slot : tie.Need-enum-known-slot
-enum-known-slot c = search needs
-
 erase-forwarded-requires : tie.Need-erase-forwarded-requires
 erase-forwarded-requires c κs =
     let x = redirect c in
     let z = entry (x .before .before) in
     (z .pre .0, subst (RootIs (now (z .args .segment)) (z .args .id)) (x .slot .given .1) (z .pre .1))
-
-enum-told-3 : tie.Need-enum-told-3
-enum-told-3 c = search needs
-
-same-length : tie.Need-same-length
-same-length c = search needs
-
-same-length-2 : tie.Need-same-length-2
-same-length-2 c = search needs
 
 returns : tie.Need-returns
 returns c =
@@ -69,12 +51,6 @@ returns-2 : tie.Need-returns-2
 returns-2 c =
     let z = entry (c .before .before) in
     refused-is (now (z .args .segment)) (now (z .args .inventory)) answer.NoRecord refl ∙ by-slot z _ (c .enum-told2 .given .1)
-
-same-length-3 : tie.Need-same-length-3
-same-length-3 c = search needs
-
-same-length-4 : tie.Need-same-length-4
-same-length-4 c = search needs
 
 returns-3 : tie.Need-returns-3
 returns-3 c =
@@ -89,19 +65,5 @@ returns-4 c =
 
 pub erase-slot-spec : {M : Type 1} → statement M
 erase-slot-spec =
-    tie.close
-    (tie.spec
-    enum-told
-    erase-ordinary-requires
-    enum-told-2
-    enum-known-slot
-    erase-forwarded-requires
-    enum-told-3
-    same-length
-    same-length-2
-    returns
-    returns-2
-    same-length-3
-    same-length-4
-    returns-3
-    returns-4)
+    tie.close (tie.spec (λ c. search needs) erase-ordinary-requires (λ c. search needs) (λ c. search needs) erase-forwarded-requires
+    (λ c. search needs) (λ c. search needs) (λ c. search needs) returns returns-2 (λ c. search needs) (λ c. search needs) returns-3 returns-4)

@@ -60,12 +60,6 @@ update-on-requires-2 c κs =
     let z = entry (moved y) in
     asks-second (now (z .args .segment)) (now (z .args .inventory)) _ _ _ (left y) (z .pre .0) _ (u .update-on .kept .1 .0)
 
-same-length : tie.Need-same-length
-same-length c = search needs
-
-same-length-2 : tie.Need-same-length-2
-same-length-2 c = search needs
-
 returns : tie.Need-returns
 returns c =
     let w = c .before .before in
@@ -80,12 +74,4 @@ returns c =
 
 pub at-home-spec : {M : Type 1} → statement M
 at-home-spec =
-    tie.close
-    (tie.spec
-    rewrite-on-requires
-    erase-on-requires
-    update-on-requires
-    update-on-requires-2
-    same-length
-    same-length-2
-    returns)
+    tie.close (tie.spec rewrite-on-requires erase-on-requires update-on-requires update-on-requires-2 (λ c. search needs) (λ c. search needs) returns)

@@ -64,18 +64,6 @@ alone : (s v : List ℕ) (i n : ℕ) (bs : List ℕ)
     ≡ result s (forwarded (segView s) v i n (λ o. bs) [] (find foundIn (segView s) v (n + 8) (λ p. eqb p (pageNo i))))
 alone s v i n bs = ap (λ (ex : ℕ → Bool). result s (forwarded (segView s) v i n (λ o. bs) [] (find foundIn (segView s) v (n + 8) ex))) (root-alone i)
 
-place-target-requires : tie.Need-place-target-requires
-place-target-requires c κs = search needs
-
-enum-known-placed : tie.Need-enum-known-placed
-enum-known-placed c = search needs
-
-same-length : tie.Need-same-length
-same-length c = search needs
-
-same-length-2 : tie.Need-same-length-2
-same-length-2 c = search needs
-
 returns : tie.Need-returns
 returns c =
     let x = c .before .before .before in
@@ -106,12 +94,6 @@ update-on-requires-2 c κs =
     let z = entry (searched (found y)) in
     asks-second (now (z .args .segment)) (now (z .args .inventory)) _ _ _ (left y) (z .pre .0) _ (u .update-on .kept .1 .0)
 
-same-length-3 : tie.Need-same-length-3
-same-length-3 c = search needs
-
-same-length-4 : tie.Need-same-length-4
-same-length-4 c = search needs
-
 returns-2 : tie.Need-returns-2
 returns-2 c =
     let w = c .before .before in
@@ -128,16 +110,5 @@ returns-2 c =
 
 pub forward-spec : {M : Type 1} → statement M
 forward-spec =
-    tie.close
-    (tie.spec
-    place-target-requires
-    enum-known-placed
-    same-length
-    same-length-2
-    returns
-    erase-for-redirect-on-requires
-    update-on-requires
-    update-on-requires-2
-    same-length-3
-    same-length-4
-    returns-2)
+    tie.close (tie.spec (λ c κs. search needs) (λ c. search needs) (λ c. search needs) (λ c. search needs) returns erase-for-redirect-on-requires
+    update-on-requires update-on-requires-2 (λ c. search needs) (λ c. search needs) returns-2)

@@ -60,18 +60,6 @@ left c =
     again-left (now (a .segment)) (a .id) (fit (a .size) (now (a .bytes))) (a .t) _ _ _ (placed m) (z .pre .1 .0)
     (x .set-redirect-on .last .0) (x .set-redirect-on .ensures) (c .erase-on .last .0) (c .erase-on .ensures)
 
-place-target-requires : tie.Need-place-target-requires
-place-target-requires c κs = search needs
-
-enum-known-placed : tie.Need-enum-known-placed
-enum-known-placed c = search needs
-
-same-length : tie.Need-same-length
-same-length c = search needs
-
-same-length-2 : tie.Need-same-length-2
-same-length-2 c = search needs
-
 returns : tie.Need-returns
 returns c =
     let x = c .before .before .before in
@@ -114,12 +102,6 @@ update-on-requires-2 c κs =
     let z = entry (searched (found (named y))) in
     asks-second (now (z .args .segment)) (now (z .args .inventory)) _ _ _ (left y) (z .pre .0) _ (u .update-on .kept .1 .0)
 
-same-length-3 : tie.Need-same-length-3
-same-length-3 c = search needs
-
-same-length-4 : tie.Need-same-length-4
-same-length-4 c = search needs
-
 returns-2 : tie.Need-returns-2
 returns-2 c =
     let w = c .before .before in
@@ -135,17 +117,5 @@ returns-2 c =
 
 pub forward-again-spec : {M : Type 1} → statement M
 forward-again-spec =
-    tie.close
-    (tie.spec
-    place-target-requires
-    enum-known-placed
-    same-length
-    same-length-2
-    returns
-    set-redirect-on-requires
-    erase-on-requires
-    update-on-requires
-    update-on-requires-2
-    same-length-3
-    same-length-4
-    returns-2)
+    tie.close (tie.spec (λ c κs. search needs) (λ c. search needs) (λ c. search needs) (λ c. search needs) returns set-redirect-on-requires
+    erase-on-requires update-on-requires update-on-requires-2 (λ c. search needs) (λ c. search needs) returns-2)

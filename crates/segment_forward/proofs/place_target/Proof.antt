@@ -101,18 +101,6 @@ written-here c =
     (toBE 8 (a .id) ++ bs) (target-length (a .id) bs (a .size) (length-fit (a .size) (now (a .bytes)))) (c .write-target .last .0)
     (subst PastEntry (n .before .place .given .1) (x .allocate-on .ensures .3)) (c .write-target .ensures)
 
-add-find-page : tie.Need-add-find-page
-add-find-page c = search needs
-
-find-page-requires : tie.Need-find-page-requires
-find-page-requires c κs = search needs
-
-enum-known-named : tie.Need-enum-known-named
-enum-known-named c = search needs
-
-enum-told : tie.Need-enum-told
-enum-told c = search needs
-
 returns : tie.Need-returns
 returns c =
     let x = c .before .before in
@@ -125,18 +113,12 @@ returns c =
 page-sound-requires : tie.Need-page-sound-requires
 page-sound-requires c κs = fits-here (c .before)
 
-same-length : tie.Need-same-length
-same-length c = search needs
-
 returns-2 : tie.Need-returns-2
 returns-2 c =
     let m = c .before .before .before in
     let a = entry (asked m) .args in
     place-damaged (now (a .segment)) (now (a .inventory)) (a .id) (a .size) (fit (a .size) (now (a .bytes))) (rootOrOld (a .id) (a .old)) _
     (named-here m) (sym (c .before .page-sound .ensures) ∙ not-true _ (c .if1 .taken))
-
-same-length-2 : tie.Need-same-length-2
-same-length-2 c = search needs
 
 returns-3 : tie.Need-returns-3
 returns-3 c =
@@ -145,9 +127,6 @@ returns-3 c =
     place-excluded (now (a .segment)) (now (a .inventory)) (a .id) (a .size) (fit (a .size) (now (a .bytes))) (rootOrOld (a .id) (a .old)) _
     (named-here m) (sound-here (c .before) .sound) (is-root (a .id) (a .old) _ (c .if2 .taken))
 
-same-length-3 : tie.Need-same-length-3
-same-length-3 c = search needs
-
 returns-4 : tie.Need-returns-4
 returns-4 c =
     let m = tested (c .before .before) in
@@ -155,24 +134,12 @@ returns-4 c =
     place-excluded (now (a .segment)) (now (a .inventory)) (a .id) (a .size) (fit (a .size) (now (a .bytes))) (rootOrOld (a .id) (a .old)) _
     (named-here m) (sound-here (c .before .before) .sound) (is-old (a .id) (a .old) _ (c .if3 .taken))
 
-add-allocate-on : tie.Need-add-allocate-on
-add-allocate-on c = search needs
-
 allocate-on-requires : tie.Need-allocate-on-requires
 allocate-on-requires c κs =
     let ok = c .before .before .before in
     let a = entry (asked (tested ok)) .args in
     let h = named-short (now (a .segment)) (now (a .inventory)) (a .size) _ (named-here (tested ok)) in
     (sound-here ok, omega (arith, h))
-
-enum-known-place : tie.Need-enum-known-place
-enum-known-place c = search needs
-
-enum-told-2 : tie.Need-enum-told-2
-enum-told-2 c = search needs
-
-same-length-4 : tie.Need-same-length-4
-same-length-4 c = search needs
 
 returns-5 : tie.Need-returns-5
 returns-5 c =
@@ -195,12 +162,6 @@ add-write-target c = let m = chosen (placing c) in omega (arith, fits-here m, en
 
 mul-write-target-2 : tie.Need-mul-write-target-2
 mul-write-target-2 c = let m = chosen (placing c) in omega (arith, fits-here m, entry (asked m) .pre .0 .few)
-
-sub-write-target : tie.Need-sub-write-target
-sub-write-target c = search needs
-
-part-write-target-start : tie.Need-part-write-target-start
-part-write-target-start c = search needs
 
 part-write-target-end : tie.Need-part-write-target-end
 part-write-target-end c = let x = placing c in omega (arith, fits-here (chosen x), x .allocate-on .kept .0)
@@ -226,9 +187,6 @@ add-t23 c =
     let k = slot-small (now (z .args .segment)) _ (sound-here (left x .before .before)) (z .args .size + 8) _ _ (place-here n) in
     omega (arith, fits-here (chosen x), k, z .pre .0 .few)
 
-same-length-5 : tie.Need-same-length-5
-same-length-5 c = search needs
-
 returns-6 : tie.Need-returns-6
 returns-6 c =
     let y = c .before .before in
@@ -240,34 +198,7 @@ returns-6 c =
 
 pub place-target-spec : {M : Type 1} → statement M
 place-target-spec =
-    tie.close
-    (tie.spec
-    add-find-page
-    find-page-requires
-    enum-known-named
-    enum-told
-    returns
-    page-sound-requires
-    same-length
-    returns-2
-    same-length-2
-    returns-3
-    same-length-3
-    returns-4
-    add-allocate-on
-    allocate-on-requires
-    enum-known-place
-    enum-told-2
-    same-length-4
-    returns-5
-    mul-write-target
-    add-write-target
-    mul-write-target-2
-    sub-write-target
-    part-write-target-start
-    part-write-target-end
-    write-target-requires
-    mul-t14
-    add-t23
-    same-length-5
-    returns-6)
+    tie.close (tie.spec (λ c. search needs) (λ c κs. search needs) (λ c. search needs) (λ c. search needs) returns page-sound-requires
+    (λ c. search needs) returns-2 (λ c. search needs) returns-3 (λ c. search needs) returns-4 (λ c. search needs) allocate-on-requires
+    (λ c. search needs) (λ c. search needs) (λ c. search needs) returns-5 mul-write-target add-write-target mul-write-target-2 (λ c. search needs)
+    (λ c. search needs) part-write-target-end write-target-requires mul-t14 add-t23 (λ c. search needs) returns-6)

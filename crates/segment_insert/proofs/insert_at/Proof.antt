@@ -89,12 +89,6 @@ took c =
     took-place (now (a .segment)) (now (a .inventory)) (now (a .bytes)) (a .size) (a .p) (sound-then (allocated x)) _ (way x .to) (way x .is) (left c)
     (left-is c)
 
-page-sound-requires : tie.Need-page-sound-requires
-page-sound-requires c κs = search needs
-
-same-length : tie.Need-same-length
-same-length c = search needs
-
 returns : tie.Need-returns
 returns c =
     let a = entry (c .before) .args in
@@ -103,15 +97,6 @@ returns c =
 
 allocate-on-requires : tie.Need-allocate-on-requires
 allocate-on-requires c κs = (sound-here (c .before), entry (c .before .before) .pre .1 .1)
-
-enum-known-place : tie.Need-enum-known-place
-enum-known-place c = search needs
-
-enum-told : tie.Need-enum-told
-enum-told c = search needs
-
-same-length-2 : tie.Need-same-length-2
-same-length-2 c = search needs
 
 returns-2 : tie.Need-returns-2
 returns-2 c =
@@ -126,24 +111,6 @@ returns-2 c =
     (no-room-same s (a .p) (h .whole) t (a .size) way-none (now (a .bytes))
     (none-written s (a .p) h (a .size) t (x .allocate-on .ensures .0) none (now (a .bytes)) .1))
     way-none
-
-mul-fit-in : tie.Need-mul-fit-in
-mul-fit-in c = search needs
-
-add-fit-in : tie.Need-add-fit-in
-add-fit-in c = search needs
-
-mul-fit-in-2 : tie.Need-mul-fit-in-2
-mul-fit-in-2 c = search needs
-
-sub-fit-in : tie.Need-sub-fit-in
-sub-fit-in c = search needs
-
-part-fit-in-start : tie.Need-part-fit-in-start
-part-fit-in-start c = search needs
-
-part-fit-in-end : tie.Need-part-fit-in-end
-part-fit-in-end c = search needs
 
 fit-in-requires : tie.Need-fit-in-requires
 fit-in-requires c κs =
@@ -170,9 +137,6 @@ update-on-requires c κs =
       ),
     )
 
-mul-t20 : tie.Need-mul-t20
-mul-t20 c = search needs
-
 add-t16 : tie.Need-add-t16
 add-t16 c =
     let x = placed-at (written (finished c)) in
@@ -181,12 +145,6 @@ add-t16 c =
       arith,
       small-id (now (z .args .segment)) (z .args .p) (sound-then (allocated x)) (z .args .size) _ (way x .to) (way x .is) (z .pre .0 .few),
     )
-
-same-length-3 : tie.Need-same-length-3
-same-length-3 c = search needs
-
-same-length-4 : tie.Need-same-length-4
-same-length-4 c = search needs
 
 returns-3 : tie.Need-returns-3
 returns-3 c =
@@ -198,26 +156,6 @@ returns-3 c =
 
 pub insert-at-spec : {M : Type 1} → statement M
 insert-at-spec =
-    tie.close
-    (tie.spec
-    page-sound-requires
-    same-length
-    returns
-    allocate-on-requires
-    enum-known-place
-    enum-told
-    same-length-2
-    returns-2
-    mul-fit-in
-    add-fit-in
-    mul-fit-in-2
-    sub-fit-in
-    part-fit-in-start
-    part-fit-in-end
-    fit-in-requires
-    update-on-requires
-    mul-t20
-    add-t16
-    same-length-3
-    same-length-4
-    returns-3)
+    tie.close (tie.spec (λ c κs. search needs) (λ c. search needs) returns allocate-on-requires (λ c. search needs) (λ c. search needs)
+    (λ c. search needs) returns-2 (λ c. search needs) (λ c. search needs) (λ c. search needs) (λ c. search needs) (λ c. search needs)
+    (λ c. search needs) fit-in-requires update-on-requires (λ c. search needs) add-t16 (λ c. search needs) (λ c. search needs) returns-3)

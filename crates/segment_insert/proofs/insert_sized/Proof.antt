@@ -48,51 +48,21 @@ by-answer c m e =
     sized-named (now (a .segment)) (now (a .inventory)) (now (a .bytes)) (a .size) (sizes-here (sizes-passed c)) (c .before .before .if2 .left) m
     (named-here c m e)
 
-sizes-ok-requires : tie.Need-sizes-ok-requires
-sizes-ok-requires c κs = search needs
-
-same-length : tie.Need-same-length
-same-length c = search needs
-
-same-length-2 : tie.Need-same-length-2
-same-length-2 c = search needs
-
 returns : tie.Need-returns
 returns c =
     let a = entry (c .before) .args in
     sized-size (now (a .segment)) (now (a .inventory)) (now (a .bytes)) (a .size) (sym (c .before .sizes-ok .ensures) ∙ not-true _ (c .if1 .taken))
-
-same-length-3 : tie.Need-same-length-3
-same-length-3 c = search needs
-
-same-length-4 : tie.Need-same-length-4
-same-length-4 c = search needs
 
 returns-2 : tie.Need-returns-2
 returns-2 c =
     let a = entry (c .before .before) .args in
     sized-long (now (a .segment)) (now (a .inventory)) (now (a .bytes)) (a .size) (sizes-here (c .before)) (c .if2 .taken)
 
-add-find-page : tie.Need-add-find-page
-add-find-page c = search needs
-
 find-page-requires : tie.Need-find-page-requires
 find-page-requires c κs =
     let passed = c .before .before in
     let a = entry (passed .before) .args in
     omega (arith, sizes (now (a .segment)) (now (a .inventory)) (sizes-here passed) .one)
-
-enum-known-named : tie.Need-enum-known-named
-enum-known-named c = search needs
-
-enum-told : tie.Need-enum-told
-enum-told c = search needs
-
-same-length-5 : tie.Need-same-length-5
-same-length-5 c = search needs
-
-same-length-6 : tie.Need-same-length-6
-same-length-6 c = search needs
 
 returns-3 : tie.Need-returns-3
 returns-3 c =
@@ -112,12 +82,6 @@ insert-at-requires c κs =
       ),
     )
 
-same-length-7 : tie.Need-same-length-7
-same-length-7 c = search needs
-
-same-length-8 : tie.Need-same-length-8
-same-length-8 c = search needs
-
 returns-4 : tie.Need-returns-4
 returns-4 c =
     let done = c .before .before .before .before in
@@ -126,23 +90,6 @@ returns-4 c =
 
 pub insert-sized-spec : {M : Type 1} → statement M
 insert-sized-spec =
-    tie.close
-    (tie.spec
-    sizes-ok-requires
-    same-length
-    same-length-2
-    returns
-    same-length-3
-    same-length-4
-    returns-2
-    add-find-page
-    find-page-requires
-    enum-known-named
-    enum-told
-    same-length-5
-    same-length-6
-    returns-3
-    insert-at-requires
-    same-length-7
-    same-length-8
-    returns-4)
+    tie.close (tie.spec (λ c κs. search needs) (λ c. search needs) (λ c. search needs) returns (λ c. search needs) (λ c. search needs) returns-2
+    (λ c. search needs) find-page-requires (λ c. search needs) (λ c. search needs) (λ c. search needs) (λ c. search needs) returns-3
+    insert-at-requires (λ c. search needs) (λ c. search needs) returns-4)

@@ -11,31 +11,10 @@ use borrow.Author.Needs.{needs}
 use Rattle.segment_moves.proofs.resize_target_on.Statement.{statement}
 use Rattle.segment_moves.proofs.resize_target_on.Tie as tie
 
-mul-resize-target : tie.Need-mul-resize-target
-mul-resize-target c = search needs
-
-add-resize-target : tie.Need-add-resize-target
-add-resize-target c = search needs
-
-mul-resize-target-2 : tie.Need-mul-resize-target-2
-mul-resize-target-2 c = search needs
-
-sub-resize-target : tie.Need-sub-resize-target
-sub-resize-target c = search needs
-
-part-resize-target-start : tie.Need-part-resize-target-start
-part-resize-target-start c = search needs
-
-part-resize-target-end : tie.Need-part-resize-target-end
-part-resize-target-end c = search needs
-
 resize-target-requires : tie.Need-resize-target-requires
 resize-target-requires c κs =
     let z = c .before .before in
     (lent-taken (now (z .args .segment)) (z .args .p) (z .args .k) (z .pre .0), z .pre .1)
-
-same-length : tie.Need-same-length
-same-length c = search needs
 
 returns : tie.Need-returns
 returns c =
@@ -46,14 +25,5 @@ returns c =
 
 pub resize-target-on-spec : {M : Type 1} → statement M
 resize-target-on-spec =
-    tie.close
-    (tie.spec
-    mul-resize-target
-    add-resize-target
-    mul-resize-target-2
-    sub-resize-target
-    part-resize-target-start
-    part-resize-target-end
-    resize-target-requires
-    same-length
-    returns)
+    tie.close (tie.spec (λ c. search needs) (λ c. search needs) (λ c. search needs) (λ c. search needs) (λ c. search needs) (λ c. search needs)
+    resize-target-requires (λ c. search needs) returns)

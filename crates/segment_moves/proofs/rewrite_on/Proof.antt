@@ -8,31 +8,10 @@ use borrow.Author.Needs.{needs}
 use Rattle.segment_moves.proofs.rewrite_on.Statement.{statement}
 use Rattle.segment_moves.proofs.rewrite_on.Tie as tie
 
-mul-rewrite : tie.Need-mul-rewrite
-mul-rewrite c = search needs
-
-add-rewrite : tie.Need-add-rewrite
-add-rewrite c = search needs
-
-mul-rewrite-2 : tie.Need-mul-rewrite-2
-mul-rewrite-2 c = search needs
-
-sub-rewrite : tie.Need-sub-rewrite
-sub-rewrite c = search needs
-
-part-rewrite-start : tie.Need-part-rewrite-start
-part-rewrite-start c = search needs
-
-part-rewrite-end : tie.Need-part-rewrite-end
-part-rewrite-end c = search needs
-
 rewrite-requires : tie.Need-rewrite-requires
 rewrite-requires c κs =
     let z = c .before .before .before in
     lent-taken (now (z .args .segment)) (z .args .p) (z .args .k) (z .pre)
-
-same-length : tie.Need-same-length
-same-length c = search needs
 
 returns : tie.Need-returns
 returns c =
@@ -44,14 +23,5 @@ returns c =
 
 pub rewrite-on-spec : {M : Type 1} → statement M
 rewrite-on-spec =
-    tie.close
-    (tie.spec
-    mul-rewrite
-    add-rewrite
-    mul-rewrite-2
-    sub-rewrite
-    part-rewrite-start
-    part-rewrite-end
-    rewrite-requires
-    same-length
-    returns)
+    tie.close (tie.spec (λ c. search needs) (λ c. search needs) (λ c. search needs) (λ c. search needs) (λ c. search needs) (λ c. search needs)
+    rewrite-requires (λ c. search needs) returns)

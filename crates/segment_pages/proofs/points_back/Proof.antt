@@ -38,9 +38,6 @@ returns-2 c =
     let a = c .before .before .before .args in
     back-home (now (a .segment)) (a .i) (a .t) (c .before .if1 .left) (c .if2 .taken)
 
-page-sound-requires : tie.Need-page-sound-requires
-page-sound-requires c κs = search needs
-
 returns-3 : tie.Need-returns-3
 returns-3 c =
     let away = c .before .before in
@@ -55,9 +52,6 @@ slot-on-requires c κs =
     let t = told c in
     let inside : pageNo (a .t) * 16384 + 16384 ≤ length s = omega (arith, t .0) in
     (inside, few-slots s (pageNo (a .t)) inside (t .2))
-
-enum-known-offset : tie.Need-enum-known-offset
-enum-known-offset c = search needs
 
 returns-4 : tie.Need-returns-4
 returns-4 c =
@@ -86,14 +80,5 @@ returns-5 c =
 
 pub points-back-spec : {M : Type 1} → statement M
 points-back-spec =
-    tie.close
-    (tie.spec
-    returns
-    returns-2
-    page-sound-requires
-    returns-3
-    slot-on-requires
-    enum-known-offset
-    returns-4
-    back-id-on-requires
+    tie.close (tie.spec returns returns-2 (λ c κs. search needs) returns-3 slot-on-requires (λ c. search needs) returns-4 back-id-on-requires
     returns-5)

@@ -17,25 +17,10 @@ entry c = c .before .before .before .before
 whole : (c : tie.After-root-of) → sizeOk (now (entry c .args .segment)) ≡ true
 whole c = let sized = c .before in sym (sized .before .is-segment .ensures) ∙ not-false _ (sized .if1 .left)
 
-is-segment-requires : tie.Need-is-segment-requires
-is-segment-requires c κs = search needs
-
 returns : tie.Need-returns
 returns c =
     let a = c .before .before .before .args in
     locate-size (now (a .segment)) (a .id) (sym (c .before .is-segment .ensures) ∙ not-true _ (c .if1 .taken))
-
-root-of-requires : tie.Need-root-of-requires
-root-of-requires c κs = search needs
-
-enum-told : tie.Need-enum-told
-enum-told c = search needs
-
-enum-told-2 : tie.Need-enum-told-2
-enum-told-2 c = search needs
-
-enum-known-root : tie.Need-enum-known-root
-enum-known-root c = search needs
 
 read-slot-requires : tie.Need-read-slot-requires
 read-slot-requires c κs =
@@ -64,15 +49,5 @@ returns-4 c =
 
 pub find-record-spec : {M : Type 1} → statement M
 find-record-spec =
-    tie.close
-    (tie.spec
-    is-segment-requires
-    returns
-    root-of-requires
-    enum-told
-    enum-told-2
-    enum-known-root
-    read-slot-requires
-    returns-2
-    returns-3
-    returns-4)
+    tie.close (tie.spec (λ c κs. search needs) returns (λ c κs. search needs) (λ c. search needs) (λ c. search needs) (λ c. search needs)
+    read-slot-requires returns-2 returns-3 returns-4)

@@ -21,9 +21,6 @@ entry c = c .before .before .before
 points : (c : tie.Else1) → let a = entry c .args in pointsBack (segView (now (a .segment))) (a .i) (a .t) ≡ true
 points c = sym (c .before .points-back .ensures) ∙ not-false _ (c .if1 .left)
 
-points-back-requires : tie.Need-points-back-requires
-points-back-requires c κs = search needs
-
 returns : tie.Need-returns
 returns c =
     let a = c .before .before .before .args in
@@ -35,9 +32,6 @@ slot-on-requires c κs =
     let s = now (a .segment) in
     let w = back-taken s (a .i) (a .t) (points c) in
     (w .whole, few-slots s (pageNo (a .t)) (w .whole) (w .sound))
-
-enum-known-offset : tie.Need-enum-known-offset
-enum-known-offset c = search needs
 
 returns-2 : tie.Need-returns-2
 returns-2 c =
@@ -64,12 +58,4 @@ returns-3 c =
 
 pub follow-spec : {M : Type 1} → statement M
 follow-spec =
-    tie.close
-    (tie.spec
-    points-back-requires
-    returns
-    slot-on-requires
-    enum-known-offset
-    returns-2
-    target-part-requires
-    returns-3)
+    tie.close (tie.spec (λ c κs. search needs) returns slot-on-requires (λ c. search needs) returns-2 target-part-requires returns-3)

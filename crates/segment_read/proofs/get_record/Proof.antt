@@ -21,18 +21,6 @@ inside c =
     read-inside (now (a .segment)) (a .id) (no .before .find-record .result) (no .before .find-record .ensures) _ (no .reading-no .ensures) _ _
     (c .before .found .given .1)
 
-find-record-requires : tie.Need-find-record-requires
-find-record-requires c κs = search needs
-
-reading-no-requires : tie.Need-reading-no-requires
-reading-no-requires c κs = search needs
-
-enum-known-found : tie.Need-enum-known-found
-enum-known-found c = search needs
-
-slice-aggregate-result : tie.Need-slice-aggregate-result
-slice-aggregate-result c = search needs
-
 returns : tie.Need-returns
 returns c =
     let no = c .before .before in
@@ -42,12 +30,6 @@ returns c =
 
 add-result : tie.Need-add-result
 add-result c = omega (arith, inside c)
-
-sub-result : tie.Need-sub-result
-sub-result c = search needs
-
-part-result-start : tie.Need-part-result-start
-part-result-start c = search needs
 
 part-result-end : tie.Need-part-result-end
 part-result-end c = inside c
@@ -62,15 +44,5 @@ returns-2 c =
 
 pub get-record-spec : {M : Type 1} → statement M
 get-record-spec =
-    tie.close
-    (tie.spec
-    find-record-requires
-    reading-no-requires
-    enum-known-found
-    slice-aggregate-result
-    returns
-    add-result
-    sub-result
-    part-result-start
-    part-result-end
-    returns-2)
+    tie.close (tie.spec (λ c κs. search needs) (λ c κs. search needs) (λ c. search needs) (λ c. search needs) returns add-result (λ c. search needs)
+    (λ c. search needs) part-result-end returns-2)

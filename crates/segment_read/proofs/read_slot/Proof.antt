@@ -10,12 +10,6 @@ use borrow.Author.Needs.{needs}
 use Rattle.segment_read.proofs.read_slot.Statement.{statement}
 use Rattle.segment_read.proofs.read_slot.Tie as tie
 
-enum-known-s : tie.Need-enum-known-s
-enum-known-s c = search needs
-
-mul-t11 : tie.Need-mul-t11
-mul-t11 c = search needs
-
 add-t12 : tie.Need-add-t12
 add-t12 c =
     let entry = c .before .before .before .before in
@@ -23,18 +17,6 @@ add-t12 c =
     let root = entry .pre in
     let high = slot-high (now (a .segment)) (pageNo (a .i)) (root .whole) (root .sound) (slotNo (a .i)) _ (root .entry ∙ c .before .s .given .1) in
     omega arith
-
-enum-told : tie.Need-enum-told
-enum-told c = search needs
-
-enum-known-s-2 : tie.Need-enum-known-s-2
-enum-known-s-2 c = search needs
-
-follow-requires : tie.Need-follow-requires
-follow-requires c κs = search needs
-
-enum-known-s-3 : tie.Need-enum-known-s-3
-enum-known-s-3 c = search needs
 
 target-part-requires : tie.Need-target-part-requires
 target-part-requires c κs =
@@ -65,17 +47,5 @@ returns-4 c = rw (c .before .before .s3 .given .1) (c .target-part .ensures)
 
 pub read-slot-spec : {M : Type 1} → statement M
 read-slot-spec =
-    tie.close
-    (tie.spec
-    enum-known-s
-    mul-t11
-    add-t12
-    enum-told
-    enum-known-s-2
-    follow-requires
-    enum-known-s-3
-    target-part-requires
-    returns
-    returns-2
-    returns-3
-    returns-4)
+    tie.close (tie.spec (λ c. search needs) (λ c. search needs) add-t12 (λ c. search needs) (λ c. search needs) (λ c κs. search needs)
+    (λ c. search needs) target-part-requires returns returns-2 returns-3 returns-4)

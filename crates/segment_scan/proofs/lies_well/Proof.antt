@@ -7,12 +7,6 @@ use borrow.Author.Needs.{needs}
 use Rattle.segment_scan.proofs.lies_well.Statement.{statement}
 use Rattle.segment_scan.proofs.lies_well.Tie as tie
 
-off-of-requires : tie.Need-off-of-requires
-off-of-requires c κs = search needs
-
-len-of-requires : tie.Need-len-of-requires
-len-of-requires c κs = search needs
-
 lies-at-requires : tie.Need-lies-at-requires
 lies-at-requires c κs =
     let a = c .before .before in
@@ -23,9 +17,6 @@ returns c =
     let tested = c .before in
     let length = tested .before in
     well-no _ _ _ _ (length .before .off-of .ensures) (length .len-of .ensures) _ (tested .lies-at .ensures) (not-true _ (c .if1 .taken))
-
-is-target-requires : tie.Need-is-target-requires
-is-target-requires c κs = search needs
 
 returns-2 : tie.Need-returns-2
 returns-2 c =
@@ -47,12 +38,4 @@ returns-3 c =
 
 pub lies-well-spec : {M : Type 1} → statement M
 lies-well-spec =
-    tie.close
-    (tie.spec
-    off-of-requires
-    len-of-requires
-    lies-at-requires
-    returns
-    is-target-requires
-    returns-2
-    returns-3)
+    tie.close (tie.spec (λ c κs. search needs) (λ c κs. search needs) lies-at-requires returns (λ c κs. search needs) returns-2 returns-3)

@@ -22,9 +22,6 @@ loop-holds c = refl
 slot-on-requires : tie.Need-slot-on-requires Inv-loop μ-loop
 slot-on-requires c κs = let counted = c .before .before .before .pre .0 in (counted .whole, counted .few)
 
-is-record-requires : tie.Need-is-record-requires Inv-loop μ-loop
-is-record-requires c κs = search needs
-
 returns : tie.Need-returns Inv-loop μ-loop
 returns c =
     let slot = c .before .before in
@@ -34,12 +31,6 @@ returns c =
     let v = segView (now (a .segment)) .page (a .p) in
     let r = sym (c .before .is-record .ensures ∙ ap isRecord (slot .slot-on .ensures .0)) ∙ c .if1 .taken in
     next-here v (a .n) (at .loop .j) (turn .loop-test .taken) r ∙ at .loop .inv
-
-add-j : tie.Need-add-j Inv-loop μ-loop
-add-j c = search needs
-
-loop-less : tie.Need-loop-less Inv-loop μ-loop
-loop-less c = search needs
 
 loop-again : tie.Need-loop-again Inv-loop μ-loop
 loop-again c =
@@ -58,15 +49,5 @@ returns-2 c =
 
 pub next-record-spec : {M : Type 1} → statement M
 next-record-spec =
-    tie.close
-    (tie.spec
-    Inv-loop
-    μ-loop
-    loop-holds
-    slot-on-requires
-    is-record-requires
-    returns
-    add-j
-    loop-less
-    loop-again
+    tie.close (tie.spec Inv-loop μ-loop loop-holds slot-on-requires (λ c κs. search needs) returns (λ c. search needs) (λ c. search needs) loop-again
     returns-2)

@@ -34,16 +34,10 @@ lies c =
 slot-on-requires : tie.Need-slot-on-requires
 slot-on-requires c κs = let counted = c .before .pre .0 in (counted .whole, counted .few)
 
-page-of-requires : tie.Need-page-of-requires
-page-of-requires c κs = search needs
-
 get-data-start-requires : tie.Need-get-data-start-requires
 get-data-start-requires c κs =
     let e = c .before .before .before in
     ap length (c .page-of .ensures) ∙ length-page (now (e .args .segment)) (e .args .p) (e .pre .0 .whole)
-
-lies-well-requires : tie.Need-lies-well-requires
-lies-well-requires c κs = search needs
 
 returns : tie.Need-returns
 returns c =
@@ -70,12 +64,4 @@ returns-2 c =
 
 pub record-or-damage-spec : {M : Type 1} → statement M
 record-or-damage-spec =
-    tie.close
-    (tie.spec
-    slot-on-requires
-    page-of-requires
-    get-data-start-requires
-    lies-well-requires
-    returns
-    record-at-requires
-    returns-2)
+    tie.close (tie.spec slot-on-requires (λ c κs. search needs) get-data-start-requires (λ c κs. search needs) returns record-at-requires returns-2)

@@ -39,9 +39,6 @@ undamaged c = sym (c .before .damaged-at .ensures) ∙ c .if1 .left
 few : (c : tie.Else1) → let a = entry (c .before .before) .args in Counted (now (a .segment)) (a .p)
 few c = let n = c .before .before in record { whole = entry n .pre .0; few = few-at (page n) (entry n .args .k) (undamaged c) }
 
-page-of-requires : tie.Need-page-of-requires
-page-of-requires c κs = search needs
-
 get-slot-count-requires : tie.Need-get-slot-count-requires
 get-slot-count-requires c κs =
     let e = c .before .before in
@@ -58,9 +55,6 @@ returns c =
 
 next-record-requires : tie.Need-next-record-requires
 next-record-requires c κs = (few c, omega (arith, counted (c .before .before), few c .few))
-
-add-t9 : tie.Need-add-t9
-add-t9 c = search needs
 
 returns-2 : tie.Need-returns-2
 returns-2 c =
@@ -93,14 +87,5 @@ returns-3 c =
 
 pub scan-page-spec : {M : Type 1} → statement M
 scan-page-spec =
-    tie.close
-    (tie.spec
-    page-of-requires
-    get-slot-count-requires
-    damaged-at-requires
-    returns
-    next-record-requires
-    add-t9
-    returns-2
-    record-or-damage-requires
-    returns-3)
+    tie.close (tie.spec (λ c κs. search needs) get-slot-count-requires damaged-at-requires returns next-record-requires (λ c. search needs) returns-2
+    record-or-damage-requires returns-3)

@@ -44,12 +44,6 @@ turned c =
 loop-holds : tie.Need-loop-holds Inv-loop μ-loop
 loop-holds c = refl
 
-scan-page-requires : tie.Need-scan-page-requires Inv-loop μ-loop
-scan-page-requires c κs = search needs
-
-is-end-requires : tie.Need-is-end-requires Inv-loop μ-loop
-is-end-requires c κs = search needs
-
 returns : tie.Need-returns Inv-loop μ-loop
 returns c =
     let asked = c .before in
@@ -58,12 +52,6 @@ returns c =
     let a = entry (at page) .args in
     later-no s (page .scan-page .result) (later page) (sym (asked .is-end .ensures) ∙ not-true _ (c .if1 .taken)) ∙ turned page
     ∙ plan-from s (length s / 16384) (a .page) (a .slot) refl
-
-add-p : tie.Need-add-p Inv-loop μ-loop
-add-p c = search needs
-
-loop-less : tie.Need-loop-less Inv-loop μ-loop
-loop-less c = search needs
 
 loop-again : tie.Need-loop-again Inv-loop μ-loop
 loop-again c =
@@ -82,15 +70,5 @@ returns-2 c =
 
 pub scan-pages-spec : {M : Type 1} → statement M
 scan-pages-spec =
-    tie.close
-    (tie.spec
-    Inv-loop
-    μ-loop
-    loop-holds
-    scan-page-requires
-    is-end-requires
-    returns
-    add-p
-    loop-less
-    loop-again
-    returns-2)
+    tie.close (tie.spec Inv-loop μ-loop loop-holds (λ c κs. search needs) (λ c κs. search needs) returns (λ c. search needs) (λ c. search needs)
+    loop-again returns-2)

@@ -22,9 +22,6 @@ returns c =
     let a = c .before .before .args in
     step-over (now (a .segment)) (a .page) (a .slot) (c .if1 .taken)
 
-is-segment-requires : tie.Need-is-segment-requires
-is-segment-requires c κs = search needs
-
 returns-2 : tie.Need-returns-2
 returns-2 c =
     let asked = c .before in
@@ -44,4 +41,4 @@ returns-3 c =
 
 pub scan-step-spec : {M : Type 1} → statement M
 scan-step-spec =
-    tie.close (tie.spec returns is-segment-requires returns-2 scan-pages-requires returns-3)
+    tie.close (tie.spec returns (λ c κs. search needs) returns-2 scan-pages-requires returns-3)

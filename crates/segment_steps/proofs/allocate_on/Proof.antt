@@ -13,32 +13,11 @@ use borrow.Author.Needs.{needs}
 use Rattle.segment_steps.proofs.allocate_on.Statement.{statement}
 use Rattle.segment_steps.proofs.allocate_on.Tie as tie
 
-mul-allocate : tie.Need-mul-allocate
-mul-allocate c = search needs
-
-add-allocate : tie.Need-add-allocate
-add-allocate c = search needs
-
-mul-allocate-2 : tie.Need-mul-allocate-2
-mul-allocate-2 c = search needs
-
-sub-allocate : tie.Need-sub-allocate
-sub-allocate c = search needs
-
-part-allocate-start : tie.Need-part-allocate-start
-part-allocate-start c = search needs
-
-part-allocate-end : tie.Need-part-allocate-end
-part-allocate-end c = search needs
-
 allocate-requires : tie.Need-allocate-requires
 allocate-requires c κs =
     let z = c .before .before in
     let s = now (z .args .segment) in
     (lent-whole s (z .args .p) (z .pre .0 .whole), lent-sound s (z .args .p) (z .pre .0 .whole) (z .pre .0 .sound), z .pre .1)
-
-same-length : tie.Need-same-length
-same-length c = search needs
 
 returns : tie.Need-returns
 returns c =
@@ -57,14 +36,5 @@ returns c =
 
 pub allocate-on-spec : {M : Type 1} → statement M
 allocate-on-spec =
-    tie.close
-    (tie.spec
-    mul-allocate
-    add-allocate
-    mul-allocate-2
-    sub-allocate
-    part-allocate-start
-    part-allocate-end
-    allocate-requires
-    same-length
-    returns)
+    tie.close (tie.spec (λ c. search needs) (λ c. search needs) (λ c. search needs) (λ c. search needs) (λ c. search needs) (λ c. search needs)
+    allocate-requires (λ c. search needs) returns)

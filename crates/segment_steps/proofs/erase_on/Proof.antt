@@ -8,31 +8,10 @@ use borrow.Author.Needs.{needs}
 use Rattle.segment_steps.proofs.erase_on.Statement.{statement}
 use Rattle.segment_steps.proofs.erase_on.Tie as tie
 
-mul-erase : tie.Need-mul-erase
-mul-erase c = search needs
-
-add-erase : tie.Need-add-erase
-add-erase c = search needs
-
-mul-erase-2 : tie.Need-mul-erase-2
-mul-erase-2 c = search needs
-
-sub-erase : tie.Need-sub-erase
-sub-erase c = search needs
-
-part-erase-start : tie.Need-part-erase-start
-part-erase-start c = search needs
-
-part-erase-end : tie.Need-part-erase-end
-part-erase-end c = search needs
-
 erase-requires : tie.Need-erase-requires
 erase-requires c κs =
     let z = c .before .before in
     lent-taken (now (z .args .segment)) (z .args .p) (z .args .k) (z .pre)
-
-same-length : tie.Need-same-length
-same-length c = search needs
 
 returns : tie.Need-returns
 returns c =
@@ -44,14 +23,5 @@ returns c =
 
 pub erase-on-spec : {M : Type 1} → statement M
 erase-on-spec =
-    tie.close
-    (tie.spec
-    mul-erase
-    add-erase
-    mul-erase-2
-    sub-erase
-    part-erase-start
-    part-erase-end
-    erase-requires
-    same-length
-    returns)
+    tie.close (tie.spec (λ c. search needs) (λ c. search needs) (λ c. search needs) (λ c. search needs) (λ c. search needs) (λ c. search needs)
+    erase-requires (λ c. search needs) returns)

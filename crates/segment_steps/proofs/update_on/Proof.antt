@@ -13,9 +13,6 @@ use borrow.Author.Needs.{needs}
 use Rattle.segment_steps.proofs.update_on.Statement.{statement}
 use Rattle.segment_steps.proofs.update_on.Tie as tie
 
-page-of-requires : tie.Need-page-of-requires
-page-of-requires c κs = search needs
-
 get-free-space-requires : tie.Need-get-free-space-requires
 get-free-space-requires c κs =
     let entry = c .before .before .before in
@@ -32,9 +29,6 @@ update-page-size-requires c κs =
     let entry = c .before .before .before .before .before in
     (entry .pre .0, (omega (arith, entry .pre .1 .0), omega (arith, freed (c .before), entry .pre .1 .1)))
 
-same-length : tie.Need-same-length
-same-length c = search needs
-
 returns : tie.Need-returns
 returns c =
     let told = c .before .before in
@@ -44,4 +38,4 @@ returns c =
 
 pub update-on-spec : {M : Type 1} → statement M
 update-on-spec =
-    tie.close (tie.spec page-of-requires get-free-space-requires update-page-size-requires same-length returns)
+    tie.close (tie.spec (λ c κs. search needs) get-free-space-requires update-page-size-requires (λ c. search needs) returns)

@@ -13,57 +13,7 @@ Inv-loop segment₀ inventory₀ letters numbers lines k₀ segment inventory k 
 abbrev μ-loop : tie.MeasureT-loop
 μ-loop segment₀ inventory₀ letters numbers lines k₀ segment inventory k = lines - k
 
-least-requires : tie.Need-least-requires Inv-loop μ-loop
-least-requires c κs = search needs
-
-loop-holds : tie.Need-loop-holds Inv-loop μ-loop
-loop-holds c = search needs
-
-shared-slice-read-perform : tie.Need-shared-slice-read-perform Inv-loop μ-loop
-shared-slice-read-perform c = search needs
-
-mul-perform : tie.Need-mul-perform Inv-loop μ-loop
-mul-perform c = search needs
-
-shared-slice-read-perform-2 : tie.Need-shared-slice-read-perform-2 Inv-loop μ-loop
-shared-slice-read-perform-2 c = search needs
-
-perform-requires : tie.Need-perform-requires Inv-loop μ-loop
-perform-requires c κs = search needs
-
-add-k : tie.Need-add-k Inv-loop μ-loop
-add-k c = search needs
-
-loop-less : tie.Need-loop-less Inv-loop μ-loop
-loop-less c = search needs
-
-loop-again : tie.Need-loop-again Inv-loop μ-loop
-loop-again c = search needs
-
-same-length : tie.Need-same-length Inv-loop μ-loop
-same-length c = search needs
-
-same-length-2 : tie.Need-same-length-2 Inv-loop μ-loop
-same-length-2 c = search needs
-
-returns : tie.Need-returns Inv-loop μ-loop
-returns c = search needs
-
 pub play-spec : {M : Type 1} → statement M
 play-spec =
-    tie.close
-    (tie.spec
-    Inv-loop
-    μ-loop
-    least-requires
-    loop-holds
-    shared-slice-read-perform
-    mul-perform
-    shared-slice-read-perform-2
-    perform-requires
-    add-k
-    loop-less
-    loop-again
-    same-length
-    same-length-2
-    returns)
+    tie.close (tie.spec Inv-loop μ-loop (λ c κs. search needs) (λ c. search needs) (λ c. search needs) (λ c. search needs) (λ c. search needs)
+    (λ c κs. search needs) (λ c. search needs) (λ c. search needs) (λ c. search needs) (λ c. search needs) (λ c. search needs) (λ c. search needs))

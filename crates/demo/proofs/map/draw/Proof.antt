@@ -12,41 +12,10 @@ Inv-loop row₀ y x₀ row x = (length row ≡ length row₀) × (x ≤ length r
 abbrev μ-loop : tie.MeasureT-loop
 μ-loop row₀ y x₀ row x = length row₀ - x
 
-loop-holds : tie.Need-loop-holds Inv-loop μ-loop
-loop-holds c = search needs
-
-shade-requires : tie.Need-shade-requires Inv-loop μ-loop
-shade-requires c κs = search needs
-
-slice-write-row : tie.Need-slice-write-row Inv-loop μ-loop
-slice-write-row c = search needs
-
-add-x : tie.Need-add-x Inv-loop μ-loop
-add-x c = search needs
-
-loop-less : tie.Need-loop-less Inv-loop μ-loop
-loop-less c = search needs
-
 loop-again : tie.Need-loop-again Inv-loop μ-loop
 loop-again c = (rw length-set (c .before .before .loop .inv .0), search needs)
 
-same-length : tie.Need-same-length Inv-loop μ-loop
-same-length c = search needs
-
-returns : tie.Need-returns Inv-loop μ-loop
-returns c = search needs
-
 pub draw-spec : {M : Type 1} → statement M
 draw-spec =
-    tie.close
-    (tie.spec
-    Inv-loop
-    μ-loop
-    loop-holds
-    shade-requires
-    slice-write-row
-    add-x
-    loop-less
-    loop-again
-    same-length
-    returns)
+    tie.close (tie.spec Inv-loop μ-loop (λ c. search needs) (λ c κs. search needs) (λ c. search needs) (λ c. search needs) (λ c. search needs)
+    loop-again (λ c. search needs) (λ c. search needs))

@@ -6,24 +6,6 @@ use borrow.Author.Needs.{needs}
 use Rattle.layout.proofs.slots.get_slot.Statement.{statement}
 use Rattle.layout.proofs.slots.get_slot.Tie as tie
 
-mul-at : tie.Need-mul-at
-mul-at c = search needs
-
-add-at : tie.Need-add-at
-add-at c = search needs
-
-get-u32-requires : tie.Need-get-u32-requires
-get-u32-requires c κs = search needs
-
-add-get-u32 : tie.Need-add-get-u32
-add-get-u32 c = search needs
-
-get-u32-requires-2 : tie.Need-get-u32-requires-2
-get-u32-requires-2 c κs = search needs
-
-slot-of-requires : tie.Need-slot-of-requires
-slot-of-requires c κs = search needs
-
 returns : tie.Need-returns
 returns c =
     let l = c .before in
@@ -37,12 +19,5 @@ returns c =
 
 pub get-slot-spec : {M : Type 1} → statement M
 get-slot-spec =
-    tie.close
-    (tie.spec
-    mul-at
-    add-at
-    get-u32-requires
-    add-get-u32
-    get-u32-requires-2
-    slot-of-requires
-    returns)
+    tie.close (tie.spec (λ c. search needs) (λ c. search needs) (λ c κs. search needs) (λ c. search needs) (λ c κs. search needs)
+    (λ c κs. search needs) returns)

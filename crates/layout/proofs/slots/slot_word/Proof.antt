@@ -7,26 +7,14 @@ use borrow.Author.Needs.{needs}
 use Rattle.layout.proofs.slots.slot_word.Statement.{statement}
 use Rattle.layout.proofs.slots.slot_word.Tie as tie
 
-enum-known-s : tie.Need-enum-known-s
-enum-known-s c = search needs
-
 mul-result : tie.Need-mul-result
 mul-result c = let h = subst Codable (c .before .s .given .1) (c .before .before .before .pre) in omega arith
 
 add-result : tie.Need-add-result
 add-result c = let h = subst Codable (c .before .s .given .1) (c .before .before .before .pre) in omega arith
 
-enum-told : tie.Need-enum-told
-enum-told c = search needs
-
-enum-known-s-2 : tie.Need-enum-known-s-2
-enum-known-s-2 c = search needs
-
 add-result-2 : tie.Need-add-result-2
 add-result-2 c = let h = subst Codable (c .before .s2 .given .1) (c .before .before .before .pre) in omega arith
-
-enum-known-s-3 : tie.Need-enum-known-s-3
-enum-known-s-3 c = search needs
 
 mul-result-2 : tie.Need-mul-result-2
 mul-result-2 c = let h = subst Codable (c .before .s3 .given .1) (c .before .before .before .pre) in omega arith
@@ -51,19 +39,5 @@ returns-4 c = omega (arith, ap slotWord (c .before .s3 .given .1))
 
 pub slot-word-spec : {M : Type 1} → statement M
 slot-word-spec =
-    tie.close
-    (tie.spec
-    enum-known-s
-    mul-result
-    add-result
-    enum-told
-    enum-known-s-2
-    add-result-2
-    enum-known-s-3
-    mul-result-2
-    add-result-3
-    add-result-4
-    returns
-    returns-2
-    returns-3
-    returns-4)
+    tie.close (tie.spec (λ c. search needs) mul-result add-result (λ c. search needs) (λ c. search needs) add-result-2 (λ c. search needs)
+    mul-result-2 add-result-3 add-result-4 returns returns-2 returns-3 returns-4)

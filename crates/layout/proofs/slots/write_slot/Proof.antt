@@ -6,21 +6,6 @@ use borrow.Author.Needs.{needs}
 use Rattle.layout.proofs.slots.write_slot.Statement.{statement}
 use Rattle.layout.proofs.slots.write_slot.Tie as tie
 
-slot-word-requires : tie.Need-slot-word-requires
-slot-word-requires c κs = search needs
-
-mul-put-u64 : tie.Need-mul-put-u64
-mul-put-u64 c = search needs
-
-add-put-u64 : tie.Need-add-put-u64
-add-put-u64 c = search needs
-
-put-u64-requires : tie.Need-put-u64-requires
-put-u64-requires c κs = search needs
-
-same-length : tie.Need-same-length
-same-length c = search needs
-
 returns : tie.Need-returns
 returns c =
     let written = c .before .before in
@@ -30,4 +15,4 @@ returns c =
 
 pub write-slot-spec : {M : Type 1} → statement M
 write-slot-spec =
-    tie.close (tie.spec slot-word-requires mul-put-u64 add-put-u64 put-u64-requires same-length returns)
+    tie.close (tie.spec (λ c κs. search needs) (λ c. search needs) (λ c. search needs) (λ c κs. search needs) (λ c. search needs) returns)

@@ -61,9 +61,6 @@ claimed c = c .before .before
 sub-last : tie.Need-sub-last Inv-loop μ-loop
 sub-last c = omega arith
 
-bits-from-requires : tie.Need-bits-from-requires Inv-loop μ-loop
-bits-from-requires c κs = search needs
-
 loop-holds : tie.Need-loop-holds Inv-loop μ-loop
 loop-holds c =
     record {
@@ -115,9 +112,6 @@ loop-again c =
 sub-bits-to : tie.Need-sub-bits-to Inv-loop μ-loop
 sub-bits-to c = omega arith
 
-bits-to-requires : tie.Need-bits-to-requires Inv-loop μ-loop
-bits-to-requires c κs = search needs
-
 claim-word-requires-2 : tie.Need-claim-word-requires-2 Inv-loop μ-loop
 claim-word-requires-2 c κs = omega arith
 
@@ -142,21 +136,5 @@ returns-2 c =
 
 pub claim-spec : {M : Type 1} → statement M
 claim-spec =
-    tie.close
-    (tie.spec
-    Inv-loop
-    μ-loop
-    sub-last
-    bits-from-requires
-    loop-holds
-    claim-word-requires
-    same-length
-    returns
-    add-i
-    loop-less
-    loop-again
-    sub-bits-to
-    bits-to-requires
-    claim-word-requires-2
-    same-length-2
-    returns-2)
+    tie.close (tie.spec Inv-loop μ-loop sub-last (λ c κs. search needs) loop-holds claim-word-requires same-length returns add-i loop-less loop-again
+    sub-bits-to (λ c κs. search needs) claim-word-requires-2 same-length-2 returns-2)

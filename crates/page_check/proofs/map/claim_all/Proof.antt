@@ -67,9 +67,6 @@ claimed c = c .before .before
 
 -- ---- the needs
 
-get-u32-requires : tie.Need-get-u32-requires Inv-loop μ-loop
-get-u32-requires c κs = search needs
-
 loop-holds : tie.Need-loop-holds Inv-loop μ-loop
 loop-holds c = record {
   within = omega arith;
@@ -181,28 +178,6 @@ returns-3 c =
 
 pub claim-all-spec : {M : Type 1} → statement M
 claim-all-spec =
-    tie.close
-    (tie.spec
-    Inv-loop
-    μ-loop
-    get-u32-requires
-    loop-holds
-    mul-get-u32
-    add-get-u32
-    add-get-u32-2
-    get-u32-requires-2
-    run-of-requires
-    same-length
-    returns
-    claim-record-requires
-    same-length-2
-    returns-2
-    add-total
-    add-k
-    mul-get-u32-2
-    add-get-u32-3
-    get-u32-requires-3
-    loop-less
-    loop-again
-    same-length-3
-    returns-3)
+    tie.close (tie.spec Inv-loop μ-loop (λ c κs. search needs) loop-holds mul-get-u32 add-get-u32 add-get-u32-2 get-u32-requires-2 run-of-requires
+    same-length returns claim-record-requires same-length-2 returns-2 add-total add-k mul-get-u32-2 add-get-u32-3 get-u32-requires-3 loop-less
+    loop-again same-length-3 returns-3)

@@ -9,16 +9,10 @@ use Rattle.page_check.proofs.slot.run_of.Tie as tie
 abbrev entry : tie.Else4 → tie.Start
 entry c = c .before .before .before .before
 
-add-if1 : tie.Need-add-if1
-add-if1 c = search needs
-
 returns : tie.Need-returns
 returns c =
     let a = c .before .args in
     found-ordinary (a .o) (a .l) (omega arith) (a .k) (a .f) (a .low) (omega arith) (omega arith)
-
-no-bytes-requires : tie.Need-no-bytes-requires
-no-bytes-requires c κs = search needs
 
 returns-2 : tie.Need-returns-2
 returns-2 c =
@@ -26,17 +20,11 @@ returns-2 c =
     let w = c .no-bytes .ensures in
     rw (w .0, w .1, w .2) (found-over (a .o) (a .l) (omega arith) (a .k) (a .f) (a .low) (omega arith) (omega arith) (a .low) 0)
 
-no-bytes-requires-2 : tie.Need-no-bytes-requires-2
-no-bytes-requires-2 c κs = search needs
-
 returns-3 : tie.Need-returns-3
 returns-3 c =
     let a = c .before .before .before .before .args in
     let w = c .no-bytes2 .ensures in
     rw (w .0, w .1, w .2) (found-free (a .o) (a .l) (omega arith) (a .k) (a .f) (a .low) (omega arith) (omega arith))
-
-no-bytes-requires-3 : tie.Need-no-bytes-requires-3
-no-bytes-requires-3 c κs = search needs
 
 returns-4 : tie.Need-returns-4
 returns-4 c =
@@ -44,17 +32,11 @@ returns-4 c =
     let w = c .no-bytes3 .ensures in
     rw (w .0, w .1, w .2) (found-redirect (a .o) (a .l) (omega arith) (a .k) (a .f) (a .low) (omega arith) (omega arith))
 
-no-bytes-requires-4 : tie.Need-no-bytes-requires-4
-no-bytes-requires-4 c κs = search needs
-
 returns-5 : tie.Need-returns-5
 returns-5 c =
     let a = entry (c .before .before) .args in
     let w = c .no-bytes4 .ensures in
     rw (w .0, w .1, w .2) (found-short (a .o) (a .l) (omega arith) (a .k) (a .f) (a .low) (omega arith) (omega arith) (omega arith) (a .low) 0)
-
-add-t9 : tie.Need-add-t9
-add-t9 c = search needs
 
 returns-6 : tie.Need-returns-6
 returns-6 c =
@@ -63,17 +45,5 @@ returns-6 c =
 
 pub run-of-spec : {M : Type 1} → statement M
 run-of-spec =
-    tie.close
-    (tie.spec
-    add-if1
-    returns
-    no-bytes-requires
-    returns-2
-    no-bytes-requires-2
-    returns-3
-    no-bytes-requires-3
-    returns-4
-    no-bytes-requires-4
-    returns-5
-    add-t9
-    returns-6)
+    tie.close (tie.spec (λ c. search needs) returns (λ c κs. search needs) returns-2 (λ c κs. search needs) returns-3 (λ c κs. search needs) returns-4
+    (λ c κs. search needs) returns-5 (λ c. search needs) returns-6)

@@ -52,9 +52,6 @@ looked c = c .before .before
 
 -- ---- the needs
 
-get-u32-requires : tie.Need-get-u32-requires Inv-loop μ-loop
-get-u32-requires c κs = search needs
-
 loop-holds : tie.Need-loop-holds Inv-loop μ-loop
 loop-holds c = record {
   within = omega arith;
@@ -129,23 +126,5 @@ returns-2 c =
 
 pub sweep-spec : {M : Type 1} → statement M
 sweep-spec =
-    tie.close
-    (tie.spec
-    Inv-loop
-    μ-loop
-    get-u32-requires
-    loop-holds
-    mul-get-u32
-    add-get-u32
-    add-get-u32-2
-    get-u32-requires-2
-    run-of-requires
-    returns
-    add-total
-    add-k
-    mul-get-u32-2
-    add-get-u32-3
-    get-u32-requires-3
-    loop-less
-    loop-again
-    returns-2)
+    tie.close (tie.spec Inv-loop μ-loop (λ c κs. search needs) loop-holds mul-get-u32 add-get-u32 add-get-u32-2 get-u32-requires-2 run-of-requires
+    returns add-total add-k mul-get-u32-2 add-get-u32-3 get-u32-requires-3 loop-less loop-again returns-2)

@@ -32,25 +32,10 @@ collected c = c .before .before .before
 
 -- ---- the needs
 
-get-slot-count-requires : tie.Need-get-slot-count-requires
-get-slot-count-requires c κs = search needs
-
-slice-aggregate-collect : tie.Need-slice-aggregate-collect
-slice-aggregate-collect c = search needs
-
-collect-requires : tie.Need-collect-requires
-collect-requires c κs = search needs
-
-slice-aggregate-pack : tie.Need-slice-aggregate-pack
-slice-aggregate-pack c = search needs
-
 pack-requires : tie.Need-pack-requires
 pack-requires c κs =
     let s = entry (counted (collected c)) in
     (omega arith, omega arith, rw (listed (collected c)) (keys-ready (view (s .args .page .now)) (s .pre .1)))
-
-same-length : tie.Need-same-length
-same-length c = search needs
 
 returns : tie.Need-returns
 unfolding compactify
@@ -62,12 +47,5 @@ returns c =
 
 pub compactify-spec : {M : Type 1} → statement M
 compactify-spec =
-    tie.close
-    (tie.spec
-    get-slot-count-requires
-    slice-aggregate-collect
-    collect-requires
-    slice-aggregate-pack
-    pack-requires
-    same-length
+    tie.close (tie.spec (λ c κs. search needs) (λ c. search needs) (λ c κs. search needs) (λ c. search needs) pack-requires (λ c. search needs)
     returns)

@@ -69,9 +69,6 @@ mul-e c = omega arith
 shared-slice-read-e : tie.Need-shared-slice-read-e Inv-loop μ-loop
 shared-slice-read-e c = omega arith
 
-len-in-requires : tie.Need-len-in-requires Inv-loop μ-loop
-len-in-requires c κs = search needs
-
 sub-d : tie.Need-sub-d Inv-loop μ-loop
 sub-d c = omega (arith, next (turn c))
 
@@ -131,22 +128,5 @@ returns c =
 
 pub pack-spec : {M : Type 1} → statement M
 pack-spec =
-    tie.close
-    (tie.spec
-    Inv-loop
-    μ-loop
-    loop-holds
-    mul-e
-    shared-slice-read-e
-    len-in-requires
-    sub-d
-    place-requires
-    add-j
-    loop-less
-    loop-again
-    get-slot-count-requires
-    get-first-free-slot-requires
-    get-free-space-requires
-    set-header-requires
-    same-length
-    returns)
+    tie.close (tie.spec Inv-loop μ-loop loop-holds mul-e shared-slice-read-e (λ c κs. search needs) sub-d place-requires add-j loop-less loop-again
+    get-slot-count-requires get-first-free-slot-requires get-free-space-requires set-header-requires same-length returns)

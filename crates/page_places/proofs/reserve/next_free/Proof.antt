@@ -56,15 +56,4 @@ returns-2 c =
 
 pub next-free-spec : {M : Type 1} → statement M
 next-free-spec =
-    tie.close
-    (tie.spec
-    Inv-loop
-    μ-loop
-    loop-holds
-    get-slot-requires
-    is-free-requires
-    returns
-    add-i
-    loop-less
-    loop-again
-    returns-2)
+    tie.close (tie.spec Inv-loop μ-loop loop-holds get-slot-requires is-free-requires returns add-i loop-less loop-again returns-2)

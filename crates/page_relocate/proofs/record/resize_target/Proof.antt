@@ -36,26 +36,14 @@ module _ (c : tie.Then1) where
       let start = entry moved in
       target-kept page (start .args .k) (start .args .size) (moved .relocate .last .0) (start .pre .0) (moved .relocate .ensures .0) was-moved
 
-add-relocate : tie.Need-add-relocate
-add-relocate c = search needs
-
-relocate-requires : tie.Need-relocate-requires
-relocate-requires c κs = search needs
-
 get-slot-requires : tie.Need-get-slot-requires
 get-slot-requires c κs = let x = kept (c .before) in (x .whole, x .counted .0, x .counted .1)
-
-off-of-requires : tie.Need-off-of-requires
-off-of-requires c κs = search needs
 
 put-u64-requires : tie.Need-put-u64-requires
 put-u64-requires c κs =
     let slot = c .before .before in
     let x = kept (slot .before .before) in
     omega (arith, x .whole, x .high, c .off-of .ensures, ap off (slot .get-slot .ensures .0))
-
-same-length : tie.Need-same-length
-same-length c = search needs
 
 returns : tie.Need-returns
 returns c =
@@ -66,9 +54,6 @@ returns c =
     let a = entry (moved branch) .args in
     let f = offset .off-of .ensures ∙ ap off (slot .get-slot .ensures .0) in
     (kept branch .done (toBE 8 (a .id)) (named .put-u64 .last .0) refl (named .put-u64 .ensures ∙ rw f), was-moved branch)
-
-same-length-2 : tie.Need-same-length-2
-same-length-2 c = search needs
 
 returns-2 : tie.Need-returns-2
 returns-2 c =
@@ -82,14 +67,5 @@ returns-2 c =
 
 pub resize-target-spec : {M : Type 1} → statement M
 resize-target-spec =
-    tie.close
-    (tie.spec
-    add-relocate
-    relocate-requires
-    get-slot-requires
-    off-of-requires
-    put-u64-requires
-    same-length
-    returns
-    same-length-2
-    returns-2)
+    tie.close (tie.spec (λ c. search needs) (λ c κs. search needs) get-slot-requires (λ c κs. search needs) put-u64-requires (λ c. search needs)
+    returns (λ c. search needs) returns-2)

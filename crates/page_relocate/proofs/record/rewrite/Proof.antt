@@ -27,20 +27,8 @@ inside c =
     let moved = moving c in
     subst (λ (x : Place). Inside x (entry moved .args .size)) (c .place .given .1) (moved .move-slot .ensures .2)
 
-move-slot-requires : tie.Need-move-slot-requires
-move-slot-requires c κs = search needs
-
-enum-known-place : tie.Need-enum-known-place
-enum-known-place c = search needs
-
 fit-in-requires : tie.Need-fit-in-requires
 fit-in-requires c κs = omega (arith, inside (c .before .before))
-
-enum-told : tie.Need-enum-told
-enum-told c = search needs
-
-same-length : tie.Need-same-length
-same-length c = search needs
 
 returns : tie.Need-returns
 returns c =
@@ -54,9 +42,6 @@ returns c =
     (ap givenPlace (sym (at .place .given .1)) ∙ moved .move-slot .ensures .1) (moved .move-slot .ensures .0) (fit (a .size) (a .bytes .now))
     (length-fit (a .size) (a .bytes .now)) (written .fit-in .ensures)
 
-same-length-2 : tie.Need-same-length-2
-same-length-2 c = search needs
-
 returns-2 : tie.Need-returns-2
 returns-2 c =
     let moved = c .before .before .before .before in
@@ -67,13 +52,5 @@ returns-2 c =
 
 pub rewrite-spec : {M : Type 1} → statement M
 rewrite-spec =
-    tie.close
-    (tie.spec
-    move-slot-requires
-    enum-known-place
-    fit-in-requires
-    enum-told
-    same-length
-    returns
-    same-length-2
+    tie.close (tie.spec (λ c κs. search needs) (λ c. search needs) fit-in-requires (λ c. search needs) (λ c. search needs) returns (λ c. search needs)
     returns-2)

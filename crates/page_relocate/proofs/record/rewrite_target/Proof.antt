@@ -33,15 +33,6 @@ inside c =
 abbrev there : tie.After-put-u64 → tie.After-place
 there c = c .before .before .before
 
-add-move-slot : tie.Need-add-move-slot
-add-move-slot c = search needs
-
-move-slot-requires : tie.Need-move-slot-requires
-move-slot-requires c κs = search needs
-
-enum-known-place : tie.Need-enum-known-place
-enum-known-place c = search needs
-
 put-u64-requires : tie.Need-put-u64-requires
 put-u64-requires c κs = omega (arith, inside (c .before .before))
 
@@ -50,12 +41,6 @@ add-copy-in c = omega (arith, inside (there (c .before .before .before)))
 
 copy-in-requires : tie.Need-copy-in-requires
 copy-in-requires c κs = omega (arith, inside (there (c .before .before .before)))
-
-enum-told : tie.Need-enum-told
-enum-told c = search needs
-
-same-length : tie.Need-same-length
-same-length c = search needs
 
 returns : tie.Need-returns
 returns c =
@@ -73,9 +58,6 @@ returns c =
     (written .copy-in .ensures ∙ ap (λ (q : List ℕ). put q (o + 8) (a .bytes .now)) (named .put-u64 .ensures)
     ∙ sym (write-append o i (a .bytes .now) (moved .move-slot .last .0)))
 
-same-length-2 : tie.Need-same-length-2
-same-length-2 c = search needs
-
 returns-2 : tie.Need-returns-2
 returns-2 c =
     let moved = c .before .before .before .before in
@@ -86,16 +68,5 @@ returns-2 c =
 
 pub rewrite-target-spec : {M : Type 1} → statement M
 rewrite-target-spec =
-    tie.close
-    (tie.spec
-    add-move-slot
-    move-slot-requires
-    enum-known-place
-    put-u64-requires
-    add-copy-in
-    copy-in-requires
-    enum-told
-    same-length
-    returns
-    same-length-2
-    returns-2)
+    tie.close (tie.spec (λ c. search needs) (λ c κs. search needs) (λ c. search needs) put-u64-requires add-copy-in copy-in-requires
+    (λ c. search needs) (λ c. search needs) returns (λ c. search needs) returns-2)

@@ -42,18 +42,6 @@ inside c =
 abbrev there : tie.After-move-within → tie.After-place
 there c = c .before .before .before .before
 
-len-of-requires : tie.Need-len-of-requires
-len-of-requires c κs = search needs
-
-move-slot-requires : tie.Need-move-slot-requires
-move-slot-requires c κs = search needs
-
-enum-known-place : tie.Need-enum-known-place
-enum-known-place c = search needs
-
-off-of-requires : tie.Need-off-of-requires
-off-of-requires c κs = search needs
-
 move-within-requires : tie.Need-move-within-requires
 move-within-requires c κs =
     let place = c .before .before .before in
@@ -66,20 +54,11 @@ add-zero-fill c =
     let length = reading (moving place) in
     omega (arith, inside place, length .len-of .ensures, start length .pre .1 .1)
 
-sub-zero-fill : tie.Need-sub-zero-fill
-sub-zero-fill c = search needs
-
 zero-fill-requires : tie.Need-zero-fill-requires
 zero-fill-requires c κs =
     let place = there (c .before .before .before) in
     let length = reading (moving place) in
     omega (arith, inside place, length .len-of .ensures, start length .pre .1 .1)
-
-enum-told : tie.Need-enum-told
-enum-told c = search needs
-
-same-length : tie.Need-same-length
-same-length c = search needs
 
 returns : tie.Need-returns
 returns c =
@@ -100,9 +79,6 @@ returns c =
     (copied .move-within .ensures) (filled .zero-fill .ensures) in
     old-done (a .page .now) (a .k) (a .size) (b .pre .0) j d (moved .move-slot .last .0) (filled .zero-fill .last .0) e (moved .move-slot .ensures .0) x
 
-same-length-2 : tie.Need-same-length-2
-same-length-2 c = search needs
-
 returns-2 : tie.Need-returns-2
 returns-2 c =
     let moved = c .before .before .before .before in
@@ -113,18 +89,5 @@ returns-2 c =
 
 pub grow-spec : {M : Type 1} → statement M
 grow-spec =
-    tie.close
-    (tie.spec
-    len-of-requires
-    move-slot-requires
-    enum-known-place
-    off-of-requires
-    move-within-requires
-    add-zero-fill
-    sub-zero-fill
-    zero-fill-requires
-    enum-told
-    same-length
-    returns
-    same-length-2
-    returns-2)
+    tie.close (tie.spec (λ c κs. search needs) (λ c κs. search needs) (λ c. search needs) (λ c κs. search needs) move-within-requires add-zero-fill
+    (λ c. search needs) zero-fill-requires (λ c. search needs) (λ c. search needs) returns (λ c. search needs) returns-2)

@@ -43,26 +43,11 @@ inside c =
     let moved = moving c in
     subst (λ (x : Place). Inside x (start (reading (saving moved)) .args .size)) (c .place .given .1) (moved .move-slot .ensures .2)
 
-len-of-requires : tie.Need-len-of-requires
-len-of-requires c κs = search needs
-
-off-of-requires : tie.Need-off-of-requires
-off-of-requires c κs = search needs
-
-slice-aggregate-save : tie.Need-slice-aggregate-save
-slice-aggregate-save c = search needs
-
 save-requires : tie.Need-save-requires
 save-requires c κs =
     let offset = c .before in
     let length = offset .before .before in
     omega (arith, in-page length, offset .off-of .ensures)
-
-move-slot-requires : tie.Need-move-slot-requires
-move-slot-requires c κs = search needs
-
-enum-known-place : tie.Need-enum-known-place
-enum-known-place c = search needs
 
 array-share-prefix-saved : tie.Need-array-share-prefix-saved
 array-share-prefix-saved c =
@@ -78,12 +63,6 @@ fit-in-requires : tie.Need-fit-in-requires
 fit-in-requires c κs =
     let place = c .before .before .before in
     omega (arith, start (reading (saving (moving place))) .pre .0 .whole, inside place)
-
-enum-told : tie.Need-enum-told
-enum-told c = search needs
-
-same-length : tie.Need-same-length
-same-length c = search needs
 
 returns : tie.Need-returns
 returns c =
@@ -104,9 +83,6 @@ returns c =
     (ap givenPlace (sym (at .place .given .1)) ∙ moved .move-slot .ensures .1) (moved .move-slot .ensures .0)
     (filled .fit-in .ensures ∙ rw x)
 
-same-length-2 : tie.Need-same-length-2
-same-length-2 c = search needs
-
 returns-2 : tie.Need-returns-2
 returns-2 c =
     let moved = c .before .before .before .before in
@@ -117,19 +93,5 @@ returns-2 c =
 
 pub grow-packed-spec : {M : Type 1} → statement M
 grow-packed-spec =
-    tie.close
-    (tie.spec
-    len-of-requires
-    off-of-requires
-    slice-aggregate-save
-    save-requires
-    move-slot-requires
-    enum-known-place
-    array-share-prefix-saved
-    slice-aggregate-fit-in
-    fit-in-requires
-    enum-told
-    same-length
-    returns
-    same-length-2
-    returns-2)
+    tie.close (tie.spec (λ c κs. search needs) (λ c κs. search needs) (λ c. search needs) save-requires (λ c κs. search needs) (λ c. search needs)
+    array-share-prefix-saved slice-aggregate-fit-in fit-in-requires (λ c. search needs) (λ c. search needs) returns (λ c. search needs) returns-2)

@@ -5,12 +5,6 @@ use borrow.Author.Needs.{needs}
 use Rattle.page_relocate.proofs.relocation.home_slot.Statement.{statement}
 use Rattle.page_relocate.proofs.relocation.home_slot.Tie as tie
 
-get-free-space-requires : tie.Need-get-free-space-requires
-get-free-space-requires c κs = search needs
-
-same-length : tie.Need-same-length
-same-length c = search needs
-
 returns : tie.Need-returns
 returns c =
     let free = c .before in
@@ -18,12 +12,6 @@ returns c =
     let y = home-none (view (a .page .now)) (a .k) (a .size) (free .get-free-space .result) (a .page .now) (free .get-free-space .ensures .0)
     (c .if1 .taken) in
     (y .0, y .1, tt)
-
-put-under-requires : tie.Need-put-under-requires
-put-under-requires c κs = search needs
-
-same-length-2 : tie.Need-same-length-2
-same-length-2 c = search needs
 
 returns-2 : tie.Need-returns-2
 returns-2 c =
@@ -37,11 +25,4 @@ returns-2 c =
 
 pub home-slot-spec : {M : Type 1} → statement M
 home-slot-spec =
-    tie.close
-    (tie.spec
-    get-free-space-requires
-    same-length
-    returns
-    put-under-requires
-    same-length-2
-    returns-2)
+    tie.close (tie.spec (λ c κs. search needs) (λ c. search needs) returns (λ c κs. search needs) (λ c. search needs) returns-2)

@@ -9,15 +9,6 @@ use Rattle.page_relocate.proofs.relocation.move_slot.Tie as tie
 abbrev entry : tie.After-get-slot → tie.Start
 entry c = c .before .before .before
 
-get-slot-requires : tie.Need-get-slot-requires
-get-slot-requires c κs = search needs
-
-is-free-requires : tie.Need-is-free-requires
-is-free-requires c κs = search needs
-
-same-length : tie.Need-same-length
-same-length c = search needs
-
 returns : tie.Need-returns
 returns c =
     let free = c .before in
@@ -25,15 +16,6 @@ returns c =
     let a = entry slot .args in
     rw (is-free-slot (view (a .page .now)) (a .k) (a .size) (slot .get-slot .result) (slot .get-slot .ensures .0)
     (sym (c .if1 .taken) ∙ free .is-free .ensures)) (refl, refl, tt)
-
-is-record-requires : tie.Need-is-record-requires
-is-record-requires c κs = search needs
-
-resize-slot-requires : tie.Need-resize-slot-requires
-resize-slot-requires c κs = search needs
-
-same-length-2 : tie.Need-same-length-2
-same-length-2 c = search needs
 
 returns-2 : tie.Need-returns-2
 returns-2 c =
@@ -44,12 +26,6 @@ returns-2 c =
     let a = entry slot .args in
     rw (is-record-slot (view (a .page .now)) (a .k) (a .size) (slot .get-slot .result) (slot .get-slot .ensures .0)
     (sym (branch .if2 .taken) ∙ tested .is-record .ensures)) (done .resize-slot .ensures)
-
-home-slot-requires : tie.Need-home-slot-requires
-home-slot-requires c κs = search needs
-
-same-length-3 : tie.Need-same-length-3
-same-length-3 c = search needs
 
 returns-3 : tie.Need-returns-3
 returns-3 c =
@@ -65,16 +41,5 @@ returns-3 c =
 
 pub move-slot-spec : {M : Type 1} → statement M
 move-slot-spec =
-    tie.close
-    (tie.spec
-    get-slot-requires
-    is-free-requires
-    same-length
-    returns
-    is-record-requires
-    resize-slot-requires
-    same-length-2
-    returns-2
-    home-slot-requires
-    same-length-3
-    returns-3)
+    tie.close (tie.spec (λ c κs. search needs) (λ c κs. search needs) (λ c. search needs) returns (λ c κs. search needs) (λ c κs. search needs)
+    (λ c. search needs) returns-2 (λ c κs. search needs) (λ c. search needs) returns-3)

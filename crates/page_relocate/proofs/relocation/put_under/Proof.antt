@@ -7,33 +7,6 @@ use borrow.Author.Needs.{needs}
 use Rattle.page_relocate.proofs.relocation.put_under.Statement.{statement}
 use Rattle.page_relocate.proofs.relocation.put_under.Tie as tie
 
-get-slot-count-requires : tie.Need-get-slot-count-requires
-get-slot-count-requires c κs = search needs
-
-get-first-free-slot-requires : tie.Need-get-first-free-slot-requires
-get-first-free-slot-requires c κs = search needs
-
-get-free-space-requires : tie.Need-get-free-space-requires
-get-free-space-requires c κs = search needs
-
-make-room-requires : tie.Need-make-room-requires
-make-room-requires c κs = search needs
-
-sub-d : tie.Need-sub-d
-sub-d c = search needs
-
-placed-slot-requires : tie.Need-placed-slot-requires
-placed-slot-requires c κs = search needs
-
-sub-commit : tie.Need-sub-commit
-sub-commit c = search needs
-
-commit-requires : tie.Need-commit-requires
-commit-requires c κs = search needs
-
-same-length : tie.Need-same-length
-same-length c = search needs
-
 returns : tie.Need-returns
 returns c =
     let done = c .before .before in
@@ -54,15 +27,5 @@ returns c =
 
 pub put-under-spec : {M : Type 1} → statement M
 put-under-spec =
-    tie.close
-    (tie.spec
-    get-slot-count-requires
-    get-first-free-slot-requires
-    get-free-space-requires
-    make-room-requires
-    sub-d
-    placed-slot-requires
-    sub-commit
-    commit-requires
-    same-length
-    returns)
+    tie.close (tie.spec (λ c κs. search needs) (λ c κs. search needs) (λ c κs. search needs) (λ c κs. search needs) (λ c. search needs)
+    (λ c κs. search needs) (λ c. search needs) (λ c κs. search needs) (λ c. search needs) returns)

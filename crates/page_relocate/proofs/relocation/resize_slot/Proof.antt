@@ -30,12 +30,6 @@ module _ (c : tie.After-off-of) where
   inside : c .off-of .result + c .before .len-of .result ≤ 16384
   inside = omega (arith, start .pre .0 .sound .high (start .args .k), length-is, offset-is)
 
-len-of-requires : tie.Need-len-of-requires
-len-of-requires c κs = search needs
-
-off-of-requires : tie.Need-off-of-requires
-off-of-requires c κs = search needs
-
 returns : tie.Need-returns
 returns c =
     let read = c .before in
@@ -49,9 +43,6 @@ shrink-requires c κs =
     let read = c .before .before .before in
     (start read .pre .0, (start read .pre .1 .0, start read .pre .1 .1, omega (arith, read .before .len-of .ensures)))
 
-same-length : tie.Need-same-length
-same-length c = search needs
-
 returns-2 : tie.Need-returns-2
 returns-2 c =
     let shrunk = c .before .before in
@@ -61,12 +52,6 @@ returns-2 c =
     let y = resize-less (page read) (a .k) (a .size) (read .before .len-of .result) (read .off-of .result) (a .page .now) (shrunk .shrink .last .0)
     (length-is read) (offset-is read) (is-record read) (less .if2 .taken) (shrunk .shrink .ensures) in
     (y .0, y .1, omega (arith, inside read))
-
-get-free-space-requires : tie.Need-get-free-space-requires
-get-free-space-requires c κs = search needs
-
-same-length-2 : tie.Need-same-length-2
-same-length-2 c = search needs
 
 -- a larger size: from the free space back to the length and the offset
 abbrev reading : tie.After-get-free-space → tie.After-off-of
@@ -102,9 +87,6 @@ put-under-requires c κs =
     let park = c .before .before .before in
     (parked park .used, rw (parked park .seen) (omega (arith, length-is (read park))))
 
-same-length-3 : tie.Need-same-length-3
-same-length-3 c = search needs
-
 returns-4 : tie.Need-returns-4
 returns-4 c =
     let under = c .before .before in
@@ -122,18 +104,5 @@ returns-4 c =
 
 pub resize-slot-spec : {M : Type 1} → statement M
 resize-slot-spec =
-    tie.close
-    (tie.spec
-    len-of-requires
-    off-of-requires
-    returns
-    shrink-requires
-    same-length
-    returns-2
-    get-free-space-requires
-    same-length-2
-    returns-3
-    park-requires
-    put-under-requires
-    same-length-3
-    returns-4)
+    tie.close (tie.spec (λ c κs. search needs) (λ c κs. search needs) returns shrink-requires (λ c. search needs) returns-2 (λ c κs. search needs)
+    (λ c. search needs) returns-3 park-requires put-under-requires (λ c. search needs) returns-4)

@@ -21,38 +21,11 @@ inside c =
     let start = entry (first c) in
     omega (arith, start .pre .0 .sound .high (start .args .k), ap len (start .pre .1 .0), ap off (start .pre .1 .0))
 
-get-slot-count-requires : tie.Need-get-slot-count-requires
-get-slot-count-requires c κs = search needs
-
-get-first-free-slot-requires : tie.Need-get-first-free-slot-requires
-get-first-free-slot-requires c κs = search needs
-
-get-data-start-requires : tie.Need-get-data-start-requires
-get-data-start-requires c κs = search needs
-
-get-free-space-requires : tie.Need-get-free-space-requires
-get-free-space-requires c κs = search needs
-
-len-of-requires : tie.Need-len-of-requires
-len-of-requires c κs = search needs
-
-off-of-requires : tie.Need-off-of-requires
-off-of-requires c κs = search needs
-
 placed-slot-requires : tie.Need-placed-slot-requires
 placed-slot-requires c κs = let free = c .before .before in omega (arith, inside free, c .off-of .ensures, entry (first free) .pre .1 .2)
 
-sub-commit : tie.Need-sub-commit
-sub-commit c = search needs
-
 add-commit : tie.Need-add-commit
 add-commit c = let length = c .before .before .before in omega (arith, inside (length .before), length .len-of .ensures)
-
-commit-requires : tie.Need-commit-requires
-commit-requires c κs = search needs
-
-same-length : tie.Need-same-length
-same-length c = search needs
 
 returns : tie.Need-returns
 returns c =
@@ -73,17 +46,5 @@ returns c =
 
 pub shrink-spec : {M : Type 1} → statement M
 shrink-spec =
-    tie.close
-    (tie.spec
-    get-slot-count-requires
-    get-first-free-slot-requires
-    get-data-start-requires
-    get-free-space-requires
-    len-of-requires
-    off-of-requires
-    placed-slot-requires
-    sub-commit
-    add-commit
-    commit-requires
-    same-length
-    returns)
+    tie.close (tie.spec (λ c κs. search needs) (λ c κs. search needs) (λ c κs. search needs) (λ c κs. search needs) (λ c κs. search needs)
+    (λ c κs. search needs) placed-slot-requires (λ c. search needs) add-commit (λ c κs. search needs) (λ c. search needs) returns)

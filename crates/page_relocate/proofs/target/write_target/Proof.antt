@@ -8,24 +8,6 @@ use borrow.Author.Needs.{needs}
 use Rattle.page_relocate.proofs.target.write_target.Statement.{statement}
 use Rattle.page_relocate.proofs.target.write_target.Tie as tie
 
-add-fit-in : tie.Need-add-fit-in
-add-fit-in c = search needs
-
-write-slot-requires : tie.Need-write-slot-requires
-write-slot-requires c κs = search needs
-
-put-u64-requires : tie.Need-put-u64-requires
-put-u64-requires c κs = search needs
-
-add-fit-in-2 : tie.Need-add-fit-in-2
-add-fit-in-2 c = search needs
-
-fit-in-requires : tie.Need-fit-in-requires
-fit-in-requires c κs = search needs
-
-same-length : tie.Need-same-length
-same-length c = search needs
-
 returns : tie.Need-returns
 returns c =
     let filled = c .before .before in
@@ -39,12 +21,5 @@ returns c =
 
 pub write-target-spec : {M : Type 1} → statement M
 write-target-spec =
-    tie.close
-    (tie.spec
-    add-fit-in
-    write-slot-requires
-    put-u64-requires
-    add-fit-in-2
-    fit-in-requires
-    same-length
-    returns)
+    tie.close (tie.spec (λ c. search needs) (λ c κs. search needs) (λ c κs. search needs) (λ c. search needs) (λ c κs. search needs)
+    (λ c. search needs) returns)

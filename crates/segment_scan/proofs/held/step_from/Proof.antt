@@ -7,15 +7,6 @@ use borrow.Author.Needs.{needs}
 use Rattle.segment_scan.proofs.held.step_from.Statement.{statement}
 use Rattle.segment_scan.proofs.held.step_from.Tie as tie
 
-scan-step-requires : tie.Need-scan-step-requires
-scan-step-requires c κs = search needs
-
-page-after-requires : tie.Need-page-after-requires
-page-after-requires c κs = search needs
-
-slot-after-requires : tie.Need-slot-after-requires
-slot-after-requires c κs = search needs
-
 returns : tie.Need-returns
 returns c =
     let page = c .before in
@@ -30,4 +21,4 @@ returns c =
 
 pub step-from-spec : {M : Type 1} → statement M
 step-from-spec =
-    tie.close (tie.spec scan-step-requires page-after-requires slot-after-requires returns)
+    tie.close (tie.spec (λ c κs. search needs) (λ c κs. search needs) (λ c κs. search needs) returns)

@@ -92,12 +92,6 @@ update-on-requires c κs =
     let z = entry (there .before .before .before) in
     told-asks (now (z .args .segment)) _ _ _ _ _ (moved-here there) (now (z .args .inventory)) (z .pre .0)
 
-same-length : tie.Need-same-length
-same-length c = search needs
-
-same-length-2 : tie.Need-same-length-2
-same-length-2 c = search needs
-
 returns : tie.Need-returns
 returns c =
     let updated = c .before .before in
@@ -107,14 +101,8 @@ returns c =
     by-page (now (a .segment)) (now (a .inventory)) (a .id) (a .size) (fit (a .size)) (a .offset) (a .n)
     (tried .resize-on .last .0) _ (moved-here there) (updated .update-on .ensures)
 
-mul-save : tie.Need-mul-save
-mul-save c = search needs
-
 add-save : tie.Need-add-save
 add-save c = omega (arith, in-page (entry (c .before .before .before .before)) .1)
-
-slice-aggregate-save : tie.Need-slice-aggregate-save
-slice-aggregate-save c = search needs
 
 save-requires : tie.Need-save-requires
 save-requires c κs =
@@ -143,12 +131,6 @@ forward-requires c κs =
     subst (λ (l : List ℕ). Sizes l (now (a .inventory)) × (TakenOn l (pageNo (a .id)) (slotNo (a .id)) × (a .size ≤ 16364)))
     (sym (same-here refused)) (z .pre .0, (taken, z .pre .1 .1))
 
-same-length-3 : tie.Need-same-length-3
-same-length-3 c = search needs
-
-same-length-4 : tie.Need-same-length-4
-same-length-4 c = search needs
-
 returns-2 : tie.Need-returns-2
 returns-2 c =
     let sent = c .before .before .before .before in
@@ -162,20 +144,6 @@ returns-2 c =
 
 pub resize-ordinary-spec : {M : Type 1} → statement M
 resize-ordinary-spec =
-    tie.close
-    (tie.spec
-    resize-on-requires
-    update-on-requires
-    same-length
-    same-length-2
-    returns
-    mul-save
-    add-save
-    slice-aggregate-save
-    save-requires
-    array-share-prefix-old
-    slice-aggregate-forward
-    forward-requires
-    same-length-3
-    same-length-4
+    tie.close (tie.spec resize-on-requires update-on-requires (λ c. search needs) (λ c. search needs) returns (λ c. search needs) add-save
+    (λ c. search needs) save-requires array-share-prefix-old slice-aggregate-forward forward-requires (λ c. search needs) (λ c. search needs)
     returns-2)

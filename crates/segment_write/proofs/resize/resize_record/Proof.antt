@@ -32,27 +32,12 @@ short c = omega (arith, c .before .before .if2 .left)
 root-here : (c : tie.After-root-of) (x : Root) → c .root-of .result ≡ x → let a = start c .args in rootOf (segView (now (a .segment))) (a .id) ≡ x
 root-here c x e = sym (c .root-of .ensures) ∙ e
 
-sizes-ok-requires : tie.Need-sizes-ok-requires
-sizes-ok-requires c κs = search needs
-
-same-length : tie.Need-same-length
-same-length c = search needs
-
-same-length-2 : tie.Need-same-length-2
-same-length-2 c = search needs
-
 returns : tie.Need-returns
 returns c =
     let a = entry (c .before) .args in
     let s = now (a .segment) in
     let v = now (a .inventory) in
     step-size s v (a .id) (a .size) (fit (a .size)) (sym (c .before .sizes-ok .ensures) ∙ not-true _ (c .if1 .taken)) ∙ resize-is s v (a .id) (a .size)
-
-same-length-3 : tie.Need-same-length-3
-same-length-3 c = search needs
-
-same-length-4 : tie.Need-same-length-4
-same-length-4 c = search needs
 
 returns-2 : tie.Need-returns-2
 returns-2 c =
@@ -61,18 +46,6 @@ returns-2 c =
     let v = now (a .inventory) in
     step-long s v (a .id) (a .size) (fit (a .size)) (sizes-here (c .before)) (omega (arith, c .if2 .taken)) ∙ resize-is s v (a .id) (a .size)
 
-root-of-requires : tie.Need-root-of-requires
-root-of-requires c κs = search needs
-
-enum-told : tie.Need-enum-told
-enum-told c = search needs
-
-enum-told-2 : tie.Need-enum-told-2
-enum-told-2 c = search needs
-
-enum-known-root : tie.Need-enum-known-root
-enum-known-root c = search needs
-
 resize-slot-requires : tie.Need-resize-slot-requires
 resize-slot-requires c κs =
     let told = c .before .before .before in
@@ -80,12 +53,6 @@ resize-slot-requires c κs =
     let a = start root .args in
     let s = now (a .segment) in
     (sizes s (now (a .inventory)) (sizes-here (root .before .before .before)), (root-is s (a .id) _ (root-here root _ (told .root .given .1)), short root))
-
-same-length-5 : tie.Need-same-length-5
-same-length-5 c = search needs
-
-same-length-6 : tie.Need-same-length-6
-same-length-6 c = search needs
 
 returns-3 : tie.Need-returns-3
 returns-3 c =
@@ -96,12 +63,6 @@ returns-3 c =
     step-past s v (a .id) (a .size) (fit (a .size)) (sizes-here (root .before .before .before)) (short root) (root-here root _ (c .enum-told .given .1))
     ∙ resize-is s v (a .id) (a .size)
 
-same-length-7 : tie.Need-same-length-7
-same-length-7 c = search needs
-
-same-length-8 : tie.Need-same-length-8
-same-length-8 c = search needs
-
 returns-4 : tie.Need-returns-4
 returns-4 c =
     let root = c .before .before in
@@ -110,12 +71,6 @@ returns-4 c =
     let v = now (a .inventory) in
     step-damaged s v (a .id) (a .size) (fit (a .size)) (sizes-here (root .before .before .before)) (short root) (root-here root _ (c .enum-told2 .given .1))
     ∙ resize-is s v (a .id) (a .size)
-
-same-length-9 : tie.Need-same-length-9
-same-length-9 c = search needs
-
-same-length-10 : tie.Need-same-length-10
-same-length-10 c = search needs
 
 returns-5 : tie.Need-returns-5
 returns-5 c =
@@ -131,26 +86,6 @@ returns-5 c =
 
 pub resize-record-spec : {M : Type 1} → statement M
 resize-record-spec =
-    tie.close
-    (tie.spec
-    sizes-ok-requires
-    same-length
-    same-length-2
-    returns
-    same-length-3
-    same-length-4
-    returns-2
-    root-of-requires
-    enum-told
-    enum-told-2
-    enum-known-root
-    resize-slot-requires
-    same-length-5
-    same-length-6
-    returns-3
-    same-length-7
-    same-length-8
-    returns-4
-    same-length-9
-    same-length-10
-    returns-5)
+    tie.close (tie.spec (λ c κs. search needs) (λ c. search needs) (λ c. search needs) returns (λ c. search needs) (λ c. search needs) returns-2
+    (λ c κs. search needs) (λ c. search needs) (λ c. search needs) (λ c. search needs) resize-slot-requires (λ c. search needs) (λ c. search needs)
+    returns-3 (λ c. search needs) (λ c. search needs) returns-4 (λ c. search needs) (λ c. search needs) returns-5)

@@ -11,35 +11,17 @@ use Rattle.segment_write.proofs.resize.resize_slot.Tie as tie
 abbrev entry : tie.After-slice-known2 → tie.Start
 entry c = c .before .before
 
-enum-known-slot : tie.Need-enum-known-slot
-enum-known-slot c = search needs
-
 resize-ordinary-requires : tie.Need-resize-ordinary-requires
 resize-ordinary-requires c κs =
     let told = c .before .before .before in
     let z = entry (told .before .before) in
     (z .pre .0, (subst (RootIs (now (z .args .segment)) (z .args .id)) (told .slot .given .1) (z .pre .1 .0), z .pre .1 .1))
 
-enum-told : tie.Need-enum-told
-enum-told c = search needs
-
-enum-known-slot-2 : tie.Need-enum-known-slot-2
-enum-known-slot-2 c = search needs
-
 resize-forwarded-requires : tie.Need-resize-forwarded-requires
 resize-forwarded-requires c κs =
     let told = c .before .before .before in
     let z = entry (told .before .before) in
     (z .pre .0, (subst (RootIs (now (z .args .segment)) (z .args .id)) (told .slot2 .given .1) (z .pre .1 .0), z .pre .1 .1))
-
-enum-told-2 : tie.Need-enum-told-2
-enum-told-2 c = search needs
-
-same-length : tie.Need-same-length
-same-length c = search needs
-
-same-length-2 : tie.Need-same-length-2
-same-length-2 c = search needs
 
 returns : tie.Need-returns
 returns c =
@@ -56,12 +38,6 @@ returns-2 c =
     let s = now (a .segment) in
     let v = now (a .inventory) in
     by-free s v (a .id) (a .size) (fit (a .size)) ∙ by-entry s v (a .id) (a .size) (fit (a .size)) (a .slot) _ (c .enum-told .given .1)
-
-same-length-3 : tie.Need-same-length-3
-same-length-3 c = search needs
-
-same-length-4 : tie.Need-same-length-4
-same-length-4 c = search needs
 
 returns-3 : tie.Need-returns-3
 returns-3 c =
@@ -81,19 +57,5 @@ returns-4 c =
 
 pub resize-slot-spec : {M : Type 1} → statement M
 resize-slot-spec =
-    tie.close
-    (tie.spec
-    enum-known-slot
-    resize-ordinary-requires
-    enum-told
-    enum-known-slot-2
-    resize-forwarded-requires
-    enum-told-2
-    same-length
-    same-length-2
-    returns
-    returns-2
-    same-length-3
-    same-length-4
-    returns-3
-    returns-4)
+    tie.close (tie.spec (λ c. search needs) resize-ordinary-requires (λ c. search needs) (λ c. search needs) resize-forwarded-requires
+    (λ c. search needs) (λ c. search needs) (λ c. search needs) returns returns-2 (λ c. search needs) (λ c. search needs) returns-3 returns-4)

@@ -31,17 +31,8 @@ slot-on-requires c κs =
     let z = c .before .before in
     (z .pre .0 .whole, few-slots (now (z .args .segment)) (pageNo (z .args .t)) (z .pre .0 .whole) (z .pre .0 .sound))
 
-len-of-requires : tie.Need-len-of-requires
-len-of-requires c κs = search needs
-
 sub-n : tie.Need-sub-n
 sub-n c = let i = inside (c .before) in omega (arith, c .len-of .ensures, i .0)
-
-mul-at : tie.Need-mul-at
-mul-at c = search needs
-
-off-of-requires : tie.Need-off-of-requires
-off-of-requires c κs = search needs
 
 add-at : tie.Need-add-at
 add-at c =
@@ -62,9 +53,6 @@ save-requires c κs =
       omega (arith, offset .off-of .ensures, length .len-of .ensures, inside slot .0, inside slot .1, z .pre .0 .whole),
       omega (arith, length .len-of .ensures, inside slot .1, z .pre .1 .1),
     )
-
-same-length : tie.Need-same-length
-same-length c = search needs
 
 returns : tie.Need-returns
 returns c =
@@ -88,15 +76,5 @@ returns c =
 
 pub save-target-spec : {M : Type 1} → statement M
 save-target-spec =
-    tie.close
-    (tie.spec
-    slot-on-requires
-    len-of-requires
-    sub-n
-    mul-at
-    off-of-requires
-    add-at
-    add-at-2
-    save-requires
-    same-length
-    returns)
+    tie.close (tie.spec slot-on-requires (λ c κs. search needs) sub-n (λ c. search needs) (λ c κs. search needs) add-at add-at-2 save-requires
+    (λ c. search needs) returns)

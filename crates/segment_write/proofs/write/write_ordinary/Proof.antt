@@ -49,20 +49,11 @@ same-here c =
     unmoved s p k (z .pre .1 .0) (length bs) (fit (length bs) bs)
     (step .last .0) (step .ensures .0) (step .result) (step .ensures .1) (c .if1 .left)
 
-rewrite-on-requires : tie.Need-rewrite-on-requires
-rewrite-on-requires c κs = search needs
-
 update-on-requires : tie.Need-update-on-requires
 update-on-requires c κs =
     let there = c .before .before in
     let z = entry (there .before .before .before) in
     told-asks (now (z .args .segment)) _ _ _ _ _ (moved-here there) (now (z .args .inventory)) (z .pre .0)
-
-same-length : tie.Need-same-length
-same-length c = search needs
-
-same-length-2 : tie.Need-same-length-2
-same-length-2 c = search needs
 
 returns : tie.Need-returns
 returns c =
@@ -82,12 +73,6 @@ forward-requires c κs =
     subst (λ (l : List ℕ). Sizes l (now (a .inventory)) × (TakenOn l (pageNo (a .id)) (slotNo (a .id)) × (length (now (a .bytes)) ≤ 16364)))
     (sym (same-here refused)) (z .pre .0, (z .pre .1 .0, z .pre .1 .1 .1))
 
-same-length-3 : tie.Need-same-length-3
-same-length-3 c = search needs
-
-same-length-4 : tie.Need-same-length-4
-same-length-4 c = search needs
-
 returns-2 : tie.Need-returns-2
 returns-2 c =
     let sent = c .before .before .before .before in
@@ -100,14 +85,5 @@ returns-2 c =
 
 pub write-ordinary-spec : {M : Type 1} → statement M
 write-ordinary-spec =
-    tie.close
-    (tie.spec
-    rewrite-on-requires
-    update-on-requires
-    same-length
-    same-length-2
-    returns
-    forward-requires
-    same-length-3
-    same-length-4
-    returns-2)
+    tie.close (tie.spec (λ c κs. search needs) update-on-requires (λ c. search needs) (λ c. search needs) returns forward-requires (λ c. search needs)
+    (λ c. search needs) returns-2)

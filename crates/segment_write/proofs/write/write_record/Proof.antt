@@ -32,15 +32,6 @@ short c = omega (arith, c .before .before .if2 .left)
 root-here : (c : tie.After-root-of) (x : Root) → c .root-of .result ≡ x → let a = start c .args in rootOf (segView (now (a .segment))) (a .id) ≡ x
 root-here c x e = sym (c .root-of .ensures) ∙ e
 
-sizes-ok-requires : tie.Need-sizes-ok-requires
-sizes-ok-requires c κs = search needs
-
-same-length : tie.Need-same-length
-same-length c = search needs
-
-same-length-2 : tie.Need-same-length-2
-same-length-2 c = search needs
-
 returns : tie.Need-returns
 returns c =
     let a = entry (c .before) .args in
@@ -48,12 +39,6 @@ returns c =
     let v = now (a .inventory) in
     let bs = now (a .bytes) in
     step-size s v (a .id) (length bs) (λ old. bs) (sym (c .before .sizes-ok .ensures) ∙ not-true _ (c .if1 .taken)) ∙ write-is s v (a .id) bs
-
-same-length-3 : tie.Need-same-length-3
-same-length-3 c = search needs
-
-same-length-4 : tie.Need-same-length-4
-same-length-4 c = search needs
 
 returns-2 : tie.Need-returns-2
 returns-2 c =
@@ -63,18 +48,6 @@ returns-2 c =
     let bs = now (a .bytes) in
     step-long s v (a .id) (length bs) (λ old. bs) (sizes-here (c .before)) (omega (arith, c .if2 .taken)) ∙ write-is s v (a .id) bs
 
-root-of-requires : tie.Need-root-of-requires
-root-of-requires c κs = search needs
-
-enum-told : tie.Need-enum-told
-enum-told c = search needs
-
-enum-told-2 : tie.Need-enum-told-2
-enum-told-2 c = search needs
-
-enum-known-root : tie.Need-enum-known-root
-enum-known-root c = search needs
-
 write-slot-requires : tie.Need-write-slot-requires
 write-slot-requires c κs =
     let told = c .before .before .before in
@@ -82,12 +55,6 @@ write-slot-requires c κs =
     let a = start root .args in
     let s = now (a .segment) in
     (sizes s (now (a .inventory)) (sizes-here (root .before .before .before)), (root-is s (a .id) _ (root-here root _ (told .root .given .1)), short root))
-
-same-length-5 : tie.Need-same-length-5
-same-length-5 c = search needs
-
-same-length-6 : tie.Need-same-length-6
-same-length-6 c = search needs
 
 returns-3 : tie.Need-returns-3
 returns-3 c =
@@ -99,12 +66,6 @@ returns-3 c =
     step-past s v (a .id) (length bs) (λ old. bs) (sizes-here (root .before .before .before)) (short root) (root-here root _ (c .enum-told .given .1))
     ∙ write-is s v (a .id) bs
 
-same-length-7 : tie.Need-same-length-7
-same-length-7 c = search needs
-
-same-length-8 : tie.Need-same-length-8
-same-length-8 c = search needs
-
 returns-4 : tie.Need-returns-4
 returns-4 c =
     let root = c .before .before in
@@ -114,12 +75,6 @@ returns-4 c =
     let bs = now (a .bytes) in
     step-damaged s v (a .id) (length bs) (λ old. bs) (sizes-here (root .before .before .before)) (short root) (root-here root _ (c .enum-told2 .given .1))
     ∙ write-is s v (a .id) bs
-
-same-length-9 : tie.Need-same-length-9
-same-length-9 c = search needs
-
-same-length-10 : tie.Need-same-length-10
-same-length-10 c = search needs
 
 returns-5 : tie.Need-returns-5
 returns-5 c =
@@ -136,26 +91,6 @@ returns-5 c =
 
 pub write-record-spec : {M : Type 1} → statement M
 write-record-spec =
-    tie.close
-    (tie.spec
-    sizes-ok-requires
-    same-length
-    same-length-2
-    returns
-    same-length-3
-    same-length-4
-    returns-2
-    root-of-requires
-    enum-told
-    enum-told-2
-    enum-known-root
-    write-slot-requires
-    same-length-5
-    same-length-6
-    returns-3
-    same-length-7
-    same-length-8
-    returns-4
-    same-length-9
-    same-length-10
-    returns-5)
+    tie.close (tie.spec (λ c κs. search needs) (λ c. search needs) (λ c. search needs) returns (λ c. search needs) (λ c. search needs) returns-2
+    (λ c κs. search needs) (λ c. search needs) (λ c. search needs) (λ c. search needs) write-slot-requires (λ c. search needs) (λ c. search needs)
+    returns-3 (λ c. search needs) (λ c. search needs) returns-4 (λ c. search needs) (λ c. search needs) returns-5)

@@ -13,9 +13,6 @@ use Rattle.segment_write.proofs.write.write_slot.Tie as tie
 abbrev entry : tie.After-shared-slice-known → tie.Start
 entry c = c .before .before .before
 
-enum-told : tie.Need-enum-told
-enum-told c = search needs
-
 write-ordinary-requires : tie.Need-write-ordinary-requires
 write-ordinary-requires c κs =
     let told = c .before .before in
@@ -26,26 +23,11 @@ write-ordinary-requires c κs =
       (root-taken (now (a .segment)) (a .id) (a .slot) (z .pre .1 .0) (ap isFree e), (ap isTarget (z .pre .1 .0 .entry ∙ e), z .pre .1 .1)),
     )
 
-enum-told-2 : tie.Need-enum-told-2
-enum-told-2 c = search needs
-
-enum-known-slot : tie.Need-enum-known-slot
-enum-known-slot c = search needs
-
 write-forwarded-requires : tie.Need-write-forwarded-requires
 write-forwarded-requires c κs =
     let told = c .before .before .before in
     let z = entry (told .before .before) in
     (z .pre .0, (subst (RootIs (now (z .args .segment)) (z .args .id)) (told .slot .given .1) (z .pre .1 .0), z .pre .1 .1))
-
-enum-told-3 : tie.Need-enum-told-3
-enum-told-3 c = search needs
-
-same-length : tie.Need-same-length
-same-length c = search needs
-
-same-length-2 : tie.Need-same-length-2
-same-length-2 c = search needs
 
 returns : tie.Need-returns
 returns c =
@@ -64,12 +46,6 @@ returns-2 c =
     let v = now (a .inventory) in
     let bs = now (a .bytes) in
     by-free s v (a .id) (length bs) (λ old. bs) ∙ by-entry s v (a .id) (length bs) (λ old. bs) (a .slot) _ (c .enum-told2 .given .1)
-
-same-length-3 : tie.Need-same-length-3
-same-length-3 c = search needs
-
-same-length-4 : tie.Need-same-length-4
-same-length-4 c = search needs
 
 returns-3 : tie.Need-returns-3
 returns-3 c =
@@ -91,19 +67,5 @@ returns-4 c =
 
 pub write-slot-spec : {M : Type 1} → statement M
 write-slot-spec =
-    tie.close
-    (tie.spec
-    enum-told
-    write-ordinary-requires
-    enum-told-2
-    enum-known-slot
-    write-forwarded-requires
-    enum-told-3
-    same-length
-    same-length-2
-    returns
-    returns-2
-    same-length-3
-    same-length-4
-    returns-3
-    returns-4)
+    tie.close (tie.spec (λ c. search needs) write-ordinary-requires (λ c. search needs) (λ c. search needs) write-forwarded-requires
+    (λ c. search needs) (λ c. search needs) (λ c. search needs) returns returns-2 (λ c. search needs) (λ c. search needs) returns-3 returns-4)

@@ -14,20 +14,11 @@ entry c = c .before .before .before
 abbrev page-lent : tie.After-is-fresh → List ℕ
 page-lent c = entry c .args .page .now
 
-is-fresh-requires : tie.Need-is-fresh-requires
-is-fresh-requires c κs = search needs
-
-initialize-requires : tie.Need-initialize-requires
-initialize-requires c κs = search needs
-
 reserve-requires : tie.Need-reserve-requires
 reserve-requires c κs =
     let init = c .before .before .before in
     let test = init .before .before .before in
     (init-sound (page-lent test) (init .initialize .last .0) (entry test .pre .0) (init .initialize .ensures), omega arith)
-
-same-length : tie.Need-same-length
-same-length c = search needs
 
 returns : tie.Need-returns
 returns c =
@@ -48,9 +39,6 @@ reserve-requires-2 c κs =
     let start = entry test in
     (used-sound (page-lent test) (sym (test .is-fresh .ensures) ∙ branch .if1 .left) (start .pre .0) (start .pre .1), omega arith)
 
-same-length-2 : tie.Need-same-length-2
-same-length-2 c = search needs
-
 returns-2 : tie.Need-returns-2
 returns-2 c =
     let made = c .before .before in
@@ -62,13 +50,5 @@ returns-2 c =
 
 pub allocate-spec : {M : Type 1} → statement M
 allocate-spec =
-    tie.close
-    (tie.spec
-    is-fresh-requires
-    initialize-requires
-    reserve-requires
-    same-length
-    returns
-    reserve-requires-2
-    same-length-2
-    returns-2)
+    tie.close (tie.spec (λ c κs. search needs) (λ c κs. search needs) reserve-requires (λ c. search needs) returns reserve-requires-2
+    (λ c. search needs) returns-2)

@@ -19,38 +19,8 @@ entry c = count (c .before .before .before .before) .before .before .before
 inside : (c : tie.After-get-slot) → len (c .get-slot .result) ≤ 16384
 inside c = let start = entry c in omega (arith, start .pre .sound .high (start .args .k), ap len (c .get-slot .ensures .0))
 
-get-slot-count-requires : tie.Need-get-slot-count-requires
-get-slot-count-requires c κs = search needs
-
-get-first-free-slot-requires : tie.Need-get-first-free-slot-requires
-get-first-free-slot-requires c κs = search needs
-
-get-data-start-requires : tie.Need-get-data-start-requires
-get-data-start-requires c κs = search needs
-
-get-free-space-requires : tie.Need-get-free-space-requires
-get-free-space-requires c κs = search needs
-
-get-slot-requires : tie.Need-get-slot-requires
-get-slot-requires c κs = search needs
-
-len-of-requires : tie.Need-len-of-requires
-len-of-requires c κs = search needs
-
-off-of-requires : tie.Need-off-of-requires
-off-of-requires c κs = search needs
-
 start-without-requires : tie.Need-start-without-requires
 start-without-requires c κs = let slot = c .before .before in omega (arith, inside slot, entry slot .pre .sound .sums)
-
-pruned-by-requires : tie.Need-pruned-by-requires
-pruned-by-requires c κs = search needs
-
-sub-set-header : tie.Need-sub-set-header
-sub-set-header c = search needs
-
-lower-requires : tie.Need-lower-requires
-lower-requires c κs = search needs
 
 -- where the header is written, back to the slot that was read
 abbrev read : tie.After-lower → tie.After-get-slot
@@ -59,20 +29,8 @@ read c = let pruned = c .before .before in pruned .before .before .before .befor
 add-set-header : tie.Need-add-set-header
 add-set-header c = omega (arith, inside (read c), entry (read c) .pre .sound .sums)
 
-mul-set-header : tie.Need-mul-set-header
-mul-set-header c = search needs
-
 add-set-header-2 : tie.Need-add-set-header-2
 add-set-header-2 c = omega (arith, inside (read c), entry (read c) .pre .sound .sums)
-
-set-header-requires : tie.Need-set-header-requires
-set-header-requires c κs = search needs
-
-write-slot-requires : tie.Need-write-slot-requires
-write-slot-requires c κs = search needs
-
-same-length : tie.Need-same-length
-same-length c = search needs
 
 returns : tie.Need-returns
 returns c =
@@ -102,23 +60,6 @@ returns c =
 
 pub erase-spec : {M : Type 1} → statement M
 erase-spec =
-    tie.close
-    (tie.spec
-    get-slot-count-requires
-    get-first-free-slot-requires
-    get-data-start-requires
-    get-free-space-requires
-    get-slot-requires
-    len-of-requires
-    off-of-requires
-    start-without-requires
-    pruned-by-requires
-    sub-set-header
-    lower-requires
-    add-set-header
-    mul-set-header
-    add-set-header-2
-    set-header-requires
-    write-slot-requires
-    same-length
-    returns)
+    tie.close (tie.spec (λ c κs. search needs) (λ c κs. search needs) (λ c κs. search needs) (λ c κs. search needs) (λ c κs. search needs)
+    (λ c κs. search needs) (λ c κs. search needs) start-without-requires (λ c κs. search needs) (λ c. search needs) (λ c κs. search needs)
+    add-set-header (λ c. search needs) add-set-header-2 (λ c κs. search needs) (λ c κs. search needs) (λ c. search needs) returns)

@@ -19,41 +19,11 @@ entry c = count (c .before .before .before .before) .before .before .before
 inside : (c : tie.After-get-slot) → len (c .get-slot .result) ≤ 16384
 inside c = let start = entry c in omega (arith, start .pre .0 .sound .high (start .args .k), ap len (c .get-slot .ensures .0))
 
-get-slot-count-requires : tie.Need-get-slot-count-requires
-get-slot-count-requires c κs = search needs
-
-get-first-free-slot-requires : tie.Need-get-first-free-slot-requires
-get-first-free-slot-requires c κs = search needs
-
-get-data-start-requires : tie.Need-get-data-start-requires
-get-data-start-requires c κs = search needs
-
-get-free-space-requires : tie.Need-get-free-space-requires
-get-free-space-requires c κs = search needs
-
-get-slot-requires : tie.Need-get-slot-requires
-get-slot-requires c κs = search needs
-
-len-of-requires : tie.Need-len-of-requires
-len-of-requires c κs = search needs
-
-off-of-requires : tie.Need-off-of-requires
-off-of-requires c κs = search needs
-
 start-without-requires : tie.Need-start-without-requires
 start-without-requires c κs = omega (arith, inside (c .before .before))
 
 add-set-header : tie.Need-add-set-header
 add-set-header c = omega (arith, inside (c .before .before .before .before))
-
-set-header-requires : tie.Need-set-header-requires
-set-header-requires c κs = search needs
-
-write-slot-requires : tie.Need-write-slot-requires
-write-slot-requires c κs = search needs
-
-same-length : tie.Need-same-length
-same-length c = search needs
 
 returns : tie.Need-returns
 returns c =
@@ -81,18 +51,6 @@ returns c =
 
 pub erase-for-redirect-spec : {M : Type 1} → statement M
 erase-for-redirect-spec =
-    tie.close
-    (tie.spec
-    get-slot-count-requires
-    get-first-free-slot-requires
-    get-data-start-requires
-    get-free-space-requires
-    get-slot-requires
-    len-of-requires
-    off-of-requires
-    start-without-requires
-    add-set-header
-    set-header-requires
-    write-slot-requires
-    same-length
-    returns)
+    tie.close (tie.spec (λ c κs. search needs) (λ c κs. search needs) (λ c κs. search needs) (λ c κs. search needs) (λ c κs. search needs)
+    (λ c κs. search needs) (λ c κs. search needs) start-without-requires add-set-header (λ c κs. search needs) (λ c κs. search needs)
+    (λ c. search needs) returns)

@@ -64,18 +64,5 @@ returns-2 c =
 
 pub free-below-spec : {M : Type 1} → statement M
 free-below-spec =
-    tie.close
-    (tie.spec
-    Inv-loop
-    μ-loop
-    loop-holds
-    sub-get-slot
-    get-slot-requires
-    is-free-requires
-    sub-j
-    loop-less
-    loop-again
-    sub-result
-    returns
-    sub-result-2
-    returns-2)
+    tie.close (tie.spec Inv-loop μ-loop loop-holds sub-get-slot get-slot-requires is-free-requires sub-j loop-less loop-again sub-result
+    returns sub-result-2 returns-2)
