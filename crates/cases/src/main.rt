@@ -2,17 +2,19 @@
 // document says, written by hand.
 mod show;
 
+use store::PAGE_SIZE;
+
 // A case on a fresh page: its title, and its lines.
 fn one_page(title: &[u8], letters: &[u8], numbers: &[u64]) {
-    let mut segment = [0u8; 16384];
-    let mut inventory = [0u8; 16384];
+    let mut segment = [0u8; PAGE_SIZE];
+    let mut inventory = [0u8; PAGE_SIZE];
     print::say(title);
     show::play(&mut segment, &mut inventory, letters, numbers);
 }
 
 fn three_pages(title: &[u8], letters: &[u8], numbers: &[u64]) {
-    let mut segment = [0u8; 49152];
-    let mut inventory = [0u8; 16384];
+    let mut segment = [0u8; 3 * PAGE_SIZE];
+    let mut inventory = [0u8; PAGE_SIZE];
     print::say(title);
     show::play(&mut segment, &mut inventory, letters, numbers);
 }

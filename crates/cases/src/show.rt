@@ -3,6 +3,8 @@ use print::end_line;
 use print::least;
 use print::named;
 use print::say;
+use store::IDS_A_PAGE;
+use store::PAGE_SIZE;
 
 fn print_insert(length: usize, answer: u64, made: u64) {
     named(b"  insert ", length as u64);
@@ -59,14 +61,14 @@ fn get(segment: &[u8], i: u64) {
     let mut length: u64 = 0;
     let answer = hekatosuy::hk_get_record(segment, i, &mut offset, &mut length);
     print_answer(b"  read ", i, answer);
-    named(b" on page ", offset / 16384);
-    named(b" at ", offset % 16384);
+    named(b" on page ", offset / PAGE_SIZE as u64);
+    named(b" at ", offset % PAGE_SIZE as u64);
     named(b" of ", length);
     end_line();
 }
 
 fn print_header(page: &[u8]) {
-    if page.len() != 16384 {
+    if page.len() != PAGE_SIZE {
         return;
     }
     named(b"  count ", layout::header::get_slot_count(page) as u64);
@@ -85,7 +87,7 @@ fn print_header(page: &[u8]) {
 // The header of the page that begins at an offset.
 fn page(segment: &[u8], offset: usize) {
     let at = least(offset, segment.len());
-    let e = at + least(16384, segment.len() - at);
+    let e = at + least(PAGE_SIZE, segment.len() - at);
     print_header(&segment[at..e]);
 }
 
@@ -94,7 +96,7 @@ fn page(segment: &[u8], offset: usize) {
 fn perform(segment: &mut [u8], inventory: &mut [u8], letter: u8, n: u64) {
     match letter {
         b'I' => insert(segment, inventory, n as usize),
-        b'W' => write(segment, inventory, 65536, n as usize),
+        b'W' => write(segment, inventory, IDS_A_PAGE as u64, n as usize),
         b'E' => erase(segment, inventory, n),
         b'R' => get(segment, n),
         _ => page(segment, n as usize),

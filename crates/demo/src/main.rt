@@ -2,6 +2,7 @@
 mod map;
 
 use print::say;
+use store::PAGE_SIZE;
 
 fn insert_row(segment: &mut [u8], inventory: &mut [u8], y: usize) {
     let mut row = [0u8; 41];
@@ -19,8 +20,8 @@ fn insert_map(segment: &mut [u8], inventory: &mut [u8]) {
 }
 
 fn main() {
-    let mut segment = [0u8; 32768];
-    let mut inventory = [0u8; 16384];
+    let mut segment = [0u8; 2 * PAGE_SIZE];
+    let mut inventory = [0u8; PAGE_SIZE];
     say(b"An archive of two empty pages. The rows of a fringe map go in:\n");
     insert_map(&mut segment, &mut inventory);
     say(b"What a scan of the archive lists:\n");

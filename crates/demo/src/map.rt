@@ -1,4 +1,4 @@
-// A fringe map, in print: a row for each height, a byte for each place on it.
+// A fringe map, in print: a row for each height, a byte for each point of it.
 ghost use Prim.Native.Nat.{_<_};
 
 // How far a is from b.

@@ -2,12 +2,13 @@
 // its id, and its length. Last comes `end` and the number of records, or `refused` and the answer's number.
 use print::end_line;
 use print::named;
+use store::IDS_A_PAGE;
 use store::Step;
 ghost use Prim.Native.Nat.{_<_};
 
 fn print_record(id: u64, length: u64) {
-    print::number(id / 65536);
-    named(b" ", id % 65536);
+    print::number(id / IDS_A_PAGE as u64);
+    named(b" ", id % IDS_A_PAGE as u64);
     named(b" ", length);
     end_line();
 }

@@ -15,7 +15,7 @@ pub struct Run {
     pub size: usize,
 }
 
-// A slot that takes no bytes leaves the lowest place where it was.
+// A slot that takes no bytes leaves the lowest offset as it was.
 fn no_bytes(fits: bool, low: usize) -> Run
     ensures { λ r. ⌜ (r .fits ≡ fits) × (r .start ≡ low) × (r .size ≡ 0) ⌝ }
 {

@@ -2,6 +2,7 @@
 // given that each call of C's `write` returns. No contract can say what is written: that is seen by running a program, which is held to
 // its file `stdout`. A `write` that fails is passed over.
 use libc::STDOUT_FILENO;
+use store::IDS_A_PAGE;
 ghost use mathlib.Core.Path.{_≡_};
 ghost use Prim.Native.Nat.{_≤_, min};
 
@@ -22,8 +23,8 @@ pub fn named(name: &[u8], n: u64) {
 
 // An id as its page and slot.
 pub fn id(id: u64) {
-    named(b"(", id / 65536);
-    named(b",", id % 65536);
+    named(b"(", id / IDS_A_PAGE as u64);
+    named(b",", id % IDS_A_PAGE as u64);
     say(b")");
 }
 

@@ -70,8 +70,8 @@ module _ (s v : List ℕ) where
         away = back-ok s i j back .2
 
         -- the root's step did not touch the target's page
-        pub target-taken : TakenOn t (pageNo j) (slotNo j)
-        target-taken =
+        pub still-taken : TakenOn t (pageNo j) (slotNo j)
+        still-taken =
             let h = back-taken s i j back in
             let e = erasing s i in
             record {

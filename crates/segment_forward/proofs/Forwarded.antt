@@ -33,7 +33,7 @@ use Rattle.segment_moves.proofs.Moved.{target-on-page}
 use Rattle.segment_moves.proofs.Moved.{for-redirect-on-page, redirect-on-page, target-length}
 use Rattle.segment_pages.proofs.Root.{root-sound}
 use Rattle.segment_forward.specs.Words.{Follows, rootOrOld, newTarget}
-use Rattle.segment_forward.proofs.Steps.{taken-still, two-length, first-left, two-swapped, three-swapped, BothLeft, told-both}
+use Rattle.segment_forward.proofs.Steps.{taken-still, two-length, first-left, carried-two, carried-three, BothLeft, told-both}
 use Rattle.segment_forward.proofs.Steps.{oldStep, old-away, old-taken, old-exact}
 use Rattle.segment_forward.proofs.Search.{got-small, placing}
 
@@ -179,7 +179,7 @@ module _ (s : List ℕ) (i : ℕ) (bs : List ℕ) (j : ℕ) (f : Found) (k : ℕ
         → outcome (answer.Done i) r y ≡ result s (forwarded (segView s) v i n (λ b. bs) [] f)
     unfolding result forward-left
     forward-done v n w y ew ey =
-        let h = two-swapped s newStep rootStep t r (o .took) root-took (others .0) root-exact in
+        let h = carried-two s newStep rootStep t r (o .took) root-took (others .0) root-exact in
         let g = told-both s v r (pageNo i) (pageNo k) forward-left w y ew ey in
         let d : outcome (answer.Done i) r y ≡ result s (forwarded (segView s) v i n (λ b. bs) [] (found (pageNo k) (slotNo k) (o .plan))) =
         λ z. record { answer = 0; id = i; seg = h z; inv = g z } in
@@ -245,7 +245,7 @@ module _ (s : List ℕ) (i : ℕ) (bs : List ℕ) (j : ℕ) (f : Found) (k : ℕ
         → outcome (answer.Done i) q y ≡ result s (forwardedAgain (segView s) v i n (λ b. bs) j [] f)
     unfolding result again-left
     again-done v n w y ew ey =
-        let h = three-swapped s freshStep entryStep t r (o .took) entry-took (apart .0) entry-exact old q freed
+        let h = carried-three s freshStep entryStep t r (o .took) entry-took (apart .0) entry-exact old q freed
         (old-exact s i j (follows .back)) (apart .1) off-root in
         let g = told-both s v q (pageNo j) (pageNo k) again-left w y ew ey in
         let d : outcome (answer.Done i) q y ≡ result s (forwardedAgain (segView s) v i n (λ b. bs) j [] (found (pageNo k) (slotNo k) (o .plan))) =

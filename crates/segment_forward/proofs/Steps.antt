@@ -42,15 +42,15 @@ module _ (s : List ℕ) (e g : OnPage) (t r : List ℕ) (x : Took s e t) (z : To
 
   -- in the other order
   module _ (y : ExactOn s g) where
-    pub two-swapped : r ≡ carried (g ∷ e ∷ []) s
-    two-swapped = z .is ∙ ap (carriedOn g) (x .is) ∙ carried-swap s e g (x .exact) y away
+    pub carried-two : r ≡ carried (g ∷ e ∷ []) s
+    carried-two = z .is ∙ ap (carriedOn g) (x .is) ∙ carried-swap s e g (x .exact) y away
 
     -- and h on a third page
     module _ (h : OnPage) (q : List ℕ) (w : Took r h q) (yh : ExactOn s h) (off-first : h .on ≢ e .on) (off-second : h .on ≢ g .on) where
-      pub three-swapped : q ≡ carried (g ∷ h ∷ e ∷ []) s
-      three-swapped =
+      pub carried-three : q ≡ carried (g ∷ h ∷ e ∷ []) s
+      carried-three =
           w .is
-          ∙ ap (carriedOn h) two-swapped
+          ∙ ap (carriedOn h) carried-two
           ∙ carried-swap (carriedOn g s) e h (exact-skip s g e y (x .exact) (λ c. away (sym c))) (exact-skip s g h y yh off-second) off-first
 
 -- ---- the inventory: told of page p, and then of page q, as the steps left them

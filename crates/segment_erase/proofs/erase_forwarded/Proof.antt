@@ -11,7 +11,7 @@ use Rattle.store.specs.Laws.Lent.{TakenOn}
 use Rattle.store.specs.declared.Slot.the-variants.{Redirect}
 use Rattle.segment_pages.proofs.Root.{root-taken, back-taken}
 use Rattle.segment_steps.proofs.After.{sizes-room, Took, left-room}
-use Rattle.segment_erase.proofs.Erased.{erasing, took-erasing, by-damaged, target-taken, both-length, target-left, root-left, by-redirect}
+use Rattle.segment_erase.proofs.Erased.{erasing, took-erasing, by-damaged, still-taken, both-length, target-left, root-left, by-redirect}
 use borrow.Author.Needs.{needs}
 use Rattle.segment_erase.proofs.erase_forwarded.Statement.{statement}
 use Rattle.segment_erase.proofs.erase_forwarded.Tie as tie
@@ -65,7 +65,7 @@ erase-on-requires-2 : tie.Need-erase-on-requires-2
 erase-on-requires-2 c κs =
     let x = c .before .before .before in
     let a = start x .args in
-    target-taken (now (a .segment)) (now (a .inventory)) (a .id) (a .t) (back-then x) (x .erase-on .last .0) (took x)
+    still-taken (now (a .segment)) (now (a .inventory)) (a .id) (a .t) (back-then x) (x .erase-on .last .0) (took x)
 
 update-on-requires : tie.Need-update-on-requires
 update-on-requires c κs =
