@@ -1,4 +1,5 @@
-// The same of the steps that write and resize take: a record at another size on page p, and a root that becomes a redirect.
+// One page of the segment lent on from its middle, to be written by write and resize: a record of page p at another size, and a root that
+// becomes a redirect. Allocate and erase: segment_steps.
 ghost use mathlib.Core.Path.{_≡_};
 ghost use mathlib.Core.List.{_++_};
 ghost use Prim.Native.Nat.{_+_, _≤_, _<_, _^_};
