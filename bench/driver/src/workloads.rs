@@ -34,6 +34,13 @@ fn scans(start: &Start) -> Plan {
     plan(start, 1, two(|| vec![scan()]), start.rows.len() as u64)
 }
 
+/// Fresh pages, every other of them with the initialised header.
+fn scan_of_fresh_pages() -> Plan {
+    let both = [vec![0; PAGE_SIZE], page(&[], &[])];
+    let start = Start::by_hand(&both.repeat(PAGES / 2), Vec::new());
+    plan(&start, 1, two(|| vec![scan()]), PAGES as u64)
+}
+
 /// Writes of the length that a record has already.
 fn overwrites(start: &Start, length: u64) -> Plan {
     let mut random = Random::new(2);
@@ -202,6 +209,7 @@ pub fn named(name: &str) -> Option<Plan> {
     Some(match words[..] {
         ["insert", _] => inserts(number),
         ["read", _] => reads(&full_of(number)),
+        ["scan", "fresh"] => scan_of_fresh_pages(),
         ["scan", _] => scans(&full_of(number)),
         ["overwrite", _] => overwrites(&full_of(number), number),
         ["mix"] => mix(),

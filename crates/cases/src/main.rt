@@ -1,5 +1,6 @@
-// Document 01's numbers to meet that are not marked to be proved, on the calls as C has them. What this prints is held to what the
-// document says, written by hand.
+// Document 01's numbers to meet that are not marked to be proved, and the examples of document 02's requests, on the calls as C has
+// them. What this prints is held to what the documents say, written by hand.
+mod headers;
 mod show;
 
 use store::PAGE_SIZE;
@@ -66,6 +67,36 @@ fn forwarded(last: u64) {
     );
 }
 
+// Ask 3: "insert 16,000, 100 and 12,000 into all-zero bytes, so page 2 is still fresh. Then byte 11 of page 2 becomes 01."
+fn fresh_but_for_a_byte() {
+    three_pages(
+        b"three pages: lengths 16,000, 100, 12,000, then a byte of the fresh page's header\n",
+        b"III1WWS",
+        &[16000, 100, 12000, 2 * 16384 + 11, 5000, 200, 0],
+    );
+}
+
+// Ask 3: "The same three inserts, then write 5,000 to (1,0), so that its target is (2,0). Then byte 1 of page 2 becomes 00."
+fn wiped_count() {
+    three_pages(
+        b"three pages: the same, then a target, and the count of its page wiped\n",
+        b"IIIW0RWERRS",
+        &[
+            16000,
+            100,
+            12000,
+            5000,
+            2 * 16384 + 1,
+            65536,
+            5000,
+            65536,
+            131072,
+            65537,
+            0,
+        ],
+    );
+}
+
 fn main() {
     largest();
     erased_in_order();
@@ -73,4 +104,7 @@ fn main() {
     gap_of_3338(3330);
     forwarded(16356);
     forwarded(16357);
+    headers::table();
+    fresh_but_for_a_byte();
+    wiped_count();
 }

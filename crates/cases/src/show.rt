@@ -91,14 +91,62 @@ fn page(segment: &[u8], offset: usize) {
     print_header(&segment[at..e]);
 }
 
+// A step of a scan from a position; the next position.
+pub fn step(segment: &[u8], from: u64) -> u64 {
+    let mut position = from;
+    let mut found: u64 = 0;
+    let mut id: u64 = 0;
+    let mut offset: u64 = 0;
+    let mut length: u64 = 0;
+    let answer = hekatosuy::hk_scan_step(
+        segment,
+        &mut position,
+        &mut found,
+        &mut id,
+        &mut offset,
+        &mut length,
+    );
+    named(b" ", answer);
+    if found == 1 {
+        say(b" ");
+        print::id(id);
+    }
+    position
+}
+
+// The first five steps of a scan.
+fn scan(segment: &[u8]) {
+    say(b"  scan:");
+    let second = step(segment, 0);
+    let third = step(segment, second);
+    let fourth = step(segment, third);
+    let fifth = step(segment, fourth);
+    step(segment, fifth);
+    end_line();
+}
+
+// The byte at an offset, set by hand.
+fn set_byte(segment: &mut [u8], offset: u64, byte: u8) {
+    if offset < segment.len() as u64 {
+        segment[offset as usize] = byte;
+        named(b"  byte ", offset % PAGE_SIZE as u64);
+        named(b" of page ", offset / PAGE_SIZE as u64);
+        named(b" becomes ", byte as u64);
+        end_line();
+    }
+}
+
 // A line of a case, by its letter: I inserts n bytes, W writes n to the record (1,0), E erases the record n, R reads it, P shows the
-// page at the offset n.
+// page at the offset n, S scans; 0 and 1 are set at the offset n.
 fn perform(segment: &mut [u8], inventory: &mut [u8], letter: u8, n: u64) {
     match letter {
         b'I' => insert(segment, inventory, n as usize),
         b'W' => write(segment, inventory, IDS_A_PAGE as u64, n as usize),
         b'E' => erase(segment, inventory, n),
         b'R' => get(segment, n),
+        b'S' => scan(segment),
+        b'0' => set_byte(segment, n, 0),
+        b'1' => set_byte(segment, n, 1),
         _ => page(segment, n as usize),
     }
 }

@@ -5,13 +5,12 @@ use Prim.Native.Nat.{ℕ, suc, _+_, _-_, _*_, _/_, _%_, _^_, _≤_, _<_}
 use native.Mathlib.Nat.{div-one, mul-assoc, add-mul, div-div-eq-div-mul, pow-suc}
 use lib.Bits.{bitOr, or-shifted}
 use lib.Pow.{pow-add, shl-exact, shl-lt}
-use lib.Seq.{take-add, drop-drop}
 use Rattle.store.specs.Laws.Writes.{write-append, length-cut, cut-snoc}
 use native.Mathlib.Omega.{arith}
 use native.Mathlib.Numerals.{add-one, towards-suc}
-use lib.ListN.{length, getD, take, drop, set, length-append}
+use lib.ListN.{length, getD, set, length-append}
 use Rattle.store.specs.Numbers.{cut, put, be, toBE}
-use Rattle.store.specs.Laws.Numbers.{put-set, put-nil, cut-cons}
+use Rattle.store.specs.Laws.Numbers.{put-set, put-nil, cut-cons, cut-add}
 
 pub num2 : (at : ℕ) (p : List ℕ) → at + 2 ≤ length p → be (cut p at 2) ≡ getD p at 0 * 256 + getD p (at + 1) 0
 num2 at p h = rw (cut-cons p at 1 (omega arith), cut-cons p (suc at) 0 (omega arith)) (simp towards-suc (omega arith))
@@ -46,7 +45,7 @@ be-append (x ∷ a) b =
 
 pub num8 : (at : ℕ) (p : List ℕ) → at + 8 ≤ length p → be (cut p at 8) ≡ be (cut p at 4) * 4294967296 + be (cut p (at + 4) 4)
 num8 at p h =
-    let e : cut p at 8 ≡ cut p at 4 ++ cut p (at + 4) 4 = take-add 4 4 (drop at p) ∙ ap (λ (q : List ℕ). cut p at 4 ++ take 4 q) (drop-drop 4 at p) in
+    let e : cut p at 8 ≡ cut p at 4 ++ cut p (at + 4) 4 = cut-add p at 4 4 in
     ap be e ∙ be-append (cut p at 4) (cut p (at + 4) 4)
     ∙ ap (λ (n : ℕ). be (cut p at 4) * 256 ^ n + be (cut p (at + 4) 4)) (length-cut p (at + 4) 4 (omega arith))
 

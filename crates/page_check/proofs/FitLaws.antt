@@ -1,9 +1,9 @@
 -- All slots: one more slot, and the whole page.
 use Prim.Native.Nat.{ℕ, _+_, _*_, _≤_, _<_}
 use mathlib.Core.Path.{_≡_, refl, sym, ap, _∙_}
-use mathlib.Core.Bool.{Bool, true, false, _||_}
+use mathlib.Core.Bool.{Bool, true, false}
 use mathlib.Core.List.{List}
-use mathlib.Core.Logic.{inr, _≢_}
+use mathlib.Core.Logic.{inl, inr, _≢_}
 use native.Mathlib.Omega.{arith}
 use native.Mathlib.Numerals.{add-one}
 use native.Mathlib.Decide.{decLt, ℕ-discrete}
@@ -13,10 +13,10 @@ use borrow.Author.Count.{below-more}
 use borrow.Author.Tests.{eq-eqb, ne-eqb}
 use Rattle.store.specs.Numbers.{sum}
 use Rattle.store.specs.Slots.{off, len, isTarget}
-use Rattle.store.specs.Page.{View, view, slotAt, fresh, soundTests, passes, sound}
+use Rattle.store.specs.Page.{View, view, slotAt, sound}
 use Rattle.store.specs.Laws.Edits.{Apart}
 use Rattle.store.specs.Laws.Views.{Sound, apart-flip}
-use Rattle.store.specs.Laws.SoundPage.{sound-page, sound-test, past-free, page-codable}
+use Rattle.store.specs.Laws.SoundPage.{used-not-fresh, sound-page, sound-test, past-free, page-codable}
 use Rattle.page_check.specs.Fit.{Allowed, Runs, RecordsFit, Total, HeaderFits}
 use Rattle.page_check.proofs.SlotLaws.{refuted}
 
@@ -57,10 +57,6 @@ records-under v k f low o l h r a s =
 
 -- ---- the page
 
-pub fresh-sound : (v : View) → fresh v ≡ true → true ≡ sound v
-unfolding sound
-fresh-sound v e = sym (ap (λ (b : Bool). b || passes soundTests v) e)
-
 -- what is read of the header
 pub record Header (p : List ℕ) (n f d : ℕ) : Type 0 where
   pub whole : length p ≡ 16384
@@ -81,12 +77,12 @@ module _ {p : List ℕ} {n f d : ℕ} (a : Header p n f d) where
         apart = λ i j g h. s .apart i j (λ e. omega arith);
       })
 
-  -- a page that is neither fresh nor sound
-  pub unsound : fresh (view p) ≡ false → (Sound (view p) → ⊥) → false ≡ sound (view p)
+  -- a page in use that is not sound
+  pub unsound : n ≢ 0 → (Sound (view p) → ⊥) → false ≡ sound (view p)
   unsound used h = go (sound (view p)) refl
     where
       go : (b : Bool) → sound (view p) ≡ b → false ≡ sound (view p)
-      go true e = absurd (h (sound-page p (a .whole) used e))
+      go true e = absurd (h (sound-page p (a .whole) (used-not-fresh (view p) (λ z. used (a .slots ∙ z))) e))
       go false e = sym e
 
   -- a slot past the last is free, and what is asked of one that is counted holds of it
@@ -115,8 +111,8 @@ module _ {p : List ℕ} {n f d : ℕ} (a : Header p n f d) where
     unfolding view
     lens j = length-take (len (slotAt p j)) (drop (off (slotAt p j)) p) ∙ omega (arith, length-drop (off (slotAt p j)) p, high j (decLt j n))
 
-    all-sound : view p .freeSpace + 8 * view p .slotCount + sum (view p .slotCount) (λ j. len (view p .at j)) ≡ 16372 → Sound (view p)
-    all-sound e = record {
+    all-sound : n ≢ 0 → view p .freeSpace + 8 * view p .slotCount + sum (view p .slotCount) (λ j. len (view p .at j)) ≡ 16372 → Sound (view p)
+    all-sound used e = record {
       few = omega (arith, h .few);
       first≤ = omega (arith, h .first);
       first-free = rw (← a .first) (h .free);
@@ -131,15 +127,16 @@ module _ {p : List ℕ} {n f d : ℕ} (a : Header p n f d) where
       codable = page-codable p;
       past = past-free p;
       lens = lens;
+      in-use = inl (omega arith);
     }
 
     -- all that is left is the free space
-    pub sound-space : fresh (view p) ≡ false → (s t : ℕ) → s ≡ view p .freeSpace → Total (view p) n t → eqb (s + 8 * n + t) 16372 ≡ sound (view p)
+    pub sound-space : n ≢ 0 → (s t : ℕ) → s ≡ view p .freeSpace → Total (view p) n t → eqb (s + 8 * n + t) 16372 ≡ sound (view p)
     sound-space used s t es w = go (ℕ-discrete (s + 8 * n + t) 16372)
       where
         sums : s + 8 * n + t ≡ view p .freeSpace + 8 * view p .slotCount + sum (view p .slotCount) (λ j. len (view p .at j))
         sums = rw (es, w .is, a .slots)
 
         go : Dec (s + 8 * n + t ≡ 16372) → eqb (s + 8 * n + t) 16372 ≡ sound (view p)
-        go (yes e) = eq-eqb (s + 8 * n + t) 16372 e ∙ sym (sound-test (view p) (all-sound (sym sums ∙ e)))
+        go (yes e) = eq-eqb (s + 8 * n + t) 16372 e ∙ sym (sound-test (view p) (all-sound used (sym sums ∙ e)))
         go (no e) = ne-eqb (s + 8 * n + t) 16372 e ∙ unsound used (λ q. e (sums ∙ q .sums))

@@ -56,15 +56,16 @@ fn records_fit(page: &[u8], n: usize, f: usize, d: usize) -> Pass
     map::claim_all(page, n, f, d, &mut used)
 }
 
-// A fresh page is sound as it stands. Last comes "free space = 16,372 − 8 × count − the sum of all ordinary and target lengths".
+// A page without slots is sound exactly if it is fresh: "Any other page with count 0 is not sound." Last comes "free space = 16,372 − 8 ×
+// count − the sum of all ordinary and target lengths".
 pub fn is_sound(page: &[u8]) -> bool
     requires { ⌜ length (now page) ≡ 16384 ⌝ }
     ensures { λ r. ⌜ r ≡ sound (view (now (page .entry))) ⌝ }
 {
-    if layout::header::is_fresh(page) {
-        return true;
-    }
     let n = layout::header::get_slot_count(page);
+    if n == 0 {
+        return layout::header::is_fresh(page);
+    }
     let f = layout::header::get_first_free_slot(page);
     let d = layout::header::get_data_start(page);
     if !header_fits(page, n, f, d) {

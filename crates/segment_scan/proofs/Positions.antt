@@ -8,7 +8,7 @@ use native.Mathlib.Omega.{arith}
 use native.Mathlib.Decide.{decLt}
 use lib.ListN.{length}
 use lib.Dec.{eqb, ltb, leb}
-use borrow.Author.Tests.{lt-ltb, le-ltb, lt-leb, le-leb, leb-true, eqb-true, not-false}
+use borrow.Author.Tests.{lt-ltb, le-ltb, lt-leb, le-leb, leb-true, not-false}
 use Rattle.store.specs.Slots.{isRecord}
 use Rattle.store.specs.Page.{View, fresh, countFits, soundTests, passes, sound}
 use Rattle.store.specs.Refusals.{DONE, SIZE}
@@ -16,7 +16,7 @@ use Rattle.store.specs.Segment.{SegView, segView, sizeOk}
 use Rattle.store.specs.Scan.{Scanned, without, overPage, nextRecord, damagedAt, scanFrom, scanPlan, scanStep}
 use Rattle.store.specs.Answers.{scannedOf}
 use Rattle.store.specs.Laws.Cases.{by-test, or-true}
-use Rattle.store.specs.Laws.SoundPage.{and-both}
+use Rattle.store.specs.Laws.SoundPage.{and-both, fresh-none}
 use Rattle.store.specs.Laws.Scan.{next-record}
 use Rattle.store.specs.Laws.SoundSegment.{seen-pages}
 use Rattle.store.specs.declared.Step.{Step}
@@ -58,7 +58,7 @@ pub few-at : (v : View) (k : ℕ) → damagedAt v k ≡ false → v .slotCount �
 unfolding sound
 few-at v k =
     by-test (λ (b : Bool). b ≡ false → v .slotCount ≤ 2046) (eqb k 0) (not (sound v)) (not (countFits v))
-    (λ z e. ⊎-elim (λ f. omega (arith, eqb-true (v .slotCount) 0 f)) (λ t. fits (and-both (countFits v) _ t .0))
+    (λ z e. ⊎-elim (λ f. omega (arith, fresh-none v f)) (λ t. fits (and-both (countFits v) _ t .0))
     (or-true (fresh v) (passes soundTests v) (not-false (sound v) e)))
     (λ z e. fits (not-false (countFits v) e))
   where

@@ -10,7 +10,7 @@ use Rattle.store.specs.Segment.{segView, pageOf, Result, readStep, locat
 use Rattle.store.specs.Scan.{scanStep}
 
 -- "equal slot entries and equal record bytes, with equal headers on pages in use": headers by their 12 bytes, entries below the count by
--- their 8; fresh in both or in neither
+-- their 8; fresh in both, with either header, or in neither
 pub data AlikePage (p q : List ℕ) : Type 0 where
   both-fresh : fresh (view p) ≡ true → fresh (view q) ≡ true → AlikePage p q
   both-used : fresh (view p) ≡ false → fresh (view q) ≡ false → cut p 0 12 ≡ cut q 0 12

@@ -27,6 +27,7 @@ pub mod SoundSegment
 pub mod Refused
 pub mod Unused
 pub mod Alike
+pub mod Headers
 pub mod Scan
 pub mod Rows
 pub mod Grown

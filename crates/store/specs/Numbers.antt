@@ -2,7 +2,7 @@
 --
 -- A page, a segment and an inventory are lists of bytes. Everything that is read is `cut` out of such a list, and everything that
 -- is written is `put` into one.
-use Prim.Native.Nat.{ℕ, zero, suc, _+_, _-_, _*_, _/_, _%_, _^_}
+use Prim.Native.Nat.{ℕ, zero, suc, _+_, _-_, _*_, _/_, _%_, _^_, _<_}
 use mathlib.Core.Bool.{Bool, true, cond, _&&_}
 use mathlib.Core.List.{List, [], _∷_, _++_, reverse}
 use lib.ListN.{length, take, drop, replicate}
@@ -27,6 +27,11 @@ zeros n = replicate n 0
 -- a record's bytes at another size: cut off, or filled up with zeros
 abbrev pub fit : ℕ → List ℕ → List ℕ
 fit n bs = take n bs ++ zeros (n - length bs)
+
+-- each is a byte
+abbrev pub Bytes : List ℕ → Type 0
+Bytes [] = Unit {0}
+Bytes (x ∷ xs) = (x < 256) × Bytes xs
 
 -- ---- "header numbers are big-endian"; "a little-endian u64"
 

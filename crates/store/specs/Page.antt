@@ -37,9 +37,15 @@ view p =
 
 -- ---- sound page
 
--- "A slot count of 0 means a fresh page and its other bytes don't matter."
+-- count, first free, data start and free space are these
+abbrev pub headerIs : View → ℕ → ℕ → ℕ → ℕ → Bool
+headerIs v count first start free =
+    eqb (v .slotCount) count && (eqb (v .firstFree) first && (eqb (v .dataStart) start && eqb (v .freeSpace) free))
+
+-- Document 02, Ask 3: "a page is fresh only if its 12 header bytes are all zero or are exactly the initialised header." Its other bytes
+-- don't matter.
 abbrev pub fresh : View → Bool
-fresh v = eqb (v .slotCount) 0
+fresh v = headerIs v 0 0 0 0 || headerIs v 0 0 16384 16372
 
 -- "count at most 2,046"
 abbrev pub countFits : View → Bool
@@ -79,8 +85,12 @@ recordsApart v = all (v .slotCount) (λ i. all (v .slotCount) (apart v i))
 abbrev pub spaceAddsUp : View → Bool
 spaceAddsUp v = eqb (v .freeSpace + 8 * v .slotCount + sum (v .slotCount) (λ k. len (v .at k))) 16372
 
+-- "Any other page with count 0 is not sound": with no slot the tests above leave data start open
+abbrev pub usedOrInitial : View → Bool
+usedOrInitial v = leb 1 (v .slotCount) || eqb (v .dataStart) 16384
+
 abbrev pub soundTests : List (View → Bool)
-soundTests = countFits ∷ firstIsLowest ∷ startFits ∷ recordsLieWell ∷ recordsApart ∷ spaceAddsUp ∷ []
+soundTests = countFits ∷ firstIsLowest ∷ startFits ∷ recordsLieWell ∷ recordsApart ∷ spaceAddsUp ∷ usedOrInitial ∷ []
 
 abbrev pub passes : List (View → Bool) → View → Bool
 passes [] v = true

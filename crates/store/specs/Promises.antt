@@ -1,5 +1,7 @@
 pub mod Outcome
 pub mod Refused
+pub mod Fresh
+pub mod Damaged
 pub mod Sound
 pub mod Ids
 pub mod ReadAfterWrite

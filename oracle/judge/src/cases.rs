@@ -1,8 +1,8 @@
-//! For each fault the smallest sequences that show it; document 01's numbers; wrong sizes.
+//! For each fault the smallest sequences that show it; the documents' numbers; refusals; wrong sizes.
 
 use crate::poke::{self, Poke};
 use crate::sequence::Event;
-use store::Call;
+use store::{Call, PAGE_SIZE};
 
 /// The last call meets the fault, none before it meets any.
 pub struct Case {
@@ -24,7 +24,7 @@ fn allocate(size: u64) -> Event {
     Event::Call(Call::Allocate { size })
 }
 
-fn read(id: u64) -> Event {
+pub fn read(id: u64) -> Event {
     Event::Call(Call::Read { id })
 }
 
@@ -137,6 +137,13 @@ pub fn faults() -> Vec<Case> {
             pokes(&[poke::back_id(1, 16384 - 4008, id(0, 0))]), read(id(0, 1)),
         ])),
         case(15, "the nibble of page n is 5", 1, vec![pokes(&[poke::nibbles(0, 0, 5)]), insert(3)]),
+        case(16, "insert on a page whose count was wiped", 1, vec![insert(3), pokes(&[poke::count(0, 0)]), insert(4)]),
+        case(16, "read of a page whose count was wiped", 1, vec![insert(3), pokes(&[poke::count(0, 0)]), read(id(0, 0))]),
+        case(16, "scan of a page whose count was wiped", 1, vec![insert(3), pokes(&[poke::count(0, 0)]), scan()]),
+        case(16, "insert on a page of count 0 that passes the six tests", 1, vec![
+            pokes(&poke::header(0, [0, 0, 16000, 16372])), insert(3),
+        ]),
+        case(16, "erase of a redirect to a page whose count was wiped", 2, forwarded(&[pokes(&[poke::count(1, 0)]), erase(id(0, 1))])),
     ]
 }
 
@@ -190,6 +197,43 @@ fn unsound() -> Vec<(usize, Vec<Event>)> {
     broken.iter().map(|broken| (1, [&start[..], &[pokes(broken)], &all_calls()].concat())).collect()
 }
 
+/// Document 02, Ask 3: the seven headers of a page full of leftovers.
+pub const HEADERS: [[u64; 4]; 7] = [
+    [0, 0, 0, 0],
+    [0, 0, 16384, 16372],
+    [0, 3, 16372, 16336],
+    [0, 0, 16000, 16372],
+    [0, 0, 16384, 0],
+    [0, 1, 0, 0],
+    [0, 0, 0, 1],
+];
+
+pub fn with_header(header: [u64; 4], then: &[Event]) -> Vec<Event> {
+    let leftovers = Poke::Fill { offset: 0, length: PAGE_SIZE as u64, seed: 238 };
+    [&[pokes(&[&[leftovers][..], &poke::header(0, header)].concat())], then].concat()
+}
+
+/// Ask 3's segments of three pages: the last is fresh, or holds the target (2,0).
+pub fn of_three(then: &[Event]) -> Vec<Event> {
+    [&[insert(16000), insert(100), insert(12000)], then].concat()
+}
+
+/// A byte of the last of three pages.
+pub fn last_page_byte(place: u64, value: u64) -> Event {
+    pokes(&[Poke::Segment { offset: 2 * PAGE_SIZE as u64 + place, width: 1, value }])
+}
+
+/// Ask 3's examples, and every call on each of its headers.
+fn emptied() -> Vec<(usize, Vec<Event>)> {
+    let (root, target) = (id(1, 0), id(2, 0));
+    let calls = [read(0), write(0, 1), resize(0, 1), erase(0), insert(16365), scan(), allocate(3), insert(3), scan()];
+    let fresh = of_three(&[last_page_byte(11, 1), write(root, 5000), resize(root, 5000), write(root, 200), scan()]);
+    let touched = [read(root), write(root, 6000), resize(root, 6000), erase(root), read(target), write(target, 3), read(id(1, 1)), scan()];
+    let wiped = of_three(&[&[write(root, 5000), last_page_byte(1, 0)], &touched[..]].concat());
+    let headers = HEADERS.map(|header| (1, with_header(header, &calls)));
+    [&headers[..], &[(3, fresh), (3, wiped)]].concat()
+}
+
 /// A redirect (0,0) that leads astray: past n, home, to a slot past the count, to an ordinary
 /// record, to a target with another back id, and to an unsound page.
 fn astray() -> Vec<(usize, Vec<Event>)> {
@@ -223,7 +267,7 @@ fn stale() -> Vec<(usize, Vec<Event>)> {
 
 /// Refusals by 4 and 8 of every kind and in every call.
 pub fn refusals() -> Vec<(usize, Vec<Event>)> {
-    [unsound(), astray(), stale()].concat()
+    [unsound(), emptied(), astray(), stale()].concat()
 }
 
 /// Lent bytes of a wrong size, and the calls made on each.

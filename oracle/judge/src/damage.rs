@@ -45,8 +45,17 @@ impl Patient<'_> {
     }
 
     fn count_damage(&mut self) -> Vec<Poke> {
-        let value = self.random.pick(&[0, 1, 2047, 3000, 65535, self.count() as u64 + 1]);
+        let value = self.random.pick(&[1, 2047, 3000, 65535, self.count() as u64 + 1]);
         vec![poke::count(self.number, value)]
+    }
+
+    /// The count wiped, alone or with what stands behind it in the header.
+    fn wiped_count(&mut self) -> Vec<Poke> {
+        let (start, free) = (page::data_start(self.page) as u64, page::free_space(self.page) as u64);
+        let first = page::first_free(self.page) as u64;
+        let (kept, wiped) = ([0, first, start, free], [0, 0, 0, free]);
+        let headers = [kept, kept, kept, [0, 0, start, free], wiped, [0, 0, start, 16372], [0, 0, 16384, free], [0, 0, 16384, 0]];
+        poke::header(self.number, self.random.pick(&headers)).to_vec()
     }
 
     fn first_free_damage(&mut self) -> Vec<Poke> {
@@ -142,8 +151,9 @@ fn of_kind(kind: Kind, offset: usize, length: usize) -> u64 {
     if kind == Kind::Target { poke::target(offset, length) } else { poke::plain(offset, length) }
 }
 
-const DAMAGES: [fn(&mut Patient) -> Vec<Poke>; 13] = [
+const DAMAGES: [fn(&mut Patient) -> Vec<Poke>; 14] = [
     |patient| patient.count_damage(),
+    |patient| patient.wiped_count(),
     |patient| patient.first_free_damage(),
     |patient| patient.data_start_damage(),
     |patient| patient.free_space_damage(),
@@ -158,6 +168,15 @@ const DAMAGES: [fn(&mut Patient) -> Vec<Poke>; 13] = [
     |patient| patient.noise(),
 ];
 
+/// The header of a page without slots, in one or two of its numbers.
+fn emptied(random: &mut Random, number: usize, page: &[u8]) -> Vec<Poke> {
+    let (start, free) = (page::data_start(page) as u64, page::free_space(page) as u64);
+    let counted = [[1, 0, start, free], [2, 0, start, free], [2047, 0, start, free]];
+    let first = [[0, 1, start, free], [0, 65535, start, free]];
+    let rest = [[0, 0, 16000, 16372], [0, 0, 16383, free], [0, 0, start, free + 1], [0, 0, 16384, 0], [0, 0, 0, 16372], [0, 0, 11, 16372]];
+    poke::header(number, random.pick(&[&counted[..], &first, &rest].concat())).to_vec()
+}
+
 /// Damages one page of the segment.
 pub fn damage(random: &mut Random, segment: &[u8]) -> Vec<Poke> {
     let n = segment.len() / PAGE_SIZE;
@@ -167,7 +186,7 @@ pub fn damage(random: &mut Random, segment: &[u8]) -> Vec<Poke> {
     let number = random.below(n as u64) as usize;
     let page = &segment[number * PAGE_SIZE..(number + 1) * PAGE_SIZE];
     if page::count(page) == 0 {
-        return vec![poke::count(number, random.pick(&[1, 2, 2047]))];
+        return emptied(random, number, page);
     }
     let damage = random.pick(&DAMAGES);
     damage(&mut Patient { random, n, number, page })

@@ -72,7 +72,7 @@ fn long() -> Result<(), String> {
 }
 
 fn check_numbers() -> Result<(), String> {
-    println!("numbers of document 01 met by the corrected Rust: {}", judge::numbers::check()?);
+    println!("numbers of documents 01 and 02 met by the corrected Rust: {}", judge::numbers::check()?);
     Ok(())
 }
 

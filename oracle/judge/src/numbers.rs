@@ -1,6 +1,6 @@
-//! Document 01's numbers to meet, checked on the corrected Rust.
+//! Document 01's numbers to meet and the worked examples of document 02, checked on the corrected Rust.
 
-use crate::cases::{erase, id, insert, resize, scan, write};
+use crate::cases::{erase, id, insert, last_page_byte, of_three, read, resize, scan, with_header, write, HEADERS};
 use crate::poke::nibbles;
 use crate::sequence::Event;
 use crate::trial::{Counts, Trial};
@@ -127,9 +127,46 @@ fn settled() -> Result<Vec<(&'static str, bool)>, String> {
     ])
 }
 
+/// Ask 3: each call alone on a page with each of the seven headers.
+fn headers() -> Result<Vec<(&'static str, bool)>, String> {
+    let calls = [read(0), write(0, 1), erase(0), insert(3), insert(16365), scan()];
+    let mut met = Vec::new();
+    for (k, &header) in HEADERS.iter().enumerate() {
+        let wanted = if k < 2 { [5, 5, 5, 0, 3, 0] } else { [4, 4, 4, 4, 3, 4] };
+        for (call, number) in calls.iter().zip(wanted) {
+            let left = run(1, &with_header(header, &[call.clone()]))?;
+            met.push(("a header of Ask 3", left.answers(number) && (number != 0 || left.last.first == 0)));
+        }
+    }
+    for &header in &HEADERS[..2] {
+        met.push(("an insert on either fresh page", run(1, &with_header(header, &[insert(3)]))?.header(0) == [1, 1, 16381, 16361]));
+    }
+    Ok(met)
+}
+
+/// Ask 3: the last of three pages is fresh but for a byte, or its count was wiped.
+fn three_pages() -> Result<Vec<(&'static str, bool)>, String> {
+    let root = id(1, 0);
+    let odd = |last: Event| run(3, &of_three(&[last_page_byte(11, 1), last]));
+    let wiped = |last: Event| run(3, &of_three(&[write(root, 5000), last_page_byte(1, 0), last]));
+    let scanned = |run: Run, records| run.answers(4) && run.last.first == records;
+    Ok(vec![
+        ("a new page with count 0", odd(write(root, 5000))?.answers(4)),
+        ("a write that needs no new page", odd(write(root, 200))?.answers(0)),
+        ("a scan up to that page", scanned(odd(scan())?, 3)),
+        ("a read of its root", wiped(read(root))?.answers(4)),
+        ("a write to its root", wiped(write(root, 5000))?.answers(4)),
+        ("an erase of its root", wiped(erase(root))?.answers(4)),
+        ("a read of the target's own id", wiped(read(id(2, 0)))?.answers(4)),
+        ("a read of another record", wiped(read(id(1, 1)))?.answers(0)),
+        ("a scan up to the wiped page", scanned(wiped(scan())?, 2)),
+    ])
+}
+
 /// Checks all; answers how many there are.
 pub fn check() -> Result<usize, String> {
-    let all = [vec![("P1", initialised()?)], small()?, slots()?, larger()?, settled()?].concat();
+    let of_01 = [vec![("P1", initialised()?)], small()?, slots()?, larger()?, settled()?].concat();
+    let all = [of_01, headers()?, three_pages()?].concat();
     match all.iter().find(|(_, met)| !met) {
         Some((name, _)) => Err(format!("not met: {name}")),
         None => Ok(all.len()),

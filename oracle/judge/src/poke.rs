@@ -81,6 +81,11 @@ pub fn free_space(page: usize, value: u64) -> Poke {
     in_page(page, 8, 4, value)
 }
 
+/// Count, first free, data start and free space.
+pub fn header(page: usize, [slots, first, start, free]: [u64; 4]) -> [Poke; 4] {
+    [count(page, slots), first_free(page, first), data_start(page, start), free_space(page, free)]
+}
+
 pub fn slot(page: usize, slot: usize, value: u64) -> Poke {
     in_page(page, 12 + 8 * slot, 8, value)
 }

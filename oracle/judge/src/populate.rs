@@ -92,16 +92,19 @@ fn slot_value(random: &mut Random, slot: Wanted, offset: usize) -> u64 {
     }
 }
 
+/// One of the two headers of a fresh page.
+fn fresh_header(random: &mut Random, page: usize) -> [Poke; 4] {
+    poke::header(page, random.pick(&[[0, 0, 0, 0], [0, 0, 16384, 16372]]))
+}
+
 fn page_pokes(random: &mut Random, page: usize, slots: &[Wanted], pokes: &mut Vec<Poke>) {
-    pokes.push(poke::count(page, slots.len() as u64));
     if slots.is_empty() {
+        pokes.extend(fresh_header(random, page));
         return;
     }
     let (start, offsets) = places(random, slots);
     let first_free = slots.iter().position(|&slot| slot == Wanted::Free).unwrap_or(slots.len());
-    pokes.push(poke::first_free(page, first_free as u64));
-    pokes.push(poke::data_start(page, start as u64));
-    pokes.push(poke::free_space(page, 16372 - used(slots) as u64));
+    pokes.extend(poke::header(page, [slots.len() as u64, first_free as u64, start as u64, 16372 - used(slots) as u64]));
     for (k, &slot) in slots.iter().enumerate() {
         pokes.push(poke::slot(page, k, slot_value(random, slot, offsets[k])));
         if let Wanted::Target { root, .. } = slot {
@@ -145,7 +148,7 @@ pub fn populate(random: &mut Random, n: usize, most_slots: usize) -> Vec<Poke> {
 
 /// Makes the inventory true.
 pub fn true_inventory(segment: &[u8]) -> Vec<Poke> {
-    let class = |page: &[u8]| if page::count(page) == 0 { 0 } else { class(16372_usize.saturating_sub(page::free_space(page))) };
+    let class = |page: &[u8]| if page::fresh(page) { 0 } else { class(16372_usize.saturating_sub(page::free_space(page))) };
     inventory_pokes(&segment.chunks(PAGE_SIZE).map(class).collect::<Vec<_>>())
 }
 
@@ -156,6 +159,6 @@ fn leftovers(random: &mut Random, n: usize) -> Poke {
 /// Fresh pages full of leftovers.
 pub fn fresh_with_leftovers(random: &mut Random, n: usize) -> Vec<Poke> {
     let mut pokes = vec![leftovers(random, n)];
-    pokes.extend((0..n).map(|page| poke::count(page, 0)));
+    (0..n).for_each(|page| pokes.extend(fresh_header(random, page)));
     pokes
 }

@@ -1,7 +1,7 @@
 //! Document 01's sound segment: what calls on a sound one must leave.
 
 use model::inventory::{class, entry, nibble};
-use model::page::{count, free_space, slot, sound, Kind, Slot};
+use model::page::{count, free_space, fresh, slot, sound, Kind, Slot};
 use store::PAGE_SIZE;
 
 fn pages(segment: &[u8]) -> Vec<&[u8]> {
@@ -40,7 +40,7 @@ fn forwarding_is_sound(pages: &[&[u8]]) -> bool {
 
 fn inventory_is_true(pages: &[&[u8]], inventory: &[u8]) -> bool {
     let n = pages.len();
-    let true_nibble = |page: &[u8]| if count(page) == 0 { 0 } else { class(16372 - free_space(page)) };
+    let true_nibble = |page: &[u8]| if fresh(page) { 0 } else { class(16372 - free_space(page)) };
     let lowest = |number| pages.iter().position(|page| true_nibble(page) <= number).unwrap_or(n);
     (0..n).all(|page| nibble(inventory, page) == true_nibble(pages[page]))
         && (n..32528).all(|page| nibble(inventory, page) == 0)

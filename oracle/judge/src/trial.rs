@@ -10,7 +10,7 @@ use model::{Model, STEPS};
 use std::collections::BTreeMap;
 use store::{perform, Answer, Call, Reply, Store, DONE, PAGE_SIZE};
 
-pub const FAULTS: usize = 15;
+pub const FAULTS: usize = 16;
 const KINDS: [&str; 7] = ["insert", "allocate", "read", "write", "resize", "erase", "scan"];
 
 /// Of a thousand calls that met a fault alone, on how many the published Rust may all the same have done what the corrected does. A
@@ -232,7 +232,7 @@ impl Counts {
     /// How often a call answered or met what none can on a sound segment.
     pub fn unsound_calls(&self) -> u64 {
         let answers: u64 = self.answers.iter().map(|answers| answers[4] + answers[8]).sum();
-        answers + self.met[1] + self.met[14] + self.met[15]
+        answers + self.met[1] + self.met[14] + self.met[15] + self.met[16]
     }
 
     pub fn all_calls(&self) -> u64 {
@@ -256,7 +256,7 @@ impl Counts {
         let pages: Vec<String> = self.sequences.iter().map(|(n, times)| format!("{n}: {times}")).collect();
         println!("sequences {sequences}, calls {}, numbers set by hand {}", self.all_calls(), self.pokes);
         println!("sequences by pages: {}", pages.join(", "));
-        println!("sequences that kept to sound segments, without answers 4 and 8 and faults 1, 14 and 15: {}", self.calm);
+        println!("sequences that kept to sound segments, without answers 4 and 8 and faults 1 and 14 to 16: {}", self.calm);
         println!("calls that met no fault, published and corrected Rust equal: {}", self.compared);
         self.print_answers();
         self.print_faults();

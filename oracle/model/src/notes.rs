@@ -67,6 +67,7 @@ steps! {
     EntryMovedToEnd "inventory: entries moved to n"
     EntryLowered "inventory: entries set to this page"
     EntryNotLowered "inventory: entry of the new class stays"
+    UnsoundEmptied "unsound: count 0, and the header of no fresh page"
     UnsoundCount "unsound: count"
     UnsoundDataStartLow "unsound: data start in the directory"
     UnsoundDataStartHigh "unsound: data start past the page"
@@ -101,7 +102,7 @@ steps! {
 }
 
 pub struct Notes {
-    /// The faults of document 01's list that the published Rust meets in the call: bit k is
+    /// The faults of docs/DIFFERENCES.md that the published Rust meets in the call: bit k is
     /// fault k.
     pub faults: u32,
     pub steps: Vec<u64>,

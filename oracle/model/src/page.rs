@@ -110,11 +110,17 @@ fn next_free(page: &[u8], from: usize) -> usize {
     (from..count).find(|&k| slot(page, k).kind == Kind::Free).unwrap_or(count)
 }
 
+/// Whether the header is all zero, or exactly the initialised one.
+pub fn fresh(page: &[u8]) -> bool {
+    let header = &page[..HEADER];
+    header == [0; HEADER] || header == [0, 0, 0, 0, 0, 0, 0x40, 0, 0, 0, 0x3F, 0xF4]
+}
+
 /// Which line of the sound-page rule the page breaks first, if any.
 pub fn unsound(page: &[u8]) -> Option<Step> {
     let count = count(page);
     if count == 0 {
-        return None;
+        return (!fresh(page)).then_some(Step::UnsoundEmptied);
     }
     let start = data_start(page);
     if count > 2046 {
@@ -167,8 +173,7 @@ pub fn initialise(page: &mut [u8]) {
 
 /// Whether allocate finds room; a fresh page has 16,372 bytes.
 pub fn has_room(page: &[u8], size: usize, notes: &mut Notes) -> bool {
-    let fresh = count(page) == 0;
-    let (free, new_slot) = if fresh { (16372, true) } else { (free_space(page), first_free(page) == count(page)) };
+    let (free, new_slot) = if fresh(page) { (16372, true) } else { (free_space(page), first_free(page) == count(page)) };
     let room = size + if new_slot { 8 } else { 0 } <= free;
     notes.fault_if(new_slot && free < 8, 1);
     notes.step_if(!room, if new_slot { Step::NewSlotNoRoom } else { Step::FreeSlotNoRoom });
@@ -177,7 +182,7 @@ pub fn has_room(page: &[u8], size: usize, notes: &mut Notes) -> bool {
 
 /// Allocates where there is room, and gives the slot. The record's bytes are left as they are.
 pub fn allocate(page: &mut [u8], size: usize, notes: &mut Notes) -> usize {
-    if count(page) == 0 {
+    if fresh(page) {
         initialise(page);
         notes.step(Step::Initialise);
     }

@@ -96,7 +96,8 @@ impl Model {
             None => Ok(()),
             Some(rule) => {
                 self.notes.step(rule);
-                self.refuse(DAMAGED, 14, Some(step))
+                let fault = if rule == Step::UnsoundEmptied { 16 } else { 14 };
+                self.refuse(DAMAGED, fault, Some(step))
             }
         }
     }

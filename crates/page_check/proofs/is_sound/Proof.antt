@@ -1,32 +1,28 @@
 -- `page_check::is_sound` meets its contract.
-use mathlib.Core.Path.{_≡_, sym, _∙_}
-use mathlib.Core.Bool.{false}
+use mathlib.Core.Path.{sym, _∙_}
 use native.Mathlib.Omega.{arith}
 use denote.Ref.{now}
 use borrow.Author.Needs.{needs}
 use borrow.Author.Tests.{not-true, not-false}
-use Rattle.store.specs.Page.{view, fresh}
+use Rattle.store.specs.Laws.SoundPage.{sound-none}
 use Rattle.page_check.proofs.SlotLaws.{not-both}
-use Rattle.page_check.proofs.FitLaws.{Header, sound-header, sound-records, unsound, sound-space, fresh-sound}
+use Rattle.page_check.proofs.FitLaws.{Header, sound-header, sound-records, unsound, sound-space}
 use Rattle.page_check.proofs.is_sound.Statement.{statement}
 use Rattle.page_check.proofs.is_sound.Tie as tie
 
--- ---- the places: the page is not fresh, its header is read, the header fits, the records are looked at
+-- ---- the places: the page has a slot, its header is read, the header fits, the records are looked at
 
 abbrev entry : tie.Else1 → tie.Start
 entry c = c .before .before .before
 
-not-fresh : (c : tie.Else1) → fresh (view (now (entry c .args .page))) ≡ false
-not-fresh c = sym (c .before .is-fresh .ensures) ∙ c .if1 .left
-
 abbrev used : tie.After-get-data-start → tie.Else1
-used c = c .before .before .before
+used c = c .before .before
 
 header : (c : tie.After-get-data-start)
-    → Header (now (entry (used c) .args .page)) (c .before .before .get-slot-count .result) (c .before .get-first-free-slot .result) (c .get-data-start .result)
+    → Header (now (entry (used c) .args .page)) (used c .before .get-slot-count .result) (c .before .get-first-free-slot .result) (c .get-data-start .result)
 header c = record {
   whole = entry (used c) .pre;
-  slots = c .before .before .get-slot-count .ensures .0;
+  slots = used c .before .get-slot-count .ensures .0;
   first = c .before .get-first-free-slot .ensures .0;
   start = c .get-data-start .ensures .0;
 }
@@ -40,13 +36,15 @@ fitting c = c .before .before .before
 -- ---- the needs
 
 returns : tie.Need-returns
-returns c = fresh-sound _ (sym (c .before .is-fresh .ensures) ∙ c .if1 .taken)
+returns c =
+    let test = c .before in
+    c .is-fresh .ensures ∙ sym (sound-none _ (sym (test .before .get-slot-count .ensures .0) ∙ test .if1 .taken))
 
 returns-2 : tie.Need-returns-2
 returns-2 c =
     let at-header = c .before .before in
     let h = header at-header in
-    unsound h (not-fresh (used at-header)) (λ s. not-both (c .before .header-fits .ensures .back (sound-header h s)) (not-true _ (c .if2 .taken)))
+    unsound h (used at-header .if1 .left) (λ s. not-both (c .before .header-fits .ensures .back (sound-header h s)) (not-true _ (c .if2 .taken)))
 
 records-fit-requires : tie.Need-records-fit-requires
 records-fit-requires c κs =
@@ -59,7 +57,7 @@ returns-3 c =
     let at-header = read (at-records .before) in
     let h = header at-header in
     let w = at-records .records-fit .ensures in
-    unsound h (not-fresh (used at-header)) (λ s. not-both (w .tells .back (sound-records h s)) (not-true _ (c .if3 .taken)))
+    unsound h (used at-header .if1 .left) (λ s. not-both (w .tells .back (sound-records h s)) (not-true _ (c .if3 .taken)))
 
 add-result-2 : tie.Need-add-result-2
 add-result-2 c =
@@ -76,9 +74,9 @@ returns-4 c =
     let w = at-fits .before .before .records-fit .ensures in
     let e = not-false _ (at-fits .if3 .left) in
     let fits = at-header-fits .before .header-fits .ensures .yes (not-false _ (at-header-fits .if2 .left)) in
-    sound-space (header at-header) fits (w .tells .yes e) (not-fresh (used at-header)) _ _ (at-space .get-free-space .ensures .0) (w .adds e)
+    sound-space (header at-header) fits (w .tells .yes e) (used at-header .if1 .left) _ _ (at-space .get-free-space .ensures .0) (w .adds e)
 
 pub is-sound-spec : {M : Type 1} → statement M
 is-sound-spec =
-    tie.close (tie.spec (λ c κs. search needs) returns (λ c κs. search needs) (λ c κs. search needs) (λ c κs. search needs) (λ c κs. search needs)
+    tie.close (tie.spec (λ c κs. search needs) (λ c κs. search needs) returns (λ c κs. search needs) (λ c κs. search needs) (λ c κs. search needs)
     returns-2 records-fit-requires returns-3 (λ c κs. search needs) (λ c. search needs) (λ c. search needs) add-result-2 returns-4)

@@ -9,13 +9,14 @@ use native.Mathlib.Omega.{arith}
 use native.Mathlib.Decide.{ℕ-discrete, decLt}
 use lib.ListN.{length, getD}
 use lib.Dec.{eqb, ltb, leb}
-use borrow.Author.Tests.{le-ltb, eqb-true, ne-eqb}
+use borrow.Author.Tests.{le-ltb}
 use Rattle.store.specs.Numbers.{cut, put, be}
 use Rattle.store.specs.Slots.{off, slotBytes, slotOf}
 use Rattle.store.specs.Page.{View, view, count, slotAt, bytesAt, fresh, sound}
 use Rattle.store.specs.PageSteps.{initialised, opened, Edit, head, move, commit, fill, apply, run, Plan, headBytes, putHead, putSlot, putBytes, plan}
 use Rattle.store.specs.Segment.{SegView, segView, pageOf, OnPage, Out, result, carried, carriedOn, step, sizeOk, Read}
 use Rattle.store.specs.Laws.Numbers.{length-put, cut-same, cut-take}
+use Rattle.store.specs.Laws.SoundPage.{used-not-fresh, fresh-none}
 use Rattle.store.specs.Laws.Exact.{length-apply, length-run}
 use Rattle.store.specs.Laws.Segments.{AllExact, length-page, page-same, page-other, carried-on}
 use Rattle.store.specs.Laws.Calls.{by-test}
@@ -123,7 +124,7 @@ run-headed (commit k v ∷ es) p q a b w =
 
 opened-count : (p : List ℕ) → opened (view p) .slotCount ≡ count p
 unfolding view
-opened-count p = by-test (λ w. w .slotCount ≡ count p) (fresh (view p)) initialised (view p) (λ e. sym (eqb-true (count p) 0 e)) (λ e. refl)
+opened-count p = by-test (λ w. w .slotCount ≡ count p) (fresh (view p)) initialised (view p) (λ e. sym (fresh-none (view p) e)) (λ e. refl)
 
 view-count : (p : List ℕ) (v : View) → view p ≡ v → count p ≡ v .slotCount
 unfolding view
@@ -135,11 +136,11 @@ view-bytes p v e k = ap (λ (w : View). w .bytes k) e
 
 -- a page that shows a slot is not fresh
 in-use : (p : List ℕ) (v : View) → view p ≡ v → 0 < v .slotCount → fresh (view p) ≡ false
-in-use p v e l = ap fresh e ∙ ne-eqb (v .slotCount) 0 (λ z. omega arith)
+in-use p v e l = ap fresh e ∙ used-not-fresh v (λ z. omega arith)
 
 fresh-count : (p : List ℕ) → fresh (view p) ≡ true → count p ≡ 0
 unfolding view
-fresh-count p e = eqb-true (count p) 0 e
+fresh-count p e = fresh-none (view p) e
 
 header-like : (p q : List ℕ) → AlikePage p q → 0 < count p → cut p 0 12 ≡ cut q 0 12
 header-like p q (both-fresh a b) l = absurd (omega (arith, fresh-count p a))
@@ -198,7 +199,7 @@ carried-like (e ∷ es) s t x y k h =
 
 -- ---- alike in the words is alike to the eye
 
-part-like : (p q : List ℕ) (j m : ℕ) → j + m ≤ 12 → cut p 0 12 ≡ cut q 0 12 → cut p j m ≡ cut q j m
+pub part-like : (p q : List ℕ) (j m : ℕ) → j + m ≤ 12 → cut p 0 12 ≡ cut q 0 12 → cut p j m ≡ cut q j m
 part-like p q j m h e = sym (cut-take p 12 j m h) ∙ ap (λ (l : List ℕ). cut l j m) e ∙ cut-take q 12 j m h
 
 -- equal entries are seen as equal, and so is all that is past the count

@@ -7,7 +7,7 @@ use mathlib.Core.Logic.{_≢_}
 use native.Mathlib.Omega.{arith}
 use lib.ListN.{length, take, drop, length-append}
 use lib.Dec.{ltb, eqb}
-use borrow.Author.Tests.{le-ltb, ltb-true, ltb-false, eqb-true, eqb-false, not-true, not-false}
+use borrow.Author.Tests.{le-ltb, ltb-true, ltb-false, eqb-false, not-true, not-false}
 use native.Mathlib.Decide.{decLt}
 use Rattle.store.specs.Numbers.{cut, be, toBE, pageNo, slotNo, idOf}
 use Rattle.store.specs.Slots.{off, len, isFree, isTarget}
@@ -28,7 +28,7 @@ use Rattle.store.specs.Laws.Views.{Sound, upd-same, numbers}
 use Rattle.store.specs.Laws.Exact.{Exact, erase-exact, exact-then}
 use Rattle.store.specs.Laws.OneSlot.{same-cost, roomed, alloc-exact, redirect-exact}
 use Rattle.store.specs.Laws.Relocate.{fill-exact, retype-exact, relocate-answer, Answered}
-use Rattle.store.specs.Laws.SoundPage.{sound-page, sound-init, and-both}
+use Rattle.store.specs.Laws.SoundPage.{sound-page, sound-init, and-both, fresh-none}
 use Rattle.store.specs.declared.Named.{Named}
 use Rattle.store.specs.declared.Named.the-variants.{At, Full}
 use Rattle.store.specs.Laws.Segments.{ExactOn, AllExact, length-page, two-exact, three-exact}
@@ -48,7 +48,7 @@ module _ (q : List ℕ) (whole : length q ≡ 16384) where
     where
       as-new : fresh (view q) ≡ true → Shows q initialised
       as-new e =
-          let z : count q ≡ 0 = eqb-true (count q) 0 e in
+          let z : count q ≡ 0 = fresh-none (view q) e in
           let n : (j : ℕ) → Free ≡ slotAt q j = λ j. sym (rw (le-ltb j (count q) (omega arith))) in
           record { whole = whole; slotCount = sym z; at = n; bytes = λ j. ap (λ (s : Slot). cut q (off s) (len s)) (n j) }
 

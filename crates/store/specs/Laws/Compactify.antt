@@ -174,6 +174,7 @@ module _ (k : ℕ) (ks : List ℕ) (d : ℕ) (v : View) (p : Packing (k ∷ ks) 
         codable = upd-elim (v .at) k y (λ j z. Codable z) (is .codable (omega (arith, p .top)) (omega (arith, p .under .0, p .top))) (λ j n. s .codable j);
         past = upd-elim (v .at) k y (λ j z. v .slotCount ≤ j → z ≡ Free) (λ h. absurd (is .taken (s .past k h))) (λ j n. s .past j);
         lens = upd-lens (v .at) (v .bytes) k y (v .bytes k) (s .lens k ∙ sym (is .len)) (s .lens);
+        in-use = s .in-use;
       }
 
   not-k : All (λ j. j ≢ k) ks
@@ -267,7 +268,12 @@ end-sound d v k =
       codable = s .codable;
       past = s .past;
       lens = s .lens;
+      in-use = go (ℕ-discrete (v .slotCount) 0);
     }
+  where
+    go : Dec (v .slotCount ≡ 0) → (0 < v .slotCount) ⊎ (d ≡ 16384)
+    go (yes e) = let t : d + sum 0 (λ j. len (v .at j)) ≡ 16384 + 0 = rw e at (k .sums) in inr (omega arith)
+    go (no n) = inl (omega arith)
 
 packed : (ks : List ℕ) (d : ℕ) (v : View) → Packing ks d v → (p : List ℕ) → length p ≡ 16384 → view p ≡ v → Exact p (pack ks d v)
 packed [] d v k p whole e =

@@ -8,14 +8,15 @@ use native.Mathlib.Decide.{decLt}
 use lib.ListN.{length, take, drop, length-append, length-drop, length-replicate}
 use lib.Seq.{take-append-le, drop-append-le}
 use lib.Dec.{ltb}
-use borrow.Author.Tests.{eq-eqb, lt-ltb, le-ltb}
+use borrow.Author.Tests.{lt-ltb, le-ltb}
 use Rattle.store.specs.Numbers.{cut, be, zeros, pageNo, slotNo}
 use Rattle.store.specs.Slots.{isFree}
-use Rattle.store.specs.Page.{View, view, count}
+use Rattle.store.specs.Page.{View, view}
 use Rattle.store.specs.PageSteps.{initialised, opened}
 use Rattle.store.specs.Inventory.{Lowest}
 use Rattle.store.specs.Segment.{SegView, segView, pageOf}
 use Rattle.store.specs.SoundSegment.{slotOn, Paired, nibbleOf, classes, SoundSegment}
+use Rattle.store.specs.Laws.SoundPage.{header-is}
 use Rattle.store.specs.Laws.Calls.{target-taken}
 use Rattle.store.specs.Laws.SoundSegment.{page-past, sized, seen-page, seen-pages}
 use Rattle.store.specs.declared.Slot.the-variants.{Free}
@@ -54,7 +55,10 @@ either false = refl
 -- a page of zeros is seen as one just initialised, and so is one that is not there
 zero-page : (q : List ℕ) → AllZero q → opened (view q) ≡ initialised
 unfolding view
-zero-page q z = rw (eq-eqb (count q) 0 (zero-be (cut q 0 2) (zero-take 2 q z)))
+zero-page q z = rw (header-is (view q) 0 0 0 0 (part 0 2) (part 2 2) (part 4 4) (part 8 4))
+  where
+    part : (i n : ℕ) → be (cut q i n) ≡ 0
+    part i n = zero-be (cut q i n) (zero-take n (drop i q) (zero-drop [] q z i (omega arith)))
 
 -- ---- k more pages
 

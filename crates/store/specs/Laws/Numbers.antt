@@ -5,10 +5,11 @@ use mathlib.Core.List.{List, [], _∷_, _++_, reverse-reverse}
 use native.Mathlib.Nat.{not-suc-le-zero, zero-add, suc-add, add-mul, mul-assoc, mul-comm, div-div-eq-div-mul, pow-suc, div-eq-of-lt}
 use native.Mathlib.Omega.{arith}
 use lib.ListN.{length, take, drop, set, getD, length-drop, length-reverse}
+use lib.Arith.{digits-lt, digits-div, digits-mod}
 use borrow.Rule.Slice.PartMut.{putMid, put-same}
-use lib.Seq.{drop-drop, take-append-le, drop-append-le, take-all, take-take, drop-cons, length-take-le}
+use lib.Seq.{drop-drop, take-add, take-append-le, drop-append-le, take-all, take-take, drop-cons, length-take-le}
 use mathlib.Core.Logic.{_⊎_, inl, inr}
-use Rattle.store.specs.Numbers.{cut, put, be, toBE, le, toLE}
+use Rattle.store.specs.Numbers.{cut, put, Bytes, be, toBE, le, toLE}
 
 pub length-put : (p : List ℕ) (i : ℕ) (vs : List ℕ) → length (put p i vs) ≡ length p
 length-put [] i vs = refl
@@ -74,6 +75,9 @@ cut-take (x ∷ p) (suc n) (suc j) m h = cut-take p n j m (omega arith)
 pub cut-cut : (p : List ℕ) (i n j m : ℕ) → j + m ≤ n → cut (cut p i n) j m ≡ cut p (i + j) m
 cut-cut p i n j m h = cut-take (drop i p) n j m h ∙ ap (take m) (drop-drop j i p)
 
+pub cut-add : (p : List ℕ) (i n m : ℕ) → cut p i (n + m) ≡ cut p i n ++ cut p (i + n) m
+cut-add p i n m = take-add n m (drop i p) ∙ ap (λ (q : List ℕ). cut p i n ++ take m q) (drop-drop n i p)
+
 take-nil : (n : ℕ) → _≡_ {A = List ℕ} (take n []) []
 take-nil zero = refl
 take-nil (suc n) = refl
@@ -112,6 +116,40 @@ length-toLE k v = length-reverse (toBE k v) ∙ length-toBE k v
 
 pub le-toLE : (k : ℕ) {v : ℕ} → v < 256 ^ k → le (toLE k v) ≡ v
 le-toLE k {v} h = ap be (reverse-reverse (toBE k v)) ∙ be-toBE k h
+
+-- ---- equally many bytes with one number are the same
+
+pub bytes-take : (n : ℕ) (p : List ℕ) → Bytes p → Bytes (take n p)
+bytes-take zero p b = tt
+bytes-take (suc n) [] b = tt
+bytes-take (suc n) (x ∷ p) b = (b .0, bytes-take n p (b .1))
+
+pub bytes-drop : (n : ℕ) (p : List ℕ) → Bytes p → Bytes (drop n p)
+bytes-drop zero p b = b
+bytes-drop (suc n) [] b = tt
+bytes-drop (suc n) (x ∷ p) b = bytes-drop n p (b .1)
+
+pub bytes-toBE : (k v : ℕ) → Bytes (toBE k v)
+bytes-toBE zero v = tt
+bytes-toBE (suc k) v = (omega arith, bytes-toBE k v)
+
+be-less : (xs : List ℕ) → Bytes xs → be xs < 256 ^ length xs
+be-less [] b = omega arith
+be-less (x ∷ xs) b = rw (pow-suc, mul-comm (256 ^ length xs) 256) (digits-lt (b .0) (be-less xs (b .1)))
+
+pub be-same : (xs ys : List ℕ) → length xs ≡ length ys → Bytes xs → Bytes ys → be xs ≡ be ys → xs ≡ ys
+be-same [] [] l a b e = refl
+be-same [] (y ∷ ys) l a b e = absurd (omega arith)
+be-same (x ∷ xs) [] l a b e = absurd (omega arith)
+be-same (x ∷ xs) (y ∷ ys) l a b e =
+    let n : length ys ≡ length xs = omega arith in
+    let m : ℕ = 256 ^ length xs in
+    let f : x * m + be xs ≡ y * m + be ys = e ∙ ap (λ (k : ℕ). y * 256 ^ k + be ys) n in
+    let r : be xs < m = be-less xs (a .1) in
+    let s : be ys < m = rw n at (be-less ys (b .1)) in
+    let g : x ≡ y = sym (digits-div x r) ∙ ap (λ (k : ℕ). k / m) f ∙ digits-div y s in
+    let h : be xs ≡ be ys = sym (digits-mod x r) ∙ ap (λ (k : ℕ). k % m) f ∙ digits-mod y s in
+    λ i. g i ∷ be-same xs ys (sym n) (a .1) (b .1) h i
 
 -- ---- what a write leaves as it was, and what it leaves
 

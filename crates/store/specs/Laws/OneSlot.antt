@@ -56,6 +56,7 @@ module _ (v : View) (s : Sound v) (k : ℕ) (x : Slot) (d r : ℕ) (h : Suits v 
         codable = upd-elim (v .at) k x (λ j z. Codable z) (h .codable) (λ j n. s .codable j);
         past = upd-elim (v .at) k x (λ j z. v .slotCount ≤ j → z ≡ Free) (λ q. absurd (omega (arith, h .inside))) (λ j n. s .past j);
         lens = upd-lens (v .at) (v .bytes) k x bs l (s .lens);
+        in-use = inl (omega (arith, h .inside));
       }
     where
       first-not : v .firstFree ≢ k

@@ -9,12 +9,12 @@ use native.Mathlib.Nat.{not-suc-le-zero}
 use native.Mathlib.Decide.{ℕ-discrete, decLt}
 use lib.ListN.{length, drop, length-take, length-drop}
 use lib.Dec.{ltb, leb, eqb}
-use borrow.Author.Tests.{le-ltb, lt-leb, le-leb, leb-true, eq-eqb, ne-eqb, not-true}
-use Rattle.store.specs.Numbers.{cut, be, all}
+use borrow.Author.Tests.{le-ltb, lt-leb, le-leb, leb-true, eqb-true, eq-eqb, ne-eqb, not-true}
+use Rattle.store.specs.Numbers.{cut, be, all, sum}
 use Rattle.store.specs.Slots.{off, len, isFree, isTarget, slotOf, ofKind}
-use Rattle.store.specs.Page.{View, view, count, slotAt, fresh, pastDirectory, liesWell, apart, soundTests, passes, sound}
+use Rattle.store.specs.Page.{View, view, count, slotAt, headerIs, fresh, pastDirectory, liesWell, apart, usedOrInitial, soundTests, passes, sound}
 use Rattle.store.specs.PageSteps.{initialised, opened}
-use Rattle.store.specs.Laws.Cases.{or-in, tests}
+use Rattle.store.specs.Laws.Cases.{never, or-in, or-out, tests}
 use Rattle.store.specs.Laws.Slots.{Codable}
 use Rattle.store.specs.Laws.Edits.{Apart}
 use Rattle.store.specs.Laws.Views.{Sound, is-free}
@@ -114,6 +114,52 @@ two-apart v i j n e a b = go (decLt (off (v .at j)) (off (v .at i) + len (v .at 
         inr (leb-true (off (v .at j) + len (v .at j)) (off (v .at i))
         (rw (ne-eqb i j n, ne-eqb (len (v .at i)) 0 ni, ne-eqb (len (v .at j)) 0 nj, lt-leb (off (v .at i) + len (v .at i)) (off (v .at j)) l) at e))
 
+-- what the test of a page without slots says
+used-by : (v : View) → usedOrInitial v ≡ true → (0 < v .slotCount) ⊎ (v .dataStart ≡ 16384)
+used-by v = go (leb 1 (v .slotCount)) refl
+  where
+    go : (b : Bool) → leb 1 (v .slotCount) ≡ b → (b || eqb (v .dataStart) 16384) ≡ true → (0 < v .slotCount) ⊎ (v .dataStart ≡ 16384)
+    go true e q = inl (leb-true 1 (v .slotCount) e)
+    go false e q = inr (eqb-true (v .dataStart) 16384 q)
+
+-- ---- a page without slots: it is sound exactly if it is fresh
+
+pub used-not-fresh : (v : View) → v .slotCount ≢ 0 → fresh v ≡ false
+used-not-fresh v n = rw (ne-eqb (v .slotCount) 0 n)
+
+pub fresh-none : (v : View) → fresh v ≡ true → v .slotCount ≡ 0
+fresh-none v e = go (ℕ-discrete (v .slotCount) 0)
+  where
+    go : Dec (v .slotCount ≡ 0) → v .slotCount ≡ 0
+    go (yes z) = z
+    go (no n) = never e (used-not-fresh v n)
+
+pub header-is : (v : View) (c f d n : ℕ) → v .slotCount ≡ c → v .firstFree ≡ f → v .dataStart ≡ d → v .freeSpace ≡ n → headerIs v c f d n ≡ true
+header-is v c f d n a b g h = rw (eq-eqb (v .slotCount) c a, eq-eqb (v .firstFree) f b, eq-eqb (v .dataStart) d g, eq-eqb (v .freeSpace) n h)
+
+-- of no slot the tests leave one header
+tests-none : (v : View) → v .slotCount ≡ 0 → passes soundTests v ≡ true → fresh v ≡ true
+tests-none v z e =
+    let t = passed soundTests v e in
+    let low = and-both (leb (v .firstFree) (v .slotCount)) (isFree (v .at (v .firstFree)) && all (v .firstFree) (λ j. not (isFree (v .at j)))) (t .1 .0) .0 in
+    let adds = t .1 .1 .1 .1 .1 .0 in
+    let none : sum (v .slotCount) (λ k. len (v .at k)) ≡ 0 = ap (λ (n : ℕ). sum n (λ k. len (v .at k))) z in
+    or-out (headerIs v 0 0 0 0) (headerIs v 0 0 16384 16372)
+    (header-is v 0 0 16384 16372 z (omega tests) (start (used-by v (t .1 .1 .1 .1 .1 .1 .0))) (omega tests))
+  where
+    start : (0 < v .slotCount) ⊎ (v .dataStart ≡ 16384) → v .dataStart ≡ 16384
+    start (inl h) = absurd (omega arith)
+    start (inr e) = e
+
+pub sound-none : (v : View) → v .slotCount ≡ 0 → sound v ≡ fresh v
+unfolding sound
+sound-none v z = go (fresh v) (passes soundTests v) refl refl
+  where
+    go : (a b : Bool) → fresh v ≡ a → passes soundTests v ≡ b → (a || b) ≡ a
+    go true b f e = refl
+    go false true f e = never (tests-none v z e) f
+    go false false f e = refl
+
 -- ---- a page
 
 pub past-free : (p : List ℕ) (j : ℕ) → view p .slotCount ≤ j → view p .at j ≡ Free
@@ -159,6 +205,7 @@ module _ (p : List ℕ) (whole : length p ≡ 16384) where
         codable = page-codable p;
         past = past-free p;
         lens = λ j. length-take (len (v .at j)) (drop (off (v .at j)) p) ∙ omega (arith, length-drop (off (v .at j)) p, high j);
+        in-use = used-by v (t .1 .1 .1 .1 .1 .1 .0);
       }
     where
       high-by : (j : ℕ) → ((i : ℕ) → i < count p → liesWell (view p) i ≡ true) → Dec (j < count p) → off (slotAt p j) + len (slotAt p j) ≤ 16384
@@ -198,6 +245,7 @@ sound-init =
       codable = λ j. tt;
       past = λ j h. refl;
       lens = λ j. refl;
+      in-use = inr refl;
     }
 
 -- what is seen of any page that passes the test is sound
@@ -209,10 +257,6 @@ sound-opened p whole e = go (fresh (view p)) refl
     go false q = sound-page p whole q e
 
 -- ---- the other way: a sound view passes the test
-
-or-out : (a b : Bool) → b ≡ true → (a || b) ≡ true
-or-out true b p = refl
-or-out false b p = p
 
 all-in : (n : ℕ) (f : ℕ → Bool) → ((j : ℕ) → j < n → f j ≡ true) → all n f ≡ true
 all-in zero f h = refl
@@ -265,6 +309,10 @@ module _ (v : View) (s : Sound v) where
           (or-in (c1 || c2 || c3) c4 (or-out (c1 || c2) c3 (let z : len (v .at j) ≡ 0 = omega arith in eq-eqb (len (v .at j)) 0 z)))
       go (no n) (yes a) (yes b) = side (s .apart i j n a b)
 
+  used-in : (0 < v .slotCount) ⊎ (v .dataStart ≡ 16384) → usedOrInitial v ≡ true
+  used-in (inl h) = or-in (leb 1 (v .slotCount)) (eqb (v .dataStart) 16384) (le-leb 1 (v .slotCount) h)
+  used-in (inr e) = or-out (leb 1 (v .slotCount)) (eqb (v .dataStart) 16384) (eq-eqb (v .dataStart) 16384 e)
+
   pub sound-test : sound v ≡ true
   unfolding sound
   sound-test =
@@ -282,7 +330,7 @@ module _ (v : View) (s : Sound v) where
               all-in (v .slotCount) (liesWell v) (λ j h. good-in j),
               (
                 all-in (v .slotCount) (λ i. all (v .slotCount) (apart v i)) (λ i h. all-in (v .slotCount) (apart v i) (λ j l. apart-in i j)),
-                (omega (arith, eq-eqb, s .sums), tt),
+                (omega (arith, eq-eqb, s .sums), (used-in (s .in-use), tt)),
               ),
             ),
           ),

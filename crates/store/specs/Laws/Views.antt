@@ -97,6 +97,7 @@ pub record Sound (v : View) : Type 0 where
   pub codable : (j : ℕ) → Codable (v .at j)
   pub past : (j : ℕ) → v .slotCount ≤ j → v .at j ≡ Free
   pub lens : (j : ℕ) → length (v .bytes j) ≡ len (v .at j)
+  pub in-use : (0 < v .slotCount) ⊎ (v .dataStart ≡ 16384)
 
 pub sound-fits : (v : View) → Sound v → Fits v
 sound-fits v s =
@@ -250,6 +251,7 @@ module _ (v : View) (s : Sound v) (k : ℕ) (inside : k < v .slotCount) (taken :
         codable = upd-elim (v .at) k Free (λ j x. Codable x) tt (λ j n. s .codable j);
         past = gone;
         lens = upd-lens (v .at) (v .bytes) k Free [] refl (s .lens);
+        in-use = inl (omega (arith, pruned≤));
       }
 
   pub erase-used : 0 < erased v k .slotCount
@@ -374,4 +376,5 @@ module _ (v : View) (s : Sound v) (n : ℕ) (room : cost v n ≤ v .freeSpace) (
         past = upd-elim (v .at) (v .firstFree) (Ordinary (v .dataStart - n) n) (λ j x. allocated v n .slotCount ≤ j
             → x ≡ Free) (λ h. absurd (omega (arith, numbers .inside))) (λ j q h. s .past j (omega (arith, numbers .more)));
         lens = upd-lens (v .at) (v .bytes) (v .firstFree) (Ordinary (v .dataStart - n) n) (zeros n) (length-replicate n 0) (s .lens);
+        in-use = inl (omega (arith, numbers .inside));
       }
