@@ -84,7 +84,8 @@ returns-4 c =
 returns-5 : tie.Need-returns-5
 returns-5 c =
     let at = c .before .before in
-    between (read at) (none (empty (free at))) (first (free at)) (λ e. c .before .if3 .left (sym (read-start at) ∙ e)) (λ e. c .if4 .left (sym (read-start at) ∙ e))
+    between (read at) (none (empty (free at))) (first (free at)) (λ e. c .before .if3 .left (sym (read-start at) ∙ e))
+    (λ e. c .if4 .left (sym (read-start at) ∙ e))
 
 pub is-fresh-spec : {M : Type 1} → statement M
 is-fresh-spec =
