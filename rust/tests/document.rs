@@ -1,5 +1,5 @@
 //! The segment's cases of document 01, through the public calls: its numbers to meet, its answers
-//! and their order, and what the scan gives.
+//! and their order, and what the scan gives; and the examples of document 02.
 
 use hekatosuy::{Refusal, Rid, SlottedPageSegment, SlottedPages, MAX_PAGES, MAX_RECORD_SIZE as MOST, PAGE_SIZE};
 
@@ -299,6 +299,72 @@ fn answer_4_by_the_page_and_by_the_redirect() {
     let mut astray = forwarded();
     astray.pages[PAGE_SIZE + 12..PAGE_SIZE + 20].copy_from_slice(&redirect(id(0, 0)).to_be_bytes());
     each_refused(&mut astray, Refusal::Damaged, id(1, 0), 3);
+}
+
+/// Document 02, Ask 3: the two headers of a fresh page, and five others with count 0.
+const FRESH: [[u8; 12]; 2] = [[0; 12], [0, 0, 0, 0, 0, 0, 0x40, 0, 0, 0, 0x3F, 0xF4]];
+const EMPTIED: [[u8; 12]; 5] = [
+    [0, 0, 0, 3, 0, 0, 0x3F, 0xF4, 0, 0, 0x3F, 0xD0],
+    [0, 0, 0, 0, 0, 0, 0x3E, 0x80, 0, 0, 0x3F, 0xF4],
+    [0, 0, 0, 0, 0, 0, 0x40, 0, 0, 0, 0, 0],
+    [0, 0, 0, 1, 0, 0, 0, 0, 0, 0, 0, 0],
+    [0, 0, 0, 0, 0, 0, 0, 0, 0, 0, 0, 1],
+];
+
+/// One page with this header, and EE in all its other bytes.
+fn with_header(header: [u8; 12]) -> Lent {
+    let mut lent = Lent { pages: vec![0xEE; PAGE_SIZE], inventory: vec![0; PAGE_SIZE] };
+    lent.pages[..12].copy_from_slice(&header);
+    lent
+}
+
+#[test]
+fn a_page_is_fresh_by_either_of_two_headers() {
+    for header in FRESH {
+        let mut lent = with_header(header);
+        each_refused(&mut lent, Refusal::None, id(0, 0), 1);
+        lent.refused(Refusal::Long, |calls| calls.insert_record(&row(MOST + 1, 1)));
+        assert_eq!(lent.calls().scan().next(), None);
+        assert_eq!(lent.insert(3), Ok(id(0, 0)));
+        assert_eq!(lent.pages[..12], [0, 1, 0, 1, 0, 0, 0x3F, 0xFD, 0, 0, 0x3F, 0xE9]);
+    }
+}
+
+#[test]
+fn no_other_page_with_count_0_is_sound() {
+    for header in EMPTIED {
+        let mut lent = with_header(header);
+        each_refused(&mut lent, Refusal::Damaged, id(0, 0), 1);
+        lent.refused(Refusal::Damaged, |calls| calls.insert_record(&row(3, 1)));
+        lent.refused(Refusal::Damaged, |calls| calls.allocate(3));
+        lent.refused(Refusal::Long, |calls| calls.insert_record(&row(MOST + 1, 1)));
+        assert_eq!(lent.calls().scan().next(), Some(Err(Refusal::Damaged)));
+    }
+}
+
+/// The ids that a scan gives, and the refusal that it ends with.
+fn scanned(lent: &Lent) -> (Vec<Rid>, Option<Refusal>) {
+    let steps: Vec<_> = SlottedPages::new(&lent.pages).scan().collect();
+    (steps.iter().flatten().map(|&(tid, _)| tid).collect(), steps.iter().find_map(|step| step.err()))
+}
+
+#[test]
+fn a_fresh_page_but_for_a_byte_is_not_a_new_page() {
+    let mut lent = Lent::with(3, &[16000, 100, 12000]);
+    lent.pages[2 * PAGE_SIZE + 11] = 1;
+    lent.refused(Refusal::Damaged, |calls| calls.write_record(id(1, 0), &row(5000, 2)));
+    assert_eq!(lent.write(id(1, 0), 200), Ok(()));
+    assert_eq!(scanned(&lent), (vec![id(0, 0), id(1, 0), id(1, 1)], Some(Refusal::Damaged)));
+}
+
+#[test]
+fn a_target_on_a_page_whose_count_was_wiped() {
+    let mut lent = forwarded();
+    lent.pages[2 * PAGE_SIZE + 1] = 0;
+    each_refused(&mut lent, Refusal::Damaged, id(1, 0), 5000);
+    each_refused(&mut lent, Refusal::Damaged, id(2, 0), 5000);
+    assert_eq!(lent.calls().get_record(id(1, 1)), Ok(&row(12000, 1)[..]));
+    assert_eq!(scanned(&lent), (vec![id(0, 0), id(1, 1)], Some(Refusal::Damaged)));
 }
 
 #[test]

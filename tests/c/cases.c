@@ -290,6 +290,23 @@ static void impossible_count(void) {
     end("a scan inside a page of impossible count");
 }
 
+/* A page whose count was wiped is damaged and not empty, and the row on it is there still. */
+static void wiped_count(void) {
+    uint64_t position = 0;
+    begin(1);
+    insert(10, 1, HK_DONE, id_of(0, 0));
+    segment[1] = 0;
+    read_refused(0, HK_DAMAGED);
+    write_to(0, 10, 2, HK_DAMAGED);
+    resize(0, 10, HK_DAMAGED);
+    erase(0, HK_DAMAGED);
+    insert(10, 2, HK_DAMAGED, 0);
+    scanned(&position, HK_DAMAGED, 0, 0, 0, 0);
+    segment[1] = 1;
+    read_back(0, 16374, 10, 1, 10);
+    end("a wiped count");
+}
+
 static void widest(void) {
     size_t whole = (size_t)HK_MAX_PAGES * PAGE;
     uint8_t *pages = calloc(HK_MAX_PAGES + 1, PAGE);
@@ -331,6 +348,7 @@ int main(void) {
     refused();
     written_between_steps();
     impossible_count();
+    wiped_count();
     widest();
     nothing_lent();
     return faults != 0;

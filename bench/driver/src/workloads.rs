@@ -36,9 +36,9 @@ fn scans(start: &Start) -> Plan {
 
 /// Fresh pages, every other of them with the initialised header.
 fn scan_of_fresh_pages() -> Plan {
-    let both = [vec![0; PAGE_SIZE], page(&[], &[])];
-    let start = Start::by_hand(&both.repeat(PAGES / 2), Vec::new());
-    plan(&start, 1, two(|| vec![scan()]), PAGES as u64)
+    let headers = [vec![0; PAGE_SIZE], page(&[], &[])];
+    let pages: Vec<Vec<u8>> = (0..PAGES).map(|number| headers[number % 2].clone()).collect();
+    plan(&Start::by_hand(&pages, Vec::new()), 1, two(|| vec![scan()]), PAGES as u64)
 }
 
 /// Writes of the length that a record has already.

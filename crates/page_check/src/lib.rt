@@ -63,10 +63,10 @@ pub fn is_sound(page: &[u8]) -> bool
     ensures { λ r. ⌜ r ≡ sound (view (now (page .entry))) ⌝ }
 {
     let n = layout::header::get_slot_count(page);
+    let f = layout::header::get_first_free_slot(page);
     if n == 0 {
         return layout::header::is_fresh(page);
     }
-    let f = layout::header::get_first_free_slot(page);
     let d = layout::header::get_data_start(page);
     if !header_fits(page, n, f, d) {
         return false;

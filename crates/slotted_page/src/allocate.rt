@@ -19,13 +19,13 @@ fn initialize(page: &mut [u8])
     layout::header::set_header(page, 0, 0, PAGE_SIZE, ROOM);
 }
 
-// A size of at most 16,364 finds room on a fresh page, so a refusal never leaves one initialised.
+// On a sound page a count of 0 says that it is fresh. A size of at most 16,364 finds room there, so a refusal never leaves one initialised.
 pub fn allocate(page: &mut [u8], size: usize) -> Place
     requires { ⌜ (length (now page) ≡ 16384) × (sound (view (now page)) ≡ true) × (size ≤ 16364) ⌝ }
     ensures { λ r. ⌜ (now (page .exit) ≡ pageBare (allocate (opened (view (now (page .entry)))) size) (now (page .entry)))
         × (givenPlace r ≡ allotted (allocate (opened (view (now (page .entry)))) size)) × Inside r size × PastEntry r ⌝ }
 {
-    if layout::header::is_fresh(page) {
+    if layout::header::get_slot_count(page) == 0 {
         initialize(page);
         return page_places::reserve::reserve(page, size);
     }

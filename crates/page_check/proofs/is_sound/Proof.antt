@@ -13,17 +13,18 @@ use Rattle.page_check.proofs.is_sound.Tie as tie
 -- ---- the places: the page has a slot, its header is read, the header fits, the records are looked at
 
 abbrev entry : tie.Else1 → tie.Start
-entry c = c .before .before .before
+entry c = c .before .before .before .before
 
 abbrev used : tie.After-get-data-start → tie.Else1
-used c = c .before .before
+used c = c .before
 
 header : (c : tie.After-get-data-start)
-    → Header (now (entry (used c) .args .page)) (used c .before .get-slot-count .result) (c .before .get-first-free-slot .result) (c .get-data-start .result)
+    → Header (now (entry (used c) .args .page)) (used c .before .before .get-slot-count .result) (used c .before .get-first-free-slot .result)
+    (c .get-data-start .result)
 header c = record {
   whole = entry (used c) .pre;
-  slots = used c .before .get-slot-count .ensures .0;
-  first = c .before .get-first-free-slot .ensures .0;
+  slots = used c .before .before .get-slot-count .ensures .0;
+  first = used c .before .get-first-free-slot .ensures .0;
   start = c .get-data-start .ensures .0;
 }
 
@@ -38,7 +39,7 @@ fitting c = c .before .before .before
 returns : tie.Need-returns
 returns c =
     let test = c .before in
-    c .is-fresh .ensures ∙ sym (sound-none _ (sym (test .before .get-slot-count .ensures .0) ∙ test .if1 .taken))
+    c .is-fresh .ensures ∙ sym (sound-none _ (sym (test .before .before .get-slot-count .ensures .0) ∙ test .if1 .taken))
 
 returns-2 : tie.Need-returns-2
 returns-2 c =
@@ -78,5 +79,5 @@ returns-4 c =
 
 pub is-sound-spec : {M : Type 1} → statement M
 is-sound-spec =
-    tie.close (tie.spec (λ c κs. search needs) (λ c κs. search needs) returns (λ c κs. search needs) (λ c κs. search needs) (λ c κs. search needs)
+    tie.close (tie.spec (λ c κs. search needs) (λ c κs. search needs) (λ c κs. search needs) returns (λ c κs. search needs) (λ c κs. search needs)
     returns-2 records-fit-requires returns-3 (λ c κs. search needs) (λ c. search needs) (λ c. search needs) add-result-2 returns-4)

@@ -8,10 +8,10 @@ use borrow.Author.Needs.{needs}
 use Rattle.slotted_page.proofs.allocate.allocate.Statement.{statement}
 use Rattle.slotted_page.proofs.allocate.allocate.Tie as tie
 
-abbrev entry : tie.After-is-fresh → tie.Start
+abbrev entry : tie.After-get-slot-count → tie.Start
 entry c = c .before .before .before
 
-abbrev page-lent : tie.After-is-fresh → List ℕ
+abbrev page-lent : tie.After-get-slot-count → List ℕ
 page-lent c = entry c .args .page .now
 
 reserve-requires : tie.Need-reserve-requires
@@ -28,7 +28,7 @@ returns c =
     let test = branch .before in
     let start = entry test in
     let y = fresh-done (page-lent test) (start .args .size) (init .initialize .last .0) (made .reserve .last .0) (made .reserve .result)
-    (sym (test .is-fresh .ensures) ∙ branch .if1 .taken) (start .pre .0) (start .pre .2) (init .initialize .ensures)
+    (sym (test .get-slot-count .ensures .0) ∙ branch .if1 .taken) (start .pre .1) (start .pre .0) (start .pre .2) (init .initialize .ensures)
     (made .reserve .ensures .0, made .reserve .ensures .1) in
     (y .0, y .1, made .reserve .ensures .2, made .reserve .ensures .3)
 
@@ -37,7 +37,7 @@ reserve-requires-2 c κs =
     let branch = c .before in
     let test = branch .before in
     let start = entry test in
-    (used-sound (page-lent test) (sym (test .is-fresh .ensures) ∙ branch .if1 .left) (start .pre .0) (start .pre .1), omega arith)
+    (used-sound (page-lent test) (λ e. branch .if1 .left (test .get-slot-count .ensures .0 ∙ e)) (start .pre .0) (start .pre .1), omega arith)
 
 returns-2 : tie.Need-returns-2
 returns-2 c =
@@ -45,7 +45,7 @@ returns-2 c =
     let branch = made .before .before in
     let test = branch .before in
     let y = used-done (page-lent test) (entry test .args .size) (made .reserve2 .last .0) (made .reserve2 .result)
-    (sym (test .is-fresh .ensures) ∙ branch .if1 .left) (made .reserve2 .ensures .0, made .reserve2 .ensures .1) in
+    (λ e. branch .if1 .left (test .get-slot-count .ensures .0 ∙ e)) (made .reserve2 .ensures .0, made .reserve2 .ensures .1) in
     (y .0, y .1, made .reserve2 .ensures .2, made .reserve2 .ensures .3)
 
 pub allocate-spec : {M : Type 1} → statement M
