@@ -12,14 +12,27 @@ use store::ROOM;
 use sweep::Pass;
 ghost use mathlib.Core.Path.{_≡_};
 ghost use mathlib.Core.Bool.{_&&_};
+ghost use Prim.Native.Nat.{_≤_};
 ghost use lib.ListN.{length};
 ghost use lib.Dec.{eqb};
 ghost use Rattle.store.specs.Page.{view, sound};
 ghost use Rattle.layout.specs.Run.{Counted};
+ghost use Rattle.store.specs.declared.Slot.the-variants.{Free};
 ghost use Rattle.page_check.specs.Fit.{Tells, HeaderFits, Passed};
 
-// "count at most 2,046", "12 + 8 × count ≤ data start ≤ 16,384", and that the first free slot is free: it is the count if none is.
-// That no slot below it is free is found with the records.
+// Whether the first free slot is free: it is the count if none is. That no slot below it is free is found with the records.
+fn first_is_free(page: &[u8], n: usize, f: usize) -> bool
+    requires { ⌜ (length (now page) ≡ 16384) × (n ≡ view (now page) .slotCount) × (n ≤ 2046) × (f ≤ n) ⌝ }
+    ensures { λ r. ⌜ Tells r (view (now (page .entry)) .at f ≡ Free) ⌝ }
+{
+    if f == n {
+        return true;
+    }
+    layout::slots::is_free(layout::slots::get_slot(page, f))
+}
+
+// "count at most 2,046", "12 + 8 × count ≤ data start ≤ 16,384", and the first free slot. Between the two ends of data start, so that each
+// is one test.
 fn header_fits(page: &[u8], n: usize, f: usize, d: usize) -> bool
     requires { ⌜ (length (now page) ≡ 16384) × (n ≡ view (now page) .slotCount) ⌝ }
     ensures { λ r. ⌜ Tells r (HeaderFits (view (now (page .entry))) n f d) ⌝ }
@@ -33,13 +46,10 @@ fn header_fits(page: &[u8], n: usize, f: usize, d: usize) -> bool
     if d < HEADER + ENTRY * n {
         return false;
     }
-    if PAGE_SIZE < d {
+    if !first_is_free(page, n, f) {
         return false;
     }
-    if f == n {
-        return true;
-    }
-    layout::slots::is_free(layout::slots::get_slot(page, f))
+    d <= PAGE_SIZE
 }
 
 // Whether the n records lie well and apart, and the sum of their lengths. Where they lie in the order of their slots, as inserts leave
