@@ -31,8 +31,8 @@ fn first_is_free(page: &[u8], n: usize, f: usize) -> bool
     layout::slots::is_free(layout::slots::get_slot(page, f))
 }
 
-// "count at most 2,046", "12 + 8 × count ≤ data start ≤ 16,384", and the first free slot. Between the two ends of data start, so that each
-// is one test.
+// "count at most 2,046", "12 + 8 × count ≤ data start ≤ 16,384", and the first free slot. It is asked for between the two bounds of data
+// start, which the compiler would make one longer test of.
 fn header_fits(page: &[u8], n: usize, f: usize, d: usize) -> bool
     requires { ⌜ (length (now page) ≡ 16384) × (n ≡ view (now page) .slotCount) ⌝ }
     ensures { λ r. ⌜ Tells r (HeaderFits (view (now (page .entry))) n f d) ⌝ }
