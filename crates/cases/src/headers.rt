@@ -27,30 +27,48 @@ fn hex(bytes: &[u8]) {
     }
 }
 
-// The calls that name the record (0,0), and the scan's first step.
-fn named_calls(segment: &mut [u8], inventory: &mut [u8]) {
+// The calls that name the record (0,0).
+fn read(segment: &[u8]) {
     let mut offset: u64 = 0;
     let mut length: u64 = 0;
-    let read = hekatosuy::hk_get_record(segment, 0, &mut offset, &mut length);
-    named(b"  read ", read);
-    let wrote = hekatosuy::hk_write_record(segment, inventory, 0, b"w");
-    named(b", write ", wrote);
-    let resized = hekatosuy::hk_resize_record(segment, inventory, 0, 1);
-    named(b", resize ", resized);
-    let erased = hekatosuy::hk_erase_record(segment, inventory, 0);
-    named(b", erase ", erased);
-    say(b", scan");
-    crate::show::step(segment, 0);
+    let answer = hekatosuy::hk_get_record(segment, 0, &mut offset, &mut length);
+    named(b"  read ", answer);
 }
 
-// A record of 16,365 bytes, and then one of 3.
-fn inserts(segment: &mut [u8], inventory: &mut [u8]) {
-    let longer = [7u8; 16365];
+fn write(segment: &mut [u8], inventory: &mut [u8]) {
+    let answer = hekatosuy::hk_write_record(segment, inventory, 0, b"w");
+    named(b", write ", answer);
+}
+
+fn resize(segment: &mut [u8], inventory: &mut [u8]) {
+    let answer = hekatosuy::hk_resize_record(segment, inventory, 0, 1);
+    named(b", resize ", answer);
+}
+
+fn erase(segment: &mut [u8], inventory: &mut [u8]) {
+    let answer = hekatosuy::hk_erase_record(segment, inventory, 0);
+    named(b", erase ", answer);
+}
+
+fn insert(segment: &mut [u8], inventory: &mut [u8], record: &[u8]) {
     let mut id: u64 = 0;
-    let refused = hekatosuy::hk_insert_record(segment, inventory, &longer, &mut id);
-    named(b", insert 16,365 ", refused);
-    let answer = hekatosuy::hk_insert_record(segment, inventory, b"row", &mut id);
-    named(b", insert 3 ", answer);
+    let answer = hekatosuy::hk_insert_record(segment, inventory, record, &mut id);
+    named(b", insert ", record.len() as u64);
+    named(b" ", answer);
+}
+
+// Each of them, the scan's first step, and a record of 16,365 bytes before one of 3.
+fn calls(segment: &mut [u8], inventory: &mut [u8]) {
+    let longer = [7u8; 16365];
+    read(segment);
+    write(segment, inventory);
+    resize(segment, inventory);
+    erase(segment, inventory);
+    say(b", scan");
+    crate::show::step(segment, 0);
+    insert(segment, inventory, &longer);
+    insert(segment, inventory, b"row");
+    end_line();
 }
 
 // A page of count 0 with the rest of its header.
@@ -61,9 +79,7 @@ fn row(first: usize, start: usize, space: usize) {
     say(b"header");
     hex(&segment[0..12]);
     end_line();
-    named_calls(&mut segment, &mut inventory);
-    inserts(&mut segment, &mut inventory);
-    end_line();
+    calls(&mut segment, &mut inventory);
     say(b"  then");
     hex(&segment[0..12]);
     end_line();
