@@ -8,7 +8,8 @@ use Rattle.store.specs.Segment.{Result, Part, noPart, Located}
 use Rattle.store.specs.Scan.{Scanned, overPage}
 use Rattle.store.specs.Slots.{off}
 use Rattle.store.specs.PageSteps.{Alloc, noRoom, got}
-use Rattle.store.specs.Refusals.{DONE, SIZE, NOPAGE, LONG, DAMAGED, NONE, FORWARDED, FULL, STALE}
+use Rattle.store.specs.Repair.{Repaired}
+use Rattle.store.specs.Refusals.{DONE, SIZE, NOPAGE, LONG, DAMAGED, NONE, FORWARDED, FULL, STALE, ROOM}
 use Rattle.store.specs.declared.Place.{Place}
 use Rattle.store.specs.declared.Place.the-variants as place
 use Rattle.store.specs.declared.Named.{Named}
@@ -19,6 +20,8 @@ use Rattle.store.specs.declared.Reading.{Reading}
 use Rattle.store.specs.declared.Reading.the-variants as reading
 use Rattle.store.specs.declared.Step.{Step}
 use Rattle.store.specs.declared.Step.the-variants as scan
+use Rattle.store.specs.declared.Repair.{Repair}
+use Rattle.store.specs.declared.Repair.the-variants as repair
 
 -- ---- the calls that write
 
@@ -75,6 +78,22 @@ scannedOf (scan.Record i o l p k) s =
 scannedOf (scan.End p k) s = record { answer = DONE; some = false; id = 0; bytes = []; part = noPart; page = p; slot = k }
 scannedOf scan.Size s = record { answer = SIZE; some = false; id = 0; bytes = []; part = noPart; page = overPage; slot = 0 }
 scannedOf scan.Damaged s = record { answer = DAMAGED; some = false; id = 0; bytes = []; part = noPart; page = overPage; slot = 0 }
+
+-- ---- repair: its number, and how many entries there are or would be
+
+abbrev pub repairNo : Repair → ℕ
+repairNo (repair.Done n) = DONE
+repairNo repair.Size = SIZE
+repairNo (repair.Room n) = ROOM
+
+abbrev pub repairCount : Repair → ℕ
+repairCount (repair.Done n) = n
+repairCount repair.Size = 0
+repairCount (repair.Room n) = n
+
+-- what it answered and left: segment, inventory and list
+abbrev pub repaired : Repair → List ℕ → List ℕ → List ℕ → Repaired
+repaired r s v l = record { answer = repairNo r; count = repairCount r; seg = s; inv = v; list = l }
 
 -- ---- inside a call: allocate on a page, the inventory (an id's own page: Segment.byRoot)
 

@@ -32,3 +32,12 @@ pub mod Scan
 pub mod Rows
 pub mod Grown
 pub mod Blank
+pub mod RepairPage
+pub mod RepairBytes
+pub mod RepairPairs
+pub mod RepairInventory
+pub mod Repair
+pub mod RepairAlone
+pub mod RepairReads
+pub mod RepairEntries
+pub mod RepairSeen

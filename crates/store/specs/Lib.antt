@@ -7,8 +7,9 @@ pub mod Refusals
 pub mod Segment
 pub mod Calls
 pub mod Scan
-pub mod Answers
 pub mod SoundSegment
+pub mod Repair
+pub mod Answers
 pub mod Alike
 pub mod Laws
 pub mod Promises

@@ -13,3 +13,5 @@ pub mod Growth
 pub mod Blank
 pub mod Marked
 pub mod Examples
+pub mod Repair
+pub mod RepairKept

@@ -38,3 +38,7 @@ FULL = 7
 -- "the page named is the root's or old target's, or allocate finds no room there"
 abbrev pub STALE : ℕ
 STALE = 8
+
+-- Document 02, Ask 4: "when the entry list is too short for all changes"
+abbrev pub ROOM : ℕ
+ROOM = 11

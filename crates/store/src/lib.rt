@@ -85,3 +85,18 @@ pub enum Step {
     Size,
     Damaged,
 }
+
+// What repair does to a slot.
+pub enum Deed {
+    Stays,
+    RecordFreed,
+    RedirectFreed,
+    MadeOrdinary,
+}
+
+// What repair answers: how many entries it wrote, or would need.
+pub enum Repair {
+    Done { count: usize },
+    Size,
+    Room { count: usize },
+}

@@ -23,11 +23,11 @@ zero-get [] h j = refl
 zero-get (x ∷ l) h zero = h .0
 zero-get (x ∷ l) h (suc j) = zero-get l (h .1) j
 
-nibble-zero : (k : ℕ) → nibble (zeros 16384) k ≡ 0
+pub nibble-zero : (k : ℕ) → nibble (zeros 16384) k ≡ 0
 unfolding nibbleAt
 nibble-zero k = ap (λ (b : ℕ). halfOf b ((k + 240) % 2)) (zero-get (zeros 16384) (zero-zeros 16384) ((k + 240) / 2)) ∙ either (eqb ((k + 240) % 2) 0)
 
-entry-zero : (c : ℕ) → entryAt (zeros 16384) c ≡ 0
+pub entry-zero : (c : ℕ) → entryAt (zeros 16384) c ≡ 0
 unfolding entryAt
 entry-zero c =
     zero-be (reverse (cut (zeros 16384) (8 * c) 8))

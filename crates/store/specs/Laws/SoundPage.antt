@@ -24,11 +24,11 @@ pub and-both : (a b : Bool) → (a && b) ≡ true → (a ≡ true) × (b ≡ tru
 and-both true b e = (refl, e)
 and-both false b e = let z : _≡_ {A = ℕ} 0 1 = cc in absurd (omega arith)
 
-or-right : (a b : Bool) → a ≡ false → (a || b) ≡ true → b ≡ true
+pub or-right : (a b : Bool) → a ≡ false → (a || b) ≡ true → b ≡ true
 or-right true b f e = let z : _≡_ {A = ℕ} 0 1 = cc in absurd (omega arith)
 or-right false b f e = e
 
-all-at : (n : ℕ) (f : ℕ → Bool) → all n f ≡ true → (j : ℕ) → j < n → f j ≡ true
+pub all-at : (n : ℕ) (f : ℕ → Bool) → all n f ≡ true → (j : ℕ) → j < n → f j ≡ true
 all-at zero f e j h = absurd (not-suc-le-zero h)
 all-at (suc n) f e j h = go (all-at n f (and-both (f n) (all n f) e .1) j) (ℕ-discrete j n)
   where
@@ -36,7 +36,7 @@ all-at (suc n) f e j h = go (all-at n f (and-both (f n) (all n f) e .1) j) (ℕ-
     go ih (yes q) = rw q (and-both (f n) (all n f) e .0)
     go ih (no q) = ih (omega arith)
 
-and-in : (a b : Bool) → a ≡ true → b ≡ true → (a && b) ≡ true
+pub and-in : (a b : Bool) → a ≡ true → b ≡ true → (a && b) ≡ true
 and-in true b p q = q
 and-in false b p q = p
 
@@ -99,7 +99,7 @@ module _ (v : View) (k : ℕ) (g : liesWell v k ≡ true) where
       go (inr h) = h .0
 
 -- what the test of two says
-two-apart : (v : View) (i j : ℕ) → i ≢ j → apart v i j ≡ true → Apart (v .at i) (v .at j)
+pub two-apart : (v : View) (i j : ℕ) → i ≢ j → apart v i j ≡ true → Apart (v .at i) (v .at j)
 two-apart v i j n e a b = go (decLt (off (v .at j)) (off (v .at i) + len (v .at i)))
   where
     ni : len (v .at i) ≢ 0
@@ -258,7 +258,7 @@ sound-opened p whole e = go (fresh (view p)) refl
 
 -- ---- the other way: a sound view passes the test
 
-all-in : (n : ℕ) (f : ℕ → Bool) → ((j : ℕ) → j < n → f j ≡ true) → all n f ≡ true
+pub all-in : (n : ℕ) (f : ℕ → Bool) → ((j : ℕ) → j < n → f j ≡ true) → all n f ≡ true
 all-in zero f h = refl
 all-in (suc n) f h = and-in (f n) (all n f) (h n (omega arith)) (all-in n f (λ j l. h j (omega arith)))
 
@@ -279,7 +279,7 @@ module _ (v : View) (s : Sound v) where
       kind true e = le-leb 8 (len (v .at k)) (s .targets k e)
       kind false e = refl
 
-  apart-in : (i j : ℕ) → apart v i j ≡ true
+  pub apart-in : (i j : ℕ) → apart v i j ≡ true
   apart-in i j = go (ℕ-discrete i j) (decLt 0 (len (v .at i))) (decLt 0 (len (v .at j)))
     where
       c1 : Bool

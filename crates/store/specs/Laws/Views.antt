@@ -259,7 +259,7 @@ module _ (v : View) (s : Sound v) (k : ℕ) (inside : k < v .slotCount) (taken :
 
 -- ---- allocate, where the gap is large enough
 
-next-low : (n : ℕ) (at : ℕ → Slot) (j : ℕ) → (j ≤ nextFree n at j) × (nextFree n at j ≤ j + n)
+pub next-low : (n : ℕ) (at : ℕ → Slot) (j : ℕ) → (j ≤ nextFree n at j) × (nextFree n at j ≤ j + n)
 next-low zero at j = (omega arith, omega arith)
 next-low (suc n) at j = go (next-low n at (j + 1)) (isFree (at j))
   where
@@ -269,7 +269,7 @@ next-low (suc n) at j = go (next-low n at (j + 1)) (isFree (at j))
     go h false = (omega arith, omega arith)
 
 -- what is passed over is not free
-next-taken : (n : ℕ) (at : ℕ → Slot) (j i : ℕ) → j ≤ i → i < nextFree n at j → isFree (at i) ≡ false
+pub next-taken : (n : ℕ) (at : ℕ → Slot) (j i : ℕ) → j ≤ i → i < nextFree n at j → isFree (at i) ≡ false
 next-taken zero at j i a b = absurd (omega arith)
 next-taken (suc n) at j i a b = go (next-taken n at (j + 1) i) (isFree (at j)) refl b
   where
@@ -283,7 +283,7 @@ next-taken (suc n) at j i a b = go (next-taken n at (j + 1) i) (isFree (at j)) r
         same (no q) = ih (omega arith) h
 
 -- where it stops before its bound, it stops at a free slot
-next-free : (n : ℕ) (at : ℕ → Slot) (j : ℕ) → nextFree n at j < j + n → isFree (at (nextFree n at j)) ≡ true
+pub next-free : (n : ℕ) (at : ℕ → Slot) (j : ℕ) → nextFree n at j < j + n → isFree (at (nextFree n at j)) ≡ true
 next-free zero at j h = absurd (omega arith)
 next-free (suc n) at j h = go (next-free n at (j + 1)) (isFree (at j)) refl h
   where
