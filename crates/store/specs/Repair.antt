@@ -109,11 +109,18 @@ bytesDone RecordFreed bs = []
 bytesDone RedirectFreed bs = []
 bytesDone MadeOrdinary bs = drop 8 bs
 
+-- of each slot of a page, by what is done to it
+abbrev pub slotBy : (ℕ → Deed) → View → ℕ → Slot
+slotBy d v k = slotDone (d k) (v .at k)
+
+abbrev pub bytesBy : (ℕ → Deed) → View → ℕ → List ℕ
+bytesBy d v k = bytesDone (d k) (v .bytes k)
+
 abbrev pub slotAfter : SegView → ℕ → ℕ → Slot
-slotAfter u p k = slotDone (deed u p k) (u .page p .at k)
+slotAfter u p = slotBy (deed u p) (u .page p)
 
 abbrev pub bytesAfter : SegView → ℕ → ℕ → List ℕ
-bytesAfter u p k = bytesDone (deed u p k) (u .page p .bytes k)
+bytesAfter u p = bytesBy (deed u p) (u .page p)
 
 -- ---- "Header numbers that break the sound-page rule are worked out anew"
 
@@ -130,16 +137,19 @@ abbrev pub spaceAfter : ℕ → (ℕ → Slot) → ℕ
 spaceAfter c at = 16372 - (8 * c + sum c (λ k. len (at k)))
 
 -- a page in use afterwards: the count stays; first free is the lowest free slot, the count if none is free
-unfoldable pub mended : SegView → ℕ → View
-mended u p =
+unfoldable pub mendedBy : (ℕ → Deed) → View → View
+mendedBy d v =
     record {
-      slotCount = u .page p .slotCount;
-      firstFree = nextFree (u .page p .slotCount) (slotAfter u p) 0;
-      dataStart = startAfter (u .page p .slotCount) (u .page p .dataStart) (slotAfter u p);
-      freeSpace = spaceAfter (u .page p .slotCount) (slotAfter u p);
-      at = slotAfter u p;
-      bytes = bytesAfter u p;
+      slotCount = v .slotCount;
+      firstFree = nextFree (v .slotCount) (slotBy d v) 0;
+      dataStart = startAfter (v .slotCount) (v .dataStart) (slotBy d v);
+      freeSpace = spaceAfter (v .slotCount) (slotBy d v);
+      at = slotBy d v;
+      bytes = bytesBy d v;
     }
+
+abbrev pub mended : SegView → ℕ → View
+mended u p = mendedBy (deed u p) (u .page p)
 
 -- "gets a zero header"
 abbrev pub emptied : View
@@ -159,17 +169,15 @@ abbrev pub sameHead : View → View → Bool
 sameHead v w = eqb (v .firstFree) (w .firstFree) && (eqb (v .dataStart) (w .dataStart) && eqb (v .freeSpace) (w .freeSpace))
 
 -- the slots below k that change
-abbrev pub putSlots : SegView → ℕ → ℕ → List ℕ → List ℕ
-putSlots u p zero q = q
-putSlots u p (suc k) q = let r = putSlots u p k q in cond (changes (deed u p k)) (put r (12 + 8 * k) (slotBytes (slotAfter u p k))) r
+abbrev pub putSlots : (ℕ → Deed) → View → ℕ → List ℕ → List ℕ
+putSlots d v zero q = q
+putSlots d v (suc k) q = let r = putSlots d v k q in cond (changes (d k)) (put r (12 + 8 * k) (slotBytes (slotBy d v k))) r
 
-abbrev pub putMended : SegView → ℕ → List ℕ → List ℕ
-putMended u p q =
-    let r = putSlots u p (u .page p .slotCount) q in
-    cond (sameHead (u .page p) (mended u p)) r (putHead (mended u p) r)
+abbrev pub putMended : (ℕ → Deed) → View → List ℕ → List ℕ
+putMended d v q = let r = putSlots d v (v .slotCount) q in cond (sameHead v (mendedBy d v)) r (putHead (mendedBy d v) r)
 
 unfoldable pub pageBytes : SegView → ℕ → List ℕ → List ℕ
-pageBytes u p q = cond (lost (u .page p)) (put q 0 (zeros 12)) (cond (fresh (u .page p)) q (putMended u p q))
+pageBytes u p q = cond (lost (u .page p)) (put q 0 (zeros 12)) (cond (fresh (u .page p)) q (putMended (deed u p) (u .page p) q))
 
 -- the pages below n
 unfoldable pub segBytes : SegView → ℕ → List ℕ → List ℕ
@@ -216,18 +224,18 @@ deedNo RecordFreed = 1
 deedNo RedirectFreed = 2
 deedNo MadeOrdinary = 3
 
-abbrev pub slotEntries : SegView → ℕ → ℕ → List Entry
-slotEntries u p zero = []
-slotEntries u p (suc k) = slotEntries u p k ++ cond (changes (deed u p k)) (entry p k (deedNo (deed u p k)) ∷ []) []
+abbrev pub slotEntries : (ℕ → Deed) → ℕ → ℕ → List Entry
+slotEntries d p zero = []
+slotEntries d p (suc k) = slotEntries d p k ++ cond (changes (d k)) (entry p k (deedNo (d k)) ∷ []) []
 
 -- the header's place is 65,535: 4 worked out, 5 zeroed
-abbrev pub headEntries : SegView → ℕ → List Entry
-headEntries u p = cond (sameHead (u .page p) (mended u p)) [] (entry p 65535 4 ∷ [])
+abbrev pub headEntries : (ℕ → Deed) → View → ℕ → List Entry
+headEntries d v p = cond (sameHead v (mendedBy d v)) [] (entry p 65535 4 ∷ [])
 
 unfoldable pub pageEntries : SegView → ℕ → List Entry
 pageEntries u p =
     cond (lost (u .page p)) (entry p 65535 5 ∷ [])
-    (cond (fresh (u .page p)) [] (slotEntries u p (u .page p .slotCount) ++ headEntries u p))
+    (cond (fresh (u .page p)) [] (slotEntries (deed u p) p (u .page p .slotCount) ++ headEntries (deed u p) (u .page p) p))
 
 unfoldable pub segEntries : SegView → ℕ → List Entry
 segEntries u zero = []

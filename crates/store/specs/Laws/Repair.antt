@@ -15,7 +15,7 @@ use Rattle.store.specs.PageSteps.{initialised, opened}
 use Rattle.store.specs.Inventory.{classOf, Truth}
 use Rattle.store.specs.Segment.{SegView, segView, pageOf, sizeOk}
 use Rattle.store.specs.SoundSegment.{slotOn, bytesOn, Paired, nibbleOf, classes, SoundSegment}
-use Rattle.store.specs.Repair.{standing, lost, mended, emptied, pageAfter, segAfter, trueOf, sameInv, invAfter}
+use Rattle.store.specs.Repair.{standing, lost, mended, emptied, pageAfter, segAfter, trueOf, sameInv, invAfter, deed, mendedBy}
 use Rattle.store.specs.Laws.Cases.{by-test, or-in}
 use Rattle.store.specs.Laws.SoundPage.{past-free, sound-test, fresh-none}
 use Rattle.store.specs.Laws.Segments.{length-page}

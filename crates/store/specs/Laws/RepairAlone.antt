@@ -17,7 +17,7 @@ use Rattle.store.specs.PageSteps.{putHead, nextFree}
 use Rattle.store.specs.Inventory.{Truth}
 use Rattle.store.specs.Segment.{SegView, segView, pageOf, sizeOk, invOk}
 use Rattle.store.specs.SoundSegment.{slotOn, Paired, classes, SoundSegment}
-use Rattle.store.specs.Repair.{standing, lost, lies, keeps, holds, named, deedBy, deed, changes, slotDone, slotAfter, lowest, startAfter, spaceAfter, mended, segAfter, sameHead, putSlots, putMended, pageBytes, segBytes, trueOf, sameInv, invAfter, Entry, entry, deedNo, slotEntries, headEntries, pageEntries, segEntries, invEntries, entries, words, Repaired, repairStep}
+use Rattle.store.specs.Repair.{standing, lost, lies, keeps, holds, named, deedBy, deed, changes, slotDone, slotAfter, lowest, startAfter, spaceAfter, mended, segAfter, sameHead, putSlots, putMended, pageBytes, segBytes, trueOf, sameInv, invAfter, Entry, entry, deedNo, slotEntries, headEntries, pageEntries, segEntries, invEntries, entries, words, Repaired, repairStep, mendedBy}
 use Rattle.store.specs.declared.Deed.{Deed}
 use Rattle.store.specs.declared.Deed.the-variants.{Stays, RecordFreed, RedirectFreed, MadeOrdinary}
 use Rattle.store.specs.Laws.Cases.{by-test, never, or-in, or-out}
@@ -96,15 +96,15 @@ unfolding deed
 past-same u p k e = rw e
 
 module _ (u : SegView) (p : ℕ) where
-  none-written : (n : ℕ) (q : List ℕ) → ((k : ℕ) → k < n → changes (deed u p k) ≡ false) → putSlots u p n q ≡ q
+  none-written : (n : ℕ) (q : List ℕ) → ((k : ℕ) → k < n → changes (deed u p k) ≡ false) → putSlots (deed u p) (u .page p) n q ≡ q
   none-written zero q h = refl
   none-written (suc n) q h =
-      ap (λ (b : Bool). cond b (put (putSlots u p n q) (12 + 8 * n) (slotBytes (slotAfter u p n))) (putSlots u p n q)) (h n (omega arith)) ∙ none-written n q (λ k l. h k (omega arith))
+      ap (λ (b : Bool). cond b (put (putSlots (deed u p) (u .page p) n q) (12 + 8 * n) (slotBytes (slotAfter u p n))) (putSlots (deed u p) (u .page p) n q)) (h n (omega arith)) ∙ none-written n q (λ k l. h k (omega arith))
 
-  none-told : (n : ℕ) → ((k : ℕ) → k < n → changes (deed u p k) ≡ false) → slotEntries u p n ≡ []
+  none-told : (n : ℕ) → ((k : ℕ) → k < n → changes (deed u p k) ≡ false) → slotEntries (deed u p) p n ≡ []
   none-told zero h = refl
   none-told (suc n) h =
-      ap (λ (b : Bool). slotEntries u p n ++ cond b (entry p n (deedNo (deed u p n)) ∷ []) []) (h n (omega arith)) ∙ ap (λ (es : List Entry). es ++ []) (none-told n (λ k l. h k (omega arith)))
+      ap (λ (b : Bool). slotEntries (deed u p) p n ++ cond b (entry p n (deedNo (deed u p n)) ∷ []) []) (h n (omega arith)) ∙ ap (λ (es : List Entry). es ++ []) (none-told n (λ k l. h k (omega arith)))
 
   abbrev Quiet : Type 0
   Quiet = ((k : ℕ) → k < u .page p .slotCount → changes (deed u p k) ≡ false) × (sameHead (u .page p) (mended u p) ≡ true)
@@ -112,16 +112,16 @@ module _ (u : SegView) (p : ℕ) where
   pub quiet-bytes : (q : List ℕ) → lost (u .page p) ≡ false → (fresh (u .page p) ≡ false → Quiet) → pageBytes u p q ≡ q
   unfolding pageBytes
   quiet-bytes q l h =
-      ap (λ (b : Bool). cond b (put q 0 (zeros 12)) (cond (fresh (u .page p)) q (putMended u p q))) l
-      ∙ by-test (λ (x : List ℕ). x ≡ q) (fresh (u .page p)) q (putMended u p q) (λ f. refl)
-      (λ f. ap (λ (b : Bool). cond b (putSlots u p (u .page p .slotCount) q) (putHead (mended u p) (putSlots u p (u .page p .slotCount) q))) (h f .1) ∙ none-written (u .page p .slotCount) q (h f .0))
+      ap (λ (b : Bool). cond b (put q 0 (zeros 12)) (cond (fresh (u .page p)) q (putMended (deed u p) (u .page p) q))) l
+      ∙ by-test (λ (x : List ℕ). x ≡ q) (fresh (u .page p)) q (putMended (deed u p) (u .page p) q) (λ f. refl)
+      (λ f. ap (λ (b : Bool). cond b (putSlots (deed u p) (u .page p) (u .page p .slotCount) q) (putHead (mended u p) (putSlots (deed u p) (u .page p) (u .page p .slotCount) q))) (h f .1) ∙ none-written (u .page p .slotCount) q (h f .0))
 
   pub quiet-entries : lost (u .page p) ≡ false → (fresh (u .page p) ≡ false → Quiet) → pageEntries u p ≡ []
   unfolding pageEntries
   quiet-entries l h =
-      ap (λ (b : Bool). cond b (entry p 65535 5 ∷ []) (cond (fresh (u .page p)) [] (slotEntries u p (u .page p .slotCount) ++ headEntries u p))) l
-      ∙ by-test (λ (x : List Entry). x ≡ []) (fresh (u .page p)) [] (slotEntries u p (u .page p .slotCount) ++ headEntries u p) (λ f. refl)
-      (λ f. ap (λ (es : List Entry). es ++ headEntries u p) (none-told (u .page p .slotCount) (h f .0)) ∙ ap (λ (b : Bool). cond b [] (entry p 65535 4 ∷ [])) (h f .1))
+      ap (λ (b : Bool). cond b (entry p 65535 5 ∷ []) (cond (fresh (u .page p)) [] (slotEntries (deed u p) p (u .page p .slotCount) ++ headEntries (deed u p) (u .page p) p))) l
+      ∙ by-test (λ (x : List Entry). x ≡ []) (fresh (u .page p)) [] (slotEntries (deed u p) p (u .page p .slotCount) ++ headEntries (deed u p) (u .page p) p) (λ f. refl)
+      (λ f. ap (λ (es : List Entry). es ++ headEntries (deed u p) (u .page p) p) (none-told (u .page p .slotCount) (h f .0)) ∙ ap (λ (b : Bool). cond b [] (entry p 65535 4 ∷ [])) (h f .1))
 
   -- ---- and the other way: no entry, no change
 
@@ -129,16 +129,16 @@ module _ (u : SegView) (p : ℕ) where
   nil-both [] ys e = (refl, e)
   nil-both (x ∷ xs) ys e = let z : _≡_ {A = ℕ} 0 1 = cc in absurd (omega arith)
 
-  untold : (n : ℕ) → slotEntries u p n ≡ [] → (k : ℕ) → k < n → changes (deed u p k) ≡ false
+  untold : (n : ℕ) → slotEntries (deed u p) p n ≡ [] → (k : ℕ) → k < n → changes (deed u p k) ≡ false
   untold zero e k l = absurd (not-suc-le-zero l)
-  untold (suc n) e k l = go (untold n) (nil-both (slotEntries u p n) (cond (changes (deed u p n)) (entry p n (deedNo (deed u p n)) ∷ []) []) e) (ℕ-discrete k n)
+  untold (suc n) e k l = go (untold n) (nil-both (slotEntries (deed u p) p n) (cond (changes (deed u p n)) (entry p n (deedNo (deed u p n)) ∷ []) []) e) (ℕ-discrete k n)
     where
       last : (b : Bool) → _≡_ {A = List Entry} (cond b (entry p n (deedNo (deed u p n)) ∷ []) []) [] → b ≡ false
       last true q = let z : _≡_ {A = ℕ} 0 1 = cc in absurd (omega arith)
       last false q = refl
 
-      go : (slotEntries u p n ≡ [] → (j : ℕ) → j < n → changes (deed u p j) ≡ false)
-          → (slotEntries u p n ≡ []) × (cond (changes (deed u p n)) (entry p n (deedNo (deed u p n)) ∷ []) [] ≡ []) → Dec (k ≡ n) → changes (deed u p k) ≡ false
+      go : (slotEntries (deed u p) p n ≡ [] → (j : ℕ) → j < n → changes (deed u p j) ≡ false)
+          → (slotEntries (deed u p) p n ≡ []) × (cond (changes (deed u p n)) (entry p n (deedNo (deed u p n)) ∷ []) [] ≡ []) → Dec (k ≡ n) → changes (deed u p k) ≡ false
       go ih h (yes d) = ap (λ (x : ℕ). changes (deed u p x)) d ∙ last (changes (deed u p n)) (h .1)
       go ih h (no d) = ih (h .0) k (omega arith)
 
@@ -150,13 +150,13 @@ module _ (u : SegView) (p : ℕ) where
       head true q = refl
       head false q = let z : _≡_ {A = ℕ} 0 1 = cc in absurd (omega arith)
 
-      used : (b : Bool) → fresh (u .page p) ≡ b → cond b [] (slotEntries u p (u .page p .slotCount) ++ headEntries u p) ≡ [] → fresh (u .page p) ≡ false → Quiet
+      used : (b : Bool) → fresh (u .page p) ≡ b → cond b [] (slotEntries (deed u p) p (u .page p .slotCount) ++ headEntries (deed u p) (u .page p) p) ≡ [] → fresh (u .page p) ≡ false → Quiet
       used true f e g = let z : _≡_ {A = ℕ} 0 1 = cc in absurd (omega arith)
       used false f e g =
-          let h = nil-both (slotEntries u p (u .page p .slotCount)) (headEntries u p) e in
+          let h = nil-both (slotEntries (deed u p) p (u .page p .slotCount)) (headEntries (deed u p) (u .page p) p) e in
           (untold (u .page p .slotCount) (h .0), head (sameHead (u .page p) (mended u p)) (h .1))
 
-      go : (a : Bool) → lost (u .page p) ≡ a → cond a (entry p 65535 5 ∷ []) (cond (fresh (u .page p)) [] (slotEntries u p (u .page p .slotCount) ++ headEntries u p)) ≡ []
+      go : (a : Bool) → lost (u .page p) ≡ a → cond a (entry p 65535 5 ∷ []) (cond (fresh (u .page p)) [] (slotEntries (deed u p) p (u .page p .slotCount) ++ headEntries (deed u p) (u .page p) p)) ≡ []
           → (lost (u .page p) ≡ false) × (fresh (u .page p) ≡ false → Quiet)
       go true l e = let z : _≡_ {A = ℕ} 0 1 = cc in absurd (omega arith)
       go false l e = (l, used (fresh (u .page p)) refl e)
@@ -288,7 +288,7 @@ module _ (s v : List ℕ) (h : SoundSegment s v) where
       each k (no m) = past-same u p k (in-use p l f .past k (omega arith))
 
   quiet : (p : ℕ) → p < length s / 16384 → fresh (u .page p) ≡ false → Quiet u p
-  unfolding mended
+  unfolding mendedBy
   quiet p l f =
       let w = in-use p l f in
       let e = same-at p l f in

@@ -15,8 +15,7 @@ use Rattle.store.specs.Slots.{slotBytes, slotOf, off, len}
 use Rattle.store.specs.Page.{View, view, count, slotAt, fresh}
 use Rattle.store.specs.PageSteps.{headBytes, putHead}
 use Rattle.store.specs.Segment.{SegView, pageOf}
-use Rattle.store.specs.Repair.{standing, lost, deed, changes, slotDone, bytesDone, slotAfter, bytesAfter, mended, emptied, pageAfter, sameHead, putSlots, putMended, pageBytes, segBytes}
-use Rattle.store.specs.declared.Deed.{Deed}
+use Rattle.store.specs.Repair.{standing, lost, deed, changes, slotDone, bytesDone, slotAfter, bytesAfter, slotBy, mended, emptied, pageAfter, sameHead, putSlots, putMended, pageBytes, segBytes, mendedBy}
 use Rattle.store.specs.declared.Deed.the-variants.{Stays, RecordFreed, RedirectFreed, MadeOrdinary}
 use Rattle.store.specs.Laws.Cases.{by-test}
 use Rattle.store.specs.Laws.Numbers.{length-put, cut-apart, cut-same, cut-in, cut-cut, cut-drop}
@@ -26,24 +25,25 @@ use Rattle.store.specs.Laws.Views.{sound-fits}
 use Rattle.store.specs.Laws.SoundPage.{and-both, past-free, page-codable}
 use Rattle.store.specs.Laws.Segments.{length-page, page-same, page-other}
 use Rattle.store.specs.Laws.RepairPage.{used, Shown, after, mended-sound, keeps-is}
+use Rattle.store.specs.declared.Deed.{Deed}
 use Rattle.store.specs.declared.Slot.{Slot}
 use Rattle.store.specs.declared.Slot.the-variants.{Free}
 
 -- ---- the slots that are written
 
-module _ (u : SegView) (p : ℕ) where
-  pub slots-length : (n : ℕ) (q : List ℕ) → length (putSlots u p n q) ≡ length q
+module _ (d : ℕ → Deed) (v : View) where
+  pub slots-length : (n : ℕ) (q : List ℕ) → length (putSlots d v n q) ≡ length q
   slots-length zero q = refl
   slots-length (suc n) q =
-      by-test (λ (r : List ℕ). length r ≡ length q) (changes (deed u p n)) (put (putSlots u p n q) (12 + 8 * n) (slotBytes (slotAfter u p n))) (putSlots u p n q)
-      (λ e. length-put (putSlots u p n q) (12 + 8 * n) (slotBytes (slotAfter u p n)) ∙ slots-length n q) (λ e. slots-length n q)
+      by-test (λ (r : List ℕ). length r ≡ length q) (changes (d n)) (put (putSlots d v n q) (12 + 8 * n) (slotBytes (slotBy d v n))) (putSlots d v n q)
+      (λ e. length-put (putSlots d v n q) (12 + 8 * n) (slotBytes (slotBy d v n)) ∙ slots-length n q) (λ e. slots-length n q)
 
   -- a part that no slot below n reaches
-  pub slots-frame : (n : ℕ) (q : List ℕ) (j m : ℕ) → (j + m ≤ 12) ⊎ (12 + 8 * n ≤ j) → cut (putSlots u p n q) j m ≡ cut q j m
+  pub slots-frame : (n : ℕ) (q : List ℕ) (j m : ℕ) → (j + m ≤ 12) ⊎ (12 + 8 * n ≤ j) → cut (putSlots d v n q) j m ≡ cut q j m
   slots-frame zero q j m h = refl
   slots-frame (suc n) q j m h =
-      by-test (λ (r : List ℕ). cut r j m ≡ cut q j m) (changes (deed u p n)) (put (putSlots u p n q) (12 + 8 * n) (slotBytes (slotAfter u p n))) (putSlots u p n q)
-      (λ e. cut-apart (putSlots u p n q) (12 + 8 * n) (slotBytes (slotAfter u p n)) j m (λ a b. wide h) ∙ slots-frame n q j m (less h)) (λ e. slots-frame n q j m (less h))
+      by-test (λ (r : List ℕ). cut r j m ≡ cut q j m) (changes (d n)) (put (putSlots d v n q) (12 + 8 * n) (slotBytes (slotBy d v n))) (putSlots d v n q)
+      (λ e. cut-apart (putSlots d v n q) (12 + 8 * n) (slotBytes (slotBy d v n)) j m (λ a b. wide h) ∙ slots-frame n q j m (less h)) (λ e. slots-frame n q j m (less h))
     where
       wide : (j + m ≤ 12) ⊎ (12 + 8 * suc n ≤ j) → (j + m ≤ 12 + 8 * n) ⊎ (12 + 8 * n + 8 ≤ j)
       wide (inl a) = inl (omega arith)
@@ -54,55 +54,56 @@ module _ (u : SegView) (p : ℕ) where
       less (inr a) = inr (omega arith)
 
   -- slot k, below n
-  slots-other : (n : ℕ) (q : List ℕ) (k : ℕ) → k < n → cut (putSlots u p (suc n) q) (12 + 8 * k) 8 ≡ cut (putSlots u p n q) (12 + 8 * k) 8
+  slots-other : (n : ℕ) (q : List ℕ) (k : ℕ) → k < n → cut (putSlots d v (suc n) q) (12 + 8 * k) 8 ≡ cut (putSlots d v n q) (12 + 8 * k) 8
   slots-other n q k l =
-      by-test (λ (r : List ℕ). cut r (12 + 8 * k) 8 ≡ cut (putSlots u p n q) (12 + 8 * k) 8) (changes (deed u p n)) (put (putSlots u p n q) (12 + 8 * n) (slotBytes (slotAfter u p n))) (putSlots u p n q)
-      (λ e. cut-apart (putSlots u p n q) (12 + 8 * n) (slotBytes (slotAfter u p n)) (12 + 8 * k) 8 (λ a b. inl (omega arith))) (λ e. refl)
+      by-test (λ (r : List ℕ). cut r (12 + 8 * k) 8 ≡ cut (putSlots d v n q) (12 + 8 * k) 8) (changes (d n)) (put (putSlots d v n q) (12 + 8 * n) (slotBytes (slotBy d v n))) (putSlots d v n q)
+      (λ e. cut-apart (putSlots d v n q) (12 + 8 * n) (slotBytes (slotBy d v n)) (12 + 8 * k) 8 (λ a b. inl (omega arith))) (λ e. refl)
 
-  pub slots-same : (n : ℕ) (q : List ℕ) (k : ℕ) → k < n → changes (deed u p k) ≡ false → cut (putSlots u p n q) (12 + 8 * k) 8 ≡ cut q (12 + 8 * k) 8
+  pub slots-same : (n : ℕ) (q : List ℕ) (k : ℕ) → k < n → changes (d k) ≡ false → cut (putSlots d v n q) (12 + 8 * k) 8 ≡ cut q (12 + 8 * k) 8
   slots-same zero q k l e = absurd (not-suc-le-zero l)
   slots-same (suc n) q k l e = go (slots-same n q k) (ℕ-discrete k n)
     where
-      own : (b : Bool) → b ≡ false → cut (cond b (put (putSlots u p n q) (12 + 8 * n) (slotBytes (slotAfter u p n))) (putSlots u p n q)) (12 + 8 * n) 8 ≡ cut q (12 + 8 * n) 8
+      own : (b : Bool) → b ≡ false → cut (cond b (put (putSlots d v n q) (12 + 8 * n) (slotBytes (slotBy d v n))) (putSlots d v n q)) (12 + 8 * n) 8 ≡ cut q (12 + 8 * n) 8
       own true f = let z : _≡_ {A = ℕ} 0 1 = cc in absurd (omega arith)
       own false f = slots-frame n q (12 + 8 * n) 8 (inr (omega arith))
 
-      go : (k < n → changes (deed u p k) ≡ false → cut (putSlots u p n q) (12 + 8 * k) 8 ≡ cut q (12 + 8 * k) 8) → Dec (k ≡ n) → cut (putSlots u p (suc n) q) (12 + 8 * k) 8 ≡ cut q (12 + 8 * k) 8
-      go ih (yes d) = rw d (own (changes (deed u p n)) (ap (λ (x : ℕ). changes (deed u p x)) (sym d) ∙ e))
-      go ih (no d) = slots-other n q k (omega arith) ∙ ih (omega arith) e
+      go : (k < n → changes (d k) ≡ false → cut (putSlots d v n q) (12 + 8 * k) 8 ≡ cut q (12 + 8 * k) 8) → Dec (k ≡ n) → cut (putSlots d v (suc n) q) (12 + 8 * k) 8 ≡ cut q (12 + 8 * k) 8
+      go ih (yes x) = rw x (own (changes (d n)) (ap (λ (y : ℕ). changes (d y)) (sym x) ∙ e))
+      go ih (no x) = slots-other n q k (omega arith) ∙ ih (omega arith) e
 
-  pub slots-new : (n : ℕ) (q : List ℕ) (k : ℕ) → k < n → 12 + 8 * n ≤ length q → changes (deed u p k) ≡ true → cut (putSlots u p n q) (12 + 8 * k) 8 ≡ slotBytes (slotAfter u p k)
+  pub slots-new : (n : ℕ) (q : List ℕ) (k : ℕ) → k < n → 12 + 8 * n ≤ length q → changes (d k) ≡ true → cut (putSlots d v n q) (12 + 8 * k) 8 ≡ slotBytes (slotBy d v k)
   slots-new zero q k l w e = absurd (not-suc-le-zero l)
   slots-new (suc n) q k l w e = go (slots-new n q k) (ℕ-discrete k n)
     where
-      own : (b : Bool) → b ≡ true → cut (cond b (put (putSlots u p n q) (12 + 8 * n) (slotBytes (slotAfter u p n))) (putSlots u p n q)) (12 + 8 * n) 8 ≡ slotBytes (slotAfter u p n)
-      own true f = cut-same (putSlots u p n q) (12 + 8 * n) (slotBytes (slotAfter u p n)) 8 refl (omega (arith, slots-length n q))
+      own : (b : Bool) → b ≡ true → cut (cond b (put (putSlots d v n q) (12 + 8 * n) (slotBytes (slotBy d v n))) (putSlots d v n q)) (12 + 8 * n) 8 ≡ slotBytes (slotBy d v n)
+      own true f = cut-same (putSlots d v n q) (12 + 8 * n) (slotBytes (slotBy d v n)) 8 refl (omega (arith, slots-length n q))
       own false f = let z : _≡_ {A = ℕ} 0 1 = cc in absurd (omega arith)
 
-      go : (k < n → 12 + 8 * n ≤ length q → changes (deed u p k) ≡ true → cut (putSlots u p n q) (12 + 8 * k) 8 ≡ slotBytes (slotAfter u p k)) → Dec (k ≡ n)
-          → cut (putSlots u p (suc n) q) (12 + 8 * k) 8 ≡ slotBytes (slotAfter u p k)
-      go ih (yes d) = rw d (own (changes (deed u p n)) (ap (λ (x : ℕ). changes (deed u p x)) (sym d) ∙ e))
-      go ih (no d) = slots-other n q k (omega arith) ∙ ih (omega arith) (omega arith) e
+      go : (k < n → 12 + 8 * n ≤ length q → changes (d k) ≡ true → cut (putSlots d v n q) (12 + 8 * k) 8 ≡ slotBytes (slotBy d v k)) → Dec (k ≡ n)
+          → cut (putSlots d v (suc n) q) (12 + 8 * k) 8 ≡ slotBytes (slotBy d v k)
+      go ih (yes x) = rw x (own (changes (d n)) (ap (λ (y : ℕ). changes (d y)) (sym x) ∙ e))
+      go ih (no x) = slots-other n q k (omega arith) ∙ ih (omega arith) (omega arith) e
 
+module _ (u : SegView) (p : ℕ) where
   -- ---- the header on top: behind it nothing is written by it
 
-  pub mended-length : (q : List ℕ) → length (putMended u p q) ≡ length q
+  pub mended-length : (q : List ℕ) → length (putMended (deed u p) (u .page p) q) ≡ length q
   mended-length q =
-      let r : List ℕ = putSlots u p (u .page p .slotCount) q in
-      by-test (λ (x : List ℕ). length x ≡ length q) (sameHead (u .page p) (mended u p)) r (putHead (mended u p) r) (λ e. slots-length (u .page p .slotCount) q)
-      (λ e. length-put r 0 (headBytes (mended u p)) ∙ slots-length (u .page p .slotCount) q)
+      let r : List ℕ = putSlots (deed u p) (u .page p) (u .page p .slotCount) q in
+      by-test (λ (x : List ℕ). length x ≡ length q) (sameHead (u .page p) (mended u p)) r (putHead (mended u p) r) (λ e. slots-length (deed u p) (u .page p) (u .page p .slotCount) q)
+      (λ e. length-put r 0 (headBytes (mended u p)) ∙ slots-length (deed u p) (u .page p) (u .page p .slotCount) q)
 
-  pub mended-past : (q : List ℕ) (j m : ℕ) → 12 ≤ j → cut (putMended u p q) j m ≡ cut (putSlots u p (u .page p .slotCount) q) j m
+  pub mended-past : (q : List ℕ) (j m : ℕ) → 12 ≤ j → cut (putMended (deed u p) (u .page p) q) j m ≡ cut (putSlots (deed u p) (u .page p) (u .page p .slotCount) q) j m
   mended-past q j m h =
-      let r : List ℕ = putSlots u p (u .page p .slotCount) q in
+      let r : List ℕ = putSlots (deed u p) (u .page p) (u .page p .slotCount) q in
       by-test (λ (x : List ℕ). cut x j m ≡ cut r j m) (sameHead (u .page p) (mended u p)) r (putHead (mended u p) r) (λ e. refl)
       (λ e. cut-apart r 0 (headBytes (mended u p)) j m (λ a b. inr h))
 
   pub page-length : (q : List ℕ) → length (pageBytes u p q) ≡ length q
   unfolding pageBytes
   page-length q =
-      by-test (λ (x : List ℕ). length x ≡ length q) (lost (u .page p)) (put q 0 (zeros 12)) (cond (fresh (u .page p)) q (putMended u p q)) (λ e. length-put q 0 (zeros 12))
-      (λ e. by-test (λ (x : List ℕ). length x ≡ length q) (fresh (u .page p)) q (putMended u p q) (λ f. refl) (λ f. mended-length q))
+      by-test (λ (x : List ℕ). length x ≡ length q) (lost (u .page p)) (put q 0 (zeros 12)) (cond (fresh (u .page p)) q (putMended (deed u p) (u .page p) q)) (λ e. length-put q 0 (zeros 12))
+      (λ e. by-test (λ (x : List ℕ). length x ≡ length q) (fresh (u .page p)) q (putMended (deed u p) (u .page p) q) (λ f. refl) (λ f. mended-length q))
 
 -- ---- "No byte outside headers and directories changes": of one page
 
@@ -114,21 +115,21 @@ pub page-past-directory : (u : SegView) (p : ℕ) (q : List ℕ) (j m : ℕ) →
 unfolding pageBytes
 page-past-directory u p q j m = go (lost (u .page p))
   where
-    go : (b : Bool) → cond b 12 (12 + 8 * u .page p .slotCount) ≤ j → cut (cond b (put q 0 (zeros 12)) (cond (fresh (u .page p)) q (putMended u p q))) j m ≡ cut q j m
+    go : (b : Bool) → cond b 12 (12 + 8 * u .page p .slotCount) ≤ j → cut (cond b (put q 0 (zeros 12)) (cond (fresh (u .page p)) q (putMended (deed u p) (u .page p) q))) j m ≡ cut q j m
     go true h = cut-apart q 0 (zeros 12) j m (λ a b. inr h)
     go false h =
-        by-test (λ (x : List ℕ). cut x j m ≡ cut q j m) (fresh (u .page p)) q (putMended u p q) (λ f. refl)
-        (λ f. mended-past u p q j m (omega arith) ∙ slots-frame u p (u .page p .slotCount) q j m (inr h))
+        by-test (λ (x : List ℕ). cut x j m ≡ cut q j m) (fresh (u .page p)) q (putMended (deed u p) (u .page p) q) (λ f. refl)
+        (λ f. mended-past u p q j m (omega arith) ∙ slots-frame (deed u p) (u .page p) (u .page p .slotCount) q j m (inr h))
 
 -- a slot to which nothing is done keeps its 8 bytes, on a page that is not lost
 pub page-slot-same : (u : SegView) (p : ℕ) (q : List ℕ) (k : ℕ) → lost (u .page p) ≡ false → k < u .page p .slotCount → changes (deed u p k) ≡ false
     → cut (pageBytes u p q) (12 + 8 * k) 8 ≡ cut q (12 + 8 * k) 8
 unfolding pageBytes
 page-slot-same u p q k g l e =
-    by-test (λ (x : List ℕ). cut x (12 + 8 * k) 8 ≡ cut q (12 + 8 * k) 8) (lost (u .page p)) (put q 0 (zeros 12)) (cond (fresh (u .page p)) q (putMended u p q))
+    by-test (λ (x : List ℕ). cut x (12 + 8 * k) 8 ≡ cut q (12 + 8 * k) 8) (lost (u .page p)) (put q 0 (zeros 12)) (cond (fresh (u .page p)) q (putMended (deed u p) (u .page p) q))
     (λ f. let z : _≡_ {A = ℕ} 0 1 = cc in absurd (omega arith))
-    (λ _. by-test (λ (x : List ℕ). cut x (12 + 8 * k) 8 ≡ cut q (12 + 8 * k) 8) (fresh (u .page p)) q (putMended u p q) (λ f. refl)
-    (λ f. mended-past u p q (12 + 8 * k) 8 (omega arith) ∙ slots-same u p (u .page p .slotCount) q k l e))
+    (λ _. by-test (λ (x : List ℕ). cut x (12 + 8 * k) 8 ≡ cut q (12 + 8 * k) 8) (fresh (u .page p)) q (putMended (deed u p) (u .page p) q) (λ f. refl)
+    (λ f. mended-past u p q (12 + 8 * k) 8 (omega arith) ∙ slots-same (deed u p) (u .page p) (u .page p .slotCount) q k l e))
 
 -- ---- what is seen of a page afterwards
 
@@ -187,10 +188,10 @@ module _ (u : SegView) (p : ℕ) (q : List ℕ) (is : view q ≡ u .page p) (who
     c = u .page p .slotCount
 
     abbrev r : List ℕ
-    r = putSlots u p c q
+    r = putSlots (deed u p) (u .page p) c q
 
     long : length r ≡ 16384
-    long = slots-length u p c q ∙ whole
+    long = slots-length (deed u p) (u .page p) c q ∙ whole
 
     fits : Fits (mended u p)
     fits = sound-fits (mended u p) (mended-sound u p shown some few)
@@ -199,10 +200,10 @@ module _ (u : SegView) (p : ℕ) (q : List ℕ) (is : view q ≡ u .page p) (who
     entries-are j l = go (changes (deed u p j)) refl
       where
         go : (b : Bool) → changes (deed u p j) ≡ b → slotOf (be (cut r (12 + 8 * j) 8)) ≡ slotAfter u p j
-        go true e = ap (λ (x : List ℕ). slotOf (be x)) (slots-new u p c q j l (omega arith) e) ∙ slot-read-back (slotAfter u p j) (after u p shown j .codable)
+        go true e = ap (λ (x : List ℕ). slotOf (be x)) (slots-new (deed u p) (u .page p) c q j l (omega arith) e) ∙ slot-read-back (slotAfter u p j) (after u p shown j .codable)
         go false e =
             let h : slotAt q j ≡ slotOf (be (cut q (12 + 8 * j) 8)) = simp (lt-ltb j (count q) (omega (arith, count-is))) in
-            ap (λ (x : List ℕ). slotOf (be x)) (slots-same u p c q j l e) ∙ sym h ∙ slot-is j ∙ sym (same-slot (deed u p j) (u .page p .at j) e)
+            ap (λ (x : List ℕ). slotOf (be x)) (slots-same (deed u p) (u .page p) c q j l e) ∙ sym h ∙ slot-is j ∙ sym (same-slot (deed u p j) (u .page p .at j) e)
 
     records-are : (j : ℕ) → cut r (off (slotAfter u p j)) (len (slotAfter u p j)) ≡ bytesAfter u p j
     records-are j =
@@ -212,41 +213,41 @@ module _ (u : SegView) (p : ℕ) (q : List ℕ) (is : view q ≡ u .page p) (who
         go : Dec (0 < len (slotAfter u p j)) → cut r (off (slotAfter u p j)) (len (slotAfter u p j)) ≡ cut q (off (slotAfter u p j)) (len (slotAfter u p j))
         go (yes l) =
             let w = after u p shown j .within l in
-            slots-frame u p c q (off (slotAfter u p j)) (len (slotAfter u p j)) (inr (omega (arith, keeps-is (u .page p) j (w .0) .low (w .3))))
+            slots-frame (deed u p) (u .page p) c q (off (slotAfter u p j)) (len (slotAfter u p j)) (inr (omega (arith, keeps-is (u .page p) j (w .0) .low (w .3))))
         go (no l) = let e : len (slotAfter u p j) ≡ 0 = omega arith in rw e
 
     -- where the header stays
     under-same : sameHead (u .page p) (mended u p) ≡ true → Under r c (mended u p)
-    unfolding mended
+    unfolding mendedBy
     under-same e =
         let a = and-both (eqb (u .page p .firstFree) (mended u p .firstFree)) (eqb (u .page p .dataStart) (mended u p .dataStart) && eqb (u .page p .freeSpace) (mended u p .freeSpace)) e in
         let b = and-both (eqb (u .page p .dataStart) (mended u p .dataStart)) (eqb (u .page p .freeSpace) (mended u p .freeSpace)) (a .1) in
         record {
           whole = long;
-          slotCount = ap be (slots-frame u p c q 0 2 (inl (omega arith))) ∙ count-is;
-          firstFree = ap be (slots-frame u p c q 2 2 (inl (omega arith))) ∙ first-is ∙ eqb-true (u .page p .firstFree) (mended u p .firstFree) (a .0);
-          dataStart = ap be (slots-frame u p c q 4 4 (inl (omega arith))) ∙ start-is ∙ eqb-true (u .page p .dataStart) (mended u p .dataStart) (b .0);
-          freeSpace = ap be (slots-frame u p c q 8 4 (inl (omega arith))) ∙ space-is ∙ eqb-true (u .page p .freeSpace) (mended u p .freeSpace) (b .1);
+          slotCount = ap be (slots-frame (deed u p) (u .page p) c q 0 2 (inl (omega arith))) ∙ count-is;
+          firstFree = ap be (slots-frame (deed u p) (u .page p) c q 2 2 (inl (omega arith))) ∙ first-is ∙ eqb-true (u .page p .firstFree) (mended u p .firstFree) (a .0);
+          dataStart = ap be (slots-frame (deed u p) (u .page p) c q 4 4 (inl (omega arith))) ∙ start-is ∙ eqb-true (u .page p .dataStart) (mended u p .dataStart) (b .0);
+          freeSpace = ap be (slots-frame (deed u p) (u .page p) c q 8 4 (inl (omega arith))) ∙ space-is ∙ eqb-true (u .page p .freeSpace) (mended u p .freeSpace) (b .1);
           at = λ j n l. entries-are j l;
           bytes = λ j n. records-are j;
         }
 
     under-new : Under (putHead (mended u p) r) c (mended u p)
-    unfolding mended
+    unfolding mendedBy
     under-new = under-head r (mended u p) long fits c (λ j n l. entries-are j l) (λ j n. records-are j)
 
-    under-either : Under (putMended u p q) c (mended u p)
+    under-either : Under (putMended (deed u p) (u .page p) q) c (mended u p)
     under-either = by-test (λ (x : List ℕ). Under x c (mended u p)) (sameHead (u .page p) (mended u p)) r (putHead (mended u p) r) under-same (λ e. under-new)
 
-    own-either : cut (putMended u p q) (off (slotAfter u p c)) (len (slotAfter u p c)) ≡ bytesAfter u p c
+    own-either : cut (putMended (deed u p) (u .page p) q) (off (slotAfter u p c)) (len (slotAfter u p c)) ≡ bytesAfter u p c
     own-either =
         let e : slotAfter u p c ≡ Free = after u p shown c .past (omega arith) in
         let z : len (slotAfter u p c) ≡ 0 = ap len e in
-        ap (λ (m : ℕ). take m (drop (off (slotAfter u p c)) (putMended u p q))) z ∙ sym (ap (λ (m : ℕ). take m (drop (off (slotAfter u p c)) r)) z) ∙ records-are c
+        ap (λ (m : ℕ). take m (drop (off (slotAfter u p c)) (putMended (deed u p) (u .page p) q))) z ∙ sym (ap (λ (m : ℕ). take m (drop (off (slotAfter u p c)) r)) z) ∙ records-are c
 
-    pub mended-seen : view (putMended u p q) ≡ mended u p
-    unfolding mended
-    mended-seen = seen (putMended u p q) c (mended u p) fits under-either (λ l. absurd (omega arith)) own-either
+    pub mended-seen : view (putMended (deed u p) (u .page p) q) ≡ mended u p
+    unfolding mendedBy
+    mended-seen = seen (putMended (deed u p) (u .page p) q) c (mended u p) fits under-either (λ l. absurd (omega arith)) own-either
 
   emptied-seen : view (put q 0 (zeros 12)) ≡ emptied
   unfolding view
@@ -272,7 +273,7 @@ module _ (u : SegView) (p : ℕ) (q : List ℕ) (is : view q ≡ u .page p) (who
   page-seen = go (lost (u .page p)) refl (fresh (u .page p)) refl
     where
       go : (a : Bool) → lost (u .page p) ≡ a → (b : Bool) → fresh (u .page p) ≡ b
-          → view (cond a (put q 0 (zeros 12)) (cond b q (putMended u p q))) ≡ cond a emptied (cond b (u .page p) (mended u p))
+          → view (cond a (put q 0 (zeros 12)) (cond b q (putMended (deed u p) (u .page p) q))) ≡ cond a emptied (cond b (u .page p) (mended u p))
       go true l b f = emptied-seen
       go false l true f = is
       go false l false f = let h = used (u .page p) l f in mended-seen (h .0) (h .1)

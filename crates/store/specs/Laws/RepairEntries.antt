@@ -16,7 +16,7 @@ use Rattle.store.specs.Page.{View, view, fresh}
 use Rattle.store.specs.PageSteps.{putHead}
 use Rattle.store.specs.Inventory.{entryAt}
 use Rattle.store.specs.Segment.{SegView, pageOf}
-use Rattle.store.specs.Repair.{standing, lost, keeps, holds, named, deedBy, deed, changes, slotDone, slotAfter, mended, emptied, pageAfter, sameHead, putSlots, putMended, pageBytes, sameBytes, sameInv, trueOf, invAfter, Entry, entry, deedNo, slotEntries, headEntries, pageEntries, segEntries, invEntries, entries}
+use Rattle.store.specs.Repair.{standing, lost, keeps, holds, named, deedBy, deed, changes, slotDone, slotAfter, mended, emptied, pageAfter, sameHead, putSlots, putMended, pageBytes, sameBytes, sameInv, trueOf, invAfter, Entry, entry, deedNo, slotEntries, headEntries, pageEntries, segEntries, invEntries, entries, mendedBy}
 use Rattle.store.specs.declared.Deed.{Deed}
 use Rattle.store.specs.declared.Deed.the-variants.{Stays, RecordFreed, RedirectFreed, MadeOrdinary}
 use Rattle.store.specs.Laws.Cases.{by-test}
@@ -72,7 +72,7 @@ pub data AnyEntry (u : SegView) (v : List ℕ) (e : Entry) : Type 0 where
   of-inv : sameInv v (trueOf u) ≡ false → e ≡ entry (u .pages) 65536 6 → AnyEntry u v e
 
 module _ (u : SegView) (p : ℕ) where
-  slot-in : (n k : ℕ) → k < n → changes (deed u p k) ≡ true → In (entry p k (deedNo (deed u p k))) (slotEntries u p n)
+  slot-in : (n k : ℕ) → k < n → changes (deed u p k) ≡ true → In (entry p k (deedNo (deed u p k))) (slotEntries (deed u p) p n)
   slot-in zero k l c = absurd (not-suc-le-zero l)
   slot-in (suc n) k l c = go (slot-in n k) (ℕ-discrete k n)
     where
@@ -80,21 +80,21 @@ module _ (u : SegView) (p : ℕ) where
       own true q = inl refl
       own false q = let z : _≡_ {A = ℕ} 0 1 = cc in absurd (omega arith)
 
-      go : (k < n → changes (deed u p k) ≡ true → In (entry p k (deedNo (deed u p k))) (slotEntries u p n)) → Dec (k ≡ n) → In (entry p k (deedNo (deed u p k))) (slotEntries u p (suc n))
+      go : (k < n → changes (deed u p k) ≡ true → In (entry p k (deedNo (deed u p k))) (slotEntries (deed u p) p n)) → Dec (k ≡ n) → In (entry p k (deedNo (deed u p k))) (slotEntries (deed u p) p (suc n))
       go ih (yes d) =
-          rw d (in-right (entry p n (deedNo (deed u p n))) (slotEntries u p n) (cond (changes (deed u p n)) (entry p n (deedNo (deed u p n)) ∷ []) []) (own (changes (deed u p n)) (ap (λ (x : ℕ). changes (deed u p x)) (sym d) ∙ c)))
-      go ih (no d) = in-left (entry p k (deedNo (deed u p k))) (slotEntries u p n) (cond (changes (deed u p n)) (entry p n (deedNo (deed u p n)) ∷ []) []) (ih (omega arith) c)
+          rw d (in-right (entry p n (deedNo (deed u p n))) (slotEntries (deed u p) p n) (cond (changes (deed u p n)) (entry p n (deedNo (deed u p n)) ∷ []) []) (own (changes (deed u p n)) (ap (λ (x : ℕ). changes (deed u p x)) (sym d) ∙ c)))
+      go ih (no d) = in-left (entry p k (deedNo (deed u p k))) (slotEntries (deed u p) p n) (cond (changes (deed u p n)) (entry p n (deedNo (deed u p n)) ∷ []) []) (ih (omega arith) c)
 
-  slot-of : (e : Entry) (n : ℕ) → In e (slotEntries u p n) → SlotEntry u p n e
+  slot-of : (e : Entry) (n : ℕ) → In e (slotEntries (deed u p) p n) → SlotEntry u p n e
   slot-of e zero h = absurd h
-  slot-of e (suc n) h = go (slot-of e n) (in-either e (slotEntries u p n) (cond (changes (deed u p n)) (entry p n (deedNo (deed u p n)) ∷ []) []) h)
+  slot-of e (suc n) h = go (slot-of e n) (in-either e (slotEntries (deed u p) p n) (cond (changes (deed u p n)) (entry p n (deedNo (deed u p n)) ∷ []) []) h)
     where
       own : (b : Bool) → changes (deed u p n) ≡ b → In e (cond b (entry p n (deedNo (deed u p n)) ∷ []) []) → SlotEntry u p (suc n) e
       own true q (inl w) = record { slot = n; below = omega arith; changes = q; is = w }
       own true q (inr w) = absurd w
       own false q w = absurd w
 
-      go : (In e (slotEntries u p n) → SlotEntry u p n e) → In e (slotEntries u p n) ⊎ In e (cond (changes (deed u p n)) (entry p n (deedNo (deed u p n)) ∷ []) []) → SlotEntry u p (suc n) e
+      go : (In e (slotEntries (deed u p) p n) → SlotEntry u p n e) → In e (slotEntries (deed u p) p n) ⊎ In e (cond (changes (deed u p n)) (entry p n (deedNo (deed u p n)) ∷ []) []) → SlotEntry u p (suc n) e
       go ih (inl a) = let w = ih a in record { slot = w .slot; below = omega (arith, w .below); changes = w .changes; is = w .is }
       go ih (inr b) = own (changes (deed u p n)) refl b
 
@@ -107,22 +107,22 @@ module _ (u : SegView) (p : ℕ) where
       head l f false q (inl w) = of-head l f q w
       head l f false q (inr w) = absurd w
 
-      either : lost (u .page p) ≡ false → fresh (u .page p) ≡ false → In e (slotEntries u p (u .page p .slotCount)) ⊎ In e (headEntries u p) → PageEntry u p e
+      either : lost (u .page p) ≡ false → fresh (u .page p) ≡ false → In e (slotEntries (deed u p) p (u .page p .slotCount)) ⊎ In e (headEntries (deed u p) (u .page p) p) → PageEntry u p e
       either l f (inl a) = of-slot l f (slot-of e (u .page p .slotCount) a)
       either l f (inr b) = head l f (sameHead (u .page p) (mended u p)) refl b
 
       go : (a : Bool) → lost (u .page p) ≡ a → (b : Bool) → fresh (u .page p) ≡ b
-          → In e (cond a (entry p 65535 5 ∷ []) (cond b [] (slotEntries u p (u .page p .slotCount) ++ headEntries u p))) → PageEntry u p e
+          → In e (cond a (entry p 65535 5 ∷ []) (cond b [] (slotEntries (deed u p) p (u .page p .slotCount) ++ headEntries (deed u p) (u .page p) p))) → PageEntry u p e
       go true l b f (inl w) = of-lost l w
       go true l b f (inr w) = absurd w
       go false l true f w = absurd w
-      go false l false f w = either l f (in-either e (slotEntries u p (u .page p .slotCount)) (headEntries u p) w)
+      go false l false f w = either l f (in-either e (slotEntries (deed u p) p (u .page p .slotCount)) (headEntries (deed u p) (u .page p) p) w)
 
   page-in : (e : Entry) → PageEntry u p e → In e (pageEntries u p)
   unfolding pageEntries
   page-in e (of-slot l f w) =
-      rw (l, f, w .is) (in-left (entry p (w .slot) (deedNo (deed u p (w .slot)))) (slotEntries u p (u .page p .slotCount)) (headEntries u p) (slot-in (u .page p .slotCount) (w .slot) (w .below) (w .changes)))
-  page-in e (of-head l f q w) = rw (l, f) (in-right e (slotEntries u p (u .page p .slotCount)) (headEntries u p) (rw q (inl w)))
+      rw (l, f, w .is) (in-left (entry p (w .slot) (deedNo (deed u p (w .slot)))) (slotEntries (deed u p) p (u .page p .slotCount)) (headEntries (deed u p) (u .page p) p) (slot-in (u .page p .slotCount) (w .slot) (w .below) (w .changes)))
+  page-in e (of-head l f q w) = rw (l, f) (in-right e (slotEntries (deed u p) p (u .page p .slotCount)) (headEntries (deed u p) (u .page p) p) (rw q (inl w)))
   page-in e (of-lost l w) = rw l (inl w)
 
 seg-in : (u : SegView) (e : Entry) (n p : ℕ) → p < n → In e (pageEntries u p) → In e (segEntries u n)
@@ -238,11 +238,11 @@ unfolding pageAfter
 lost-is u p l = λ i. cond (l i) emptied (cond (fresh (u .page p)) (u .page p) (mended u p))
 
 mended-count : (u : SegView) (p : ℕ) → mended u p .slotCount ≡ u .page p .slotCount
-unfolding mended
+unfolding mendedBy
 mended-count u p = refl
 
 mended-slot : (u : SegView) (p k : ℕ) → mended u p .at k ≡ slotAfter u p k
-unfolding mended
+unfolding mendedBy
 mended-slot u p k = refl
 
 module _ (u : SegView) (p : ℕ) (q : List ℕ) (is : view q ≡ u .page p) (whole : length q ≡ 16384) where
@@ -278,10 +278,10 @@ module _ (u : SegView) (p : ℕ) (q : List ℕ) (is : view q ≡ u .page p) (who
   pub head-bytes-same : lost (u .page p) ≡ false → (fresh (u .page p) ≡ false → sameHead (u .page p) (mended u p) ≡ true) → cut (pageBytes u p q) 0 12 ≡ cut q 0 12
   unfolding pageBytes
   head-bytes-same l h =
-      ap (λ (b : Bool). cut (cond b (put q 0 (zeros 12)) (cond (fresh (u .page p)) q (putMended u p q))) 0 12) l
-      ∙ by-test (λ (x : List ℕ). cut x 0 12 ≡ cut q 0 12) (fresh (u .page p)) q (putMended u p q) (λ f. refl)
-      (λ f. ap (λ (b : Bool). cut (cond b (putSlots u p (u .page p .slotCount) q) (putHead (mended u p) (putSlots u p (u .page p .slotCount) q))) 0 12) (h f)
-      ∙ slots-frame u p (u .page p .slotCount) q 0 12 (inl (omega arith)))
+      ap (λ (b : Bool). cut (cond b (put q 0 (zeros 12)) (cond (fresh (u .page p)) q (putMended (deed u p) (u .page p) q))) 0 12) l
+      ∙ by-test (λ (x : List ℕ). cut x 0 12 ≡ cut q 0 12) (fresh (u .page p)) q (putMended (deed u p) (u .page p) q) (λ f. refl)
+      (λ f. ap (λ (b : Bool). cut (cond b (putSlots (deed u p) (u .page p) (u .page p .slotCount) q) (putHead (mended u p) (putSlots (deed u p) (u .page p) (u .page p .slotCount) q))) 0 12) (h f)
+      ∙ slots-frame (deed u p) (u .page p) (u .page p .slotCount) q 0 12 (inl (omega arith)))
 
   pub slot-bytes-same : (k : ℕ) → (lost (u .page p) ≡ false → fresh (u .page p) ≡ false → k < u .page p .slotCount → changes (deed u p k) ≡ false) → cut (pageBytes u p q) (12 + 8 * k) 8 ≡ cut q (12 + 8 * k) 8
   slot-bytes-same k h = go (lost (u .page p)) refl (fresh (u .page p)) refl (decLt k (u .page p .slotCount))
@@ -481,10 +481,10 @@ none-is true e b q = absurd q
 none-is false e b (inl q) = q
 none-is false e b (inr q) = absurd q
 
-slots-ascend : (u : SegView) (p n : ℕ) → Ascending (slotEntries u p n)
+slots-ascend : (u : SegView) (p n : ℕ) → Ascending (slotEntries (deed u p) p n)
 slots-ascend u p zero = tt
 slots-ascend u p (suc n) =
-    ascend (slotEntries u p n) (cond (changes (deed u p n)) (entry p n (deedNo (deed u p n)) ∷ []) []) (slots-ascend u p n) (one-ascends (changes (deed u p n)) (entry p n (deedNo (deed u p n))))
+    ascend (slotEntries (deed u p) p n) (cond (changes (deed u p n)) (entry p n (deedNo (deed u p n)) ∷ []) []) (slots-ascend u p n) (one-ascends (changes (deed u p n)) (entry p n (deedNo (deed u p n))))
     (λ a b x y.
     let w = slot-of u p a n x in
     let q = one-is (changes (deed u p n)) (entry p n (deedNo (deed u p n))) b y in
@@ -494,11 +494,11 @@ page-ascends : (u : SegView) (p : ℕ) → Ascending (pageEntries u p)
 unfolding pageEntries
 page-ascends u p = go (lost (u .page p)) refl (fresh (u .page p)) refl
   where
-    go : (a : Bool) → lost (u .page p) ≡ a → (b : Bool) → fresh (u .page p) ≡ b → Ascending (cond a (entry p 65535 5 ∷ []) (cond b [] (slotEntries u p (u .page p .slotCount) ++ headEntries u p)))
+    go : (a : Bool) → lost (u .page p) ≡ a → (b : Bool) → fresh (u .page p) ≡ b → Ascending (cond a (entry p 65535 5 ∷ []) (cond b [] (slotEntries (deed u p) p (u .page p .slotCount) ++ headEntries (deed u p) (u .page p) p)))
     go true l b f = (λ b w. absurd w, tt)
     go false l true f = tt
     go false l false f =
-        ascend (slotEntries u p (u .page p .slotCount)) (headEntries u p) (slots-ascend u p (u .page p .slotCount)) (none-ascends (sameHead (u .page p) (mended u p)) (entry p 65535 4))
+        ascend (slotEntries (deed u p) p (u .page p .slotCount)) (headEntries (deed u p) (u .page p) p) (slots-ascend u p (u .page p .slotCount)) (none-ascends (sameHead (u .page p) (mended u p)) (entry p 65535 4))
         (λ a b x y.
         let w = slot-of u p a (u .page p .slotCount) x in
         let q = none-is (sameHead (u .page p) (mended u p)) (entry p 65535 4) b y in

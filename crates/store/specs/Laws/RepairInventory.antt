@@ -14,7 +14,7 @@ use Rattle.store.specs.Page.{fresh}
 use Rattle.store.specs.Inventory.{classOf, halfOf, nibbleAt, nibble, entryAt, update, Truth}
 use Rattle.store.specs.Segment.{SegView}
 use Rattle.store.specs.SoundSegment.{nibbleOf}
-use Rattle.store.specs.Repair.{trueInv, sameBytes, sameInv}
+use Rattle.store.specs.Repair.{trueInv, sameBytes, sameInv, deed, mendedBy}
 use Rattle.store.specs.Laws.Cases.{by-test}
 use Rattle.store.specs.Laws.Classes.{class-top}
 use Rattle.store.specs.Laws.Truth.{lowest-falls}

@@ -16,7 +16,7 @@ use Rattle.store.specs.Slots.{off, len, isRecord, isTarget}
 use Rattle.store.specs.Page.{View, fresh, apart}
 use Rattle.store.specs.PageSteps.{nextFree}
 use Rattle.store.specs.Segment.{SegView}
-use Rattle.store.specs.Repair.{lost, lies, clear, keptBelow, isIn, keeps, holds, named, deedBy, deed, slotDone, bytesDone, slotAfter, bytesAfter, lowest, startAfter, mended}
+use Rattle.store.specs.Repair.{lost, lies, clear, keptBelow, isIn, keeps, holds, named, deedBy, deed, slotDone, bytesDone, slotAfter, bytesAfter, lowest, startAfter, mended, mendedBy}
 use Rattle.store.specs.declared.Deed.{Deed}
 use Rattle.store.specs.declared.Deed.the-variants.{Stays, RecordFreed, RedirectFreed, MadeOrdinary}
 use Rattle.store.specs.Laws.Cases.{by-test, not-in, or-in, or-out, or-true, or-false}
@@ -421,7 +421,7 @@ module _ (u : SegView) (p : ℕ) (h : Shown (u .page p)) (some : 0 < u .page p .
   low-by j s (no l) = let z : len (at′ j) ≡ 0 = ap len (after u p h j .past (omega arith)) in absurd (omega arith)
 
   pub mended-sound : Sound (mended u p)
-  unfolding mended
+  unfolding mendedBy
   mended-sound =
       record {
         few = few;

@@ -14,7 +14,7 @@ use Rattle.store.specs.Slots.{isFree, isTarget}
 use Rattle.store.specs.Page.{View, fresh}
 use Rattle.store.specs.Segment.{SegView}
 use Rattle.store.specs.SoundSegment.{slotOn, bytesOn, backId, Paired}
-use Rattle.store.specs.Repair.{lost, keeps, kept, holds, redirectsTo, named, deedBy, deed, slotDone, bytesDone, slotAfter, bytesAfter, mended, emptied, pageAfter, segAfter}
+use Rattle.store.specs.Repair.{lost, keeps, kept, holds, redirectsTo, named, deedBy, deed, slotDone, bytesDone, slotAfter, bytesAfter, mended, emptied, pageAfter, segAfter, mendedBy}
 use Rattle.store.specs.declared.Deed.{Deed}
 use Rattle.store.specs.declared.Deed.the-variants.{Stays, RecordFreed, RedirectFreed, MadeOrdinary}
 use Rattle.store.specs.Laws.Cases.{by-test, not-in}
@@ -144,11 +144,11 @@ after-used u p k l h =
     ∙ by-test (λ (v : View). v ≡ mended u p) (fresh (u .page p)) (u .page p) (mended u p) (λ f. absurd (omega (arith, fresh-none (u .page p) f))) (λ f. refl)
 
 pub mended-at : (u : SegView) (p k : ℕ) → mended u p .at k ≡ slotAfter u p k
-unfolding mended
+unfolding mendedBy
 mended-at u p k = refl
 
 pub mended-bytes : (u : SegView) (p k : ℕ) → mended u p .bytes k ≡ bytesAfter u p k
-unfolding mended
+unfolding mendedBy
 mended-bytes u p k = refl
 
 -- a slot that is not free afterwards is on a page in use

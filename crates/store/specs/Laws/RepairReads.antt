@@ -13,7 +13,7 @@ use Rattle.store.specs.Slots.{isFree, isRecord, isTarget}
 use Rattle.store.specs.Page.{View, view, fresh, sound}
 use Rattle.store.specs.Segment.{SegView, segView, pageOf, sizeOk, pointsBack, Read, noRead, readBy, readPlan, readStep, Part, noPart, partOn, partBy, locateStep}
 use Rattle.store.specs.SoundSegment.{slotOn, bytesOn}
-use Rattle.store.specs.Repair.{standing, lost, keeps, holds, named, deedBy, deed, slotDone, bytesDone, segAfter, invAfter}
+use Rattle.store.specs.Repair.{standing, lost, keeps, holds, named, deedBy, deed, slotDone, bytesDone, segAfter, invAfter, mendedBy}
 use Rattle.store.specs.declared.Deed.{Deed}
 use Rattle.store.specs.declared.Deed.the-variants.{Stays, RecordFreed, MadeOrdinary}
 use Rattle.store.specs.Laws.Slots.{tag}

@@ -15,7 +15,7 @@ use Rattle.store.specs.PageSteps.{nextFree}
 use Rattle.store.specs.Inventory.{update}
 use Rattle.store.specs.Segment.{SegView}
 use Rattle.store.specs.SoundSegment.{slotOn, backId}
-use Rattle.store.specs.Repair.{lost, lies, clear, keptBelow, isIn, keeps, kept, holds, redirectsTo, named, deedBy, deed, changes, slotDone, slotAfter, startAfter, spaceAfter, mended, emptied, pageAfter, segAfter, sameHead, putSlots, putMended, pageBytes, trueInv, trueOf, sameInv, invAfter, entry, deedNo, slotEntries, headEntries, pageEntries, segEntries, entries}
+use Rattle.store.specs.Repair.{lost, lies, clear, keptBelow, isIn, keeps, kept, holds, redirectsTo, named, deedBy, deed, changes, slotDone, slotAfter, startAfter, spaceAfter, mended, emptied, pageAfter, segAfter, sameHead, putSlots, putMended, pageBytes, trueInv, trueOf, sameInv, invAfter, entry, deedNo, slotEntries, headEntries, pageEntries, segEntries, entries, mendedBy}
 use Rattle.store.specs.declared.Deed.the-variants.{Stays, RecordFreed, RedirectFreed, MadeOrdinary}
 use Rattle.store.specs.Laws.RepairPage.{used}
 use Rattle.store.specs.Laws.SoundPage.{and-both, and-in}
@@ -188,39 +188,39 @@ module _ (a b : SegView) (h : SameSeen a b) where
     after-same = λ i k. slotDone (deed-same k i) (h .slots p l n k i)
 
     first-same : mended a p .firstFree ≡ mended b p .firstFree
-    unfolding mended
+    unfolding mendedBy
     first-same = λ i. nextFree (h .counts p l i) (after-same i) 0
 
     start-same : mended a p .dataStart ≡ mended b p .dataStart
-    unfolding mended
+    unfolding mendedBy
     start-same = λ i. startAfter (h .counts p l i) (h .starts p l i) (after-same i)
 
     space-same : mended a p .freeSpace ≡ mended b p .freeSpace
-    unfolding mended
+    unfolding mendedBy
     space-same = λ i. spaceAfter (h .counts p l i) (after-same i)
 
     count-same : mended a p .slotCount ≡ mended b p .slotCount
-    unfolding mended
+    unfolding mendedBy
     count-same = h .counts p l
 
     head-same : sameHead (a .page p) (mended a p) ≡ sameHead (b .page p) (mended b p)
     head-same = λ i. eqb (h .firsts p l i) (first-same i) && (eqb (h .starts p l i) (start-same i) && eqb (h .spaces p l i) (space-same i))
 
-    slots-written : (m : ℕ) (q : List ℕ) → putSlots a p m q ≡ putSlots b p m q
+    slots-written : (m : ℕ) (q : List ℕ) → putSlots (deed a p) (a .page p) m q ≡ putSlots (deed b p) (b .page p) m q
     slots-written zero q = refl
     slots-written (suc m) q = λ i. cond (changes (deed-same m i)) (put (slots-written m q i) (12 + 8 * m) (slotBytes (after-same i m))) (slots-written m q i)
 
-    slots-told : (m : ℕ) → slotEntries a p m ≡ slotEntries b p m
+    slots-told : (m : ℕ) → slotEntries (deed a p) p m ≡ slotEntries (deed b p) p m
     slots-told zero = refl
     slots-told (suc m) = λ i. slots-told m i ++ cond (changes (deed-same m i)) (entry p m (deedNo (deed-same m i)) ∷ []) []
 
-    mended-written : (q : List ℕ) → putMended a p q ≡ putMended b p q
+    mended-written : (q : List ℕ) → putMended (deed a p) (a .page p) q ≡ putMended (deed b p) (b .page p) q
     mended-written q = λ i.
         cond (head-same i) (all-slots q i)
         (put (all-slots q i) 0 (toBE 2 (count-same i) ++ (toBE 2 (first-same i) ++ (toBE 4 (start-same i) ++ toBE 4 (space-same i)))))
       where
-        all-slots : (q : List ℕ) → putSlots a p (a .page p .slotCount) q ≡ putSlots b p (b .page p .slotCount) q
-        all-slots q = ap (λ (m : ℕ). putSlots a p m q) (h .counts p l) ∙ slots-written (b .page p .slotCount) q
+        all-slots : (q : List ℕ) → putSlots (deed a p) (a .page p) (a .page p .slotCount) q ≡ putSlots (deed b p) (b .page p) (b .page p .slotCount) q
+        all-slots q = ap (λ (m : ℕ). putSlots (deed a p) (a .page p) m q) (h .counts p l) ∙ slots-written (b .page p .slotCount) q
 
   -- law 8: the same is written on every page, and the same is told of it
   pub page-written : (p : ℕ) → p < a .pages → (q : List ℕ) → pageBytes a p q ≡ pageBytes b p q
@@ -228,13 +228,13 @@ module _ (a b : SegView) (h : SameSeen a b) where
   page-written p l q = go (lost (a .page p)) refl (fresh (a .page p)) refl
     where
       go : (x : Bool) → lost (a .page p) ≡ x → (y : Bool) → fresh (a .page p) ≡ y
-          → cond (lost (a .page p)) (put q 0 (zeros 12)) (cond (fresh (a .page p)) q (putMended a p q)) ≡ cond (lost (b .page p)) (put q 0 (zeros 12)) (cond (fresh (b .page p)) q (putMended b p q))
+          → cond (lost (a .page p)) (put q 0 (zeros 12)) (cond (fresh (a .page p)) q (putMended (deed a p) (a .page p) q)) ≡ cond (lost (b .page p)) (put q 0 (zeros 12)) (cond (fresh (b .page p)) q (putMended (deed b p) (b .page p) q))
       go true e y f =
-          ap (λ (x : Bool). cond x (put q 0 (zeros 12)) (cond (fresh (a .page p)) q (putMended a p q))) e
-          ∙ sym (ap (λ (x : Bool). cond x (put q 0 (zeros 12)) (cond (fresh (b .page p)) q (putMended b p q))) (sym (lost-same p l) ∙ e))
+          ap (λ (x : Bool). cond x (put q 0 (zeros 12)) (cond (fresh (a .page p)) q (putMended (deed a p) (a .page p) q))) e
+          ∙ sym (ap (λ (x : Bool). cond x (put q 0 (zeros 12)) (cond (fresh (b .page p)) q (putMended (deed b p) (b .page p) q))) (sym (lost-same p l) ∙ e))
       go false e true f =
-          (λ i. cond (lost-same p l i) (put q 0 (zeros 12)) (cond (f i) q (putMended a p q)))
-          ∙ sym (ap (λ (y : Bool). cond (lost (b .page p)) (put q 0 (zeros 12)) (cond y q (putMended b p q))) (sym (fresh-same p l) ∙ f))
+          (λ i. cond (lost-same p l i) (put q 0 (zeros 12)) (cond (f i) q (putMended (deed a p) (a .page p) q)))
+          ∙ sym (ap (λ (y : Bool). cond (lost (b .page p)) (put q 0 (zeros 12)) (cond y q (putMended (deed b p) (b .page p) q))) (sym (fresh-same p l) ∙ f))
       go false e false f =
           λ i. cond (lost-same p l i) (put q 0 (zeros 12)) (cond (fresh-same p l i) q (mended-written p l e (used (a .page p) e f .1) q i))
 
@@ -243,17 +243,17 @@ module _ (a b : SegView) (h : SameSeen a b) where
   page-told p l = go (lost (a .page p)) refl (fresh (a .page p)) refl
     where
       go : (x : Bool) → lost (a .page p) ≡ x → (y : Bool) → fresh (a .page p) ≡ y
-          → cond (lost (a .page p)) (entry p 65535 5 ∷ []) (cond (fresh (a .page p)) [] (slotEntries a p (a .page p .slotCount) ++ headEntries a p))
-          ≡ cond (lost (b .page p)) (entry p 65535 5 ∷ []) (cond (fresh (b .page p)) [] (slotEntries b p (b .page p .slotCount) ++ headEntries b p))
+          → cond (lost (a .page p)) (entry p 65535 5 ∷ []) (cond (fresh (a .page p)) [] (slotEntries (deed a p) p (a .page p .slotCount) ++ headEntries (deed a p) (a .page p) p))
+          ≡ cond (lost (b .page p)) (entry p 65535 5 ∷ []) (cond (fresh (b .page p)) [] (slotEntries (deed b p) p (b .page p .slotCount) ++ headEntries (deed b p) (b .page p) p))
       go true e y f =
-          ap (λ (x : Bool). cond x (entry p 65535 5 ∷ []) (cond (fresh (a .page p)) [] (slotEntries a p (a .page p .slotCount) ++ headEntries a p))) e
-          ∙ sym (ap (λ (x : Bool). cond x (entry p 65535 5 ∷ []) (cond (fresh (b .page p)) [] (slotEntries b p (b .page p .slotCount) ++ headEntries b p))) (sym (lost-same p l) ∙ e))
+          ap (λ (x : Bool). cond x (entry p 65535 5 ∷ []) (cond (fresh (a .page p)) [] (slotEntries (deed a p) p (a .page p .slotCount) ++ headEntries (deed a p) (a .page p) p))) e
+          ∙ sym (ap (λ (x : Bool). cond x (entry p 65535 5 ∷ []) (cond (fresh (b .page p)) [] (slotEntries (deed b p) p (b .page p .slotCount) ++ headEntries (deed b p) (b .page p) p))) (sym (lost-same p l) ∙ e))
       go false e true f =
-          (λ i. cond (lost-same p l i) (entry p 65535 5 ∷ []) (cond (f i) [] (slotEntries a p (a .page p .slotCount) ++ headEntries a p)))
-          ∙ sym (ap (λ (y : Bool). cond (lost (b .page p)) (entry p 65535 5 ∷ []) (cond y [] (slotEntries b p (b .page p .slotCount) ++ headEntries b p))) (sym (fresh-same p l) ∙ f))
+          (λ i. cond (lost-same p l i) (entry p 65535 5 ∷ []) (cond (f i) [] (slotEntries (deed a p) p (a .page p .slotCount) ++ headEntries (deed a p) (a .page p) p)))
+          ∙ sym (ap (λ (y : Bool). cond (lost (b .page p)) (entry p 65535 5 ∷ []) (cond y [] (slotEntries (deed b p) p (b .page p .slotCount) ++ headEntries (deed b p) (b .page p) p))) (sym (fresh-same p l) ∙ f))
       go false e false f =
           let m = used (a .page p) e f .1 in
-          let t : slotEntries a p (a .page p .slotCount) ≡ slotEntries b p (b .page p .slotCount) = ap (slotEntries a p) (h .counts p l) ∙ slots-told p l e m (b .page p .slotCount) in
+          let t : slotEntries (deed a p) p (a .page p .slotCount) ≡ slotEntries (deed b p) p (b .page p .slotCount) = ap (slotEntries (deed a p) p) (h .counts p l) ∙ slots-told p l e m (b .page p .slotCount) in
           λ i. cond (lost-same p l i) (entry p 65535 5 ∷ []) (cond (fresh-same p l i) [] (t i ++ cond (head-same p l e m i) [] (entry p 65535 4 ∷ [])))
 
   seg-told : (n : ℕ) → n ≤ a .pages → segEntries a n ≡ segEntries b n

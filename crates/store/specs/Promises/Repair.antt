@@ -12,7 +12,7 @@ use Rattle.store.specs.Numbers.{put}
 use Rattle.store.specs.Segment.{sizeOk, invOk}
 use Rattle.store.specs.Calls.{Call, results, Each}
 use Rattle.store.specs.SoundSegment.{SoundSegment}
-use Rattle.store.specs.Repair.{standing, segBytes, invAfter, Entry, entries, words, Repaired, repairStep}
+use Rattle.store.specs.Repair.{standing, segBytes, invAfter, Entry, entries, words, Repaired, repairStep, deed, mendedBy}
 use Rattle.store.specs.Laws.SoundPage.{and-both}
 use Rattle.store.specs.Laws.SoundSegment.{sized}
 use Rattle.store.specs.Promises.Sound.{Right, calls-right}

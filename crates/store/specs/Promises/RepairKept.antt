@@ -10,7 +10,7 @@ use Rattle.store.specs.Numbers.{cut, pageNo, slotNo}
 use Rattle.store.specs.Page.{view, fresh}
 use Rattle.store.specs.Segment.{SegView, segView, pageOf, sizeOk, invOk, readStep, locateStep}
 use Rattle.store.specs.SoundSegment.{slotOn, bytesOn}
-use Rattle.store.specs.Repair.{standing, lost, deed, changes, mended, sameHead, sameInv, trueOf, Entry, entry, deedNo, slotEntries, headEntries, pageEntries, segEntries, invEntries, entries, words, Repaired, repairStep}
+use Rattle.store.specs.Repair.{standing, lost, deed, changes, mended, sameHead, sameInv, trueOf, Entry, entry, deedNo, slotEntries, headEntries, pageEntries, segEntries, invEntries, entries, words, Repaired, repairStep, mendedBy}
 use Rattle.store.specs.declared.Deed.{Deed}
 use Rattle.store.specs.declared.Deed.the-variants.{Stays, RecordFreed, RedirectFreed, MadeOrdinary}
 use Rattle.store.specs.Laws.Numbers.{cut-same, drop-put}
@@ -98,10 +98,10 @@ listed-afterwards s v l q = listed-by s v l (repairStep s v l) (outcome s v l) q
 
 -- ---- "3 × (2,047 × n + 1) words always suffice"
 
-slots-most : (u : SegView) (p n : ℕ) → length (slotEntries u p n) ≤ n
+slots-most : (u : SegView) (p n : ℕ) → length (slotEntries (deed u p) p n) ≤ n
 slots-most u p zero = omega arith
 slots-most u p (suc n) =
-    let a = length-append (slotEntries u p n) (cond (changes (deed u p n)) (entry p n (deedNo (deed u p n)) ∷ []) []) in
+    let a = length-append (slotEntries (deed u p) p n) (cond (changes (deed u p n)) (entry p n (deedNo (deed u p n)) ∷ []) []) in
     omega (arith, slots-most u p n, one (changes (deed u p n)) (entry p n (deedNo (deed u p n))))
   where
     one : (b : Bool) (e : Entry) → length (cond b (e ∷ []) []) ≤ 1
@@ -116,11 +116,11 @@ page-most u p = go (lost (u .page p)) refl (fresh (u .page p)) refl
     head true e = omega arith
     head false e = omega arith
 
-    go : (a : Bool) → lost (u .page p) ≡ a → (b : Bool) → fresh (u .page p) ≡ b → length (cond a (entry p 65535 5 ∷ []) (cond b [] (slotEntries u p (u .page p .slotCount) ++ headEntries u p))) ≤ 2047
+    go : (a : Bool) → lost (u .page p) ≡ a → (b : Bool) → fresh (u .page p) ≡ b → length (cond a (entry p 65535 5 ∷ []) (cond b [] (slotEntries (deed u p) p (u .page p .slotCount) ++ headEntries (deed u p) (u .page p) p))) ≤ 2047
     go true l b f = omega arith
     go false l true f = omega arith
     go false l false f =
-        let a = length-append (slotEntries u p (u .page p .slotCount)) (headEntries u p) in
+        let a = length-append (slotEntries (deed u p) p (u .page p .slotCount)) (headEntries (deed u p) (u .page p) p) in
         omega (arith, slots-most u p (u .page p .slotCount), head (sameHead (u .page p) (mended u p)) (entry p 65535 4), used (u .page p) l f)
 
 seg-most : (u : SegView) (n : ℕ) → length (segEntries u n) ≤ 2047 * n
