@@ -21,7 +21,7 @@ pub const WORDS: usize = PAGE_SIZE / 64;
 const ONES: usize = 18446744073709551615;
 
 // The bits of a word from a on.
-fn bits_from(a: usize) -> usize
+pub fn bits_from(a: usize) -> usize
     requires { ⌜ a < 64 ⌝ }
     ensures { λ r. ⌜ Mask r a 64 ⌝ }
 {
@@ -29,7 +29,7 @@ fn bits_from(a: usize) -> usize
 }
 
 // The bits of a word up to b.
-fn bits_to(b: usize) -> usize
+pub fn bits_to(b: usize) -> usize
     requires { ⌜ b < 64 ⌝ }
     ensures { λ r. ⌜ Mask r 0 (b + 1) ⌝ }
 {
@@ -51,7 +51,7 @@ fn claim_word(used: &mut [usize], i: usize, m: usize) -> bool
 }
 
 // Claims the bytes from o on below `end`, word by word: the first from o's bit on, the last up to that of the last byte.
-fn claim(used: &mut [usize], o: usize, end: usize) -> bool
+pub fn claim(used: &mut [usize], o: usize, end: usize) -> bool
     requires { ⌜ (length (now used) ≡ 256) × (o < end) × (end ≤ 16384) ⌝ }
     ensures { λ r. ⌜ Claims r (Clear (now (used .entry)) o end) (now (used .entry)) (now (used .exit)) o end ⌝ }
 {
