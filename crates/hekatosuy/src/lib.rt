@@ -1,10 +1,11 @@
-// The store for C: the six calls of a segment and the scan, with document 01's numbers for answers. include/hekatosuy.h declares them.
+// The store for C: the six calls of a segment, the scan and repair, with the documents' numbers for answers. include/hekatosuy.h declares them.
 //
 // A slice is a pointer and a length. What a call hands back beside its number it writes through a pointer to one u64.
 use segment_scan::OVER_PAGE;
 use store::Answer;
 use store::IDS_A_PAGE;
 use store::Reading;
+use store::Repair;
 use store::Step;
 ghost use mathlib.Core.Path.{_≡_};
 ghost use mathlib.Core.Bool.{cond};
@@ -14,7 +15,8 @@ ghost use lib.Dec.{eqb};
 ghost use Rattle.store.specs.Numbers.{idOf, pageNo, slotNo};
 ghost use Rattle.store.specs.Segment.{insertStep, allocateStep, writeStep, resizeStep, eraseStep, locateStep};
 ghost use Rattle.store.specs.Scan.{without, scanStep};
-ghost use Rattle.store.specs.Answers.{answerNo, answerId, readingPart, scannedOf};
+ghost use Rattle.store.specs.Repair.{repairStep};
+ghost use Rattle.store.specs.Answers.{answerNo, answerId, readingPart, scannedOf, repairNo, repairCount};
 ghost use Rattle.hekatosuy.specs.Handed.{withId, withoutId, stepped, Positioned};
 
 // "Answers by number".
@@ -261,4 +263,47 @@ pub extern "C" fn hk_scan_step(
     *offset = h.offset;
     *length = h.length;
     h.answer
+}
+
+// "Refusals: 1, then 11 ROOM".
+fn repair_no(r: Repair) -> u64
+    ensures { λ n. ⌜ n ≡ repairNo r ⌝ }
+{
+    match r {
+        Repair::Done { count: _ } => 0,
+        Repair::Size => 1,
+        Repair::Room { count: _ } => 11,
+    }
+}
+
+fn repair_count(r: Repair) -> u64
+    ensures { λ n. ⌜ n ≡ repairCount r ⌝ }
+{
+    match r {
+        Repair::Done { count } => count as u64,
+        Repair::Size => 0,
+        Repair::Room { count } => count as u64,
+    }
+}
+
+// An entry is three words of `entries`: page, place, what was done. `count` is how many there are, and how many there would be on 11.
+#[no_mangle]
+pub extern "C" fn hk_repair(
+    segment: &mut [u8],
+    inventory: &mut [u8],
+    entries: &mut [u64],
+    count: &mut u64,
+) -> u64
+    ensures { λ r. ⌜ record {
+      answer = r;
+      count = now (count .exit);
+      seg = now (segment .exit);
+      inv = now (inventory .exit);
+      list = now (entries .exit);
+    }
+        ≡ repairStep (now (segment .entry)) (now (inventory .entry)) (now (entries .entry)) ⌝ }
+{
+    let r = segment_repair::repair(segment, inventory, entries);
+    *count = repair_count(r);
+    repair_no(r)
 }

@@ -1,7 +1,5 @@
 // "go through the slots upward and free each whose record leaves the page, is a target under 8 bytes, or has positive length and reaches into
 // the directory or overlaps a record already kept."
-use crate::marks;
-use layout::slots::is_record;
 use layout::slots::is_target;
 use layout::slots::len_of;
 use layout::slots::off_of;
@@ -50,7 +48,7 @@ fn judge_record(page: &[u8], c: usize, k: usize, used: &mut [usize]) -> u8
     ensures { λ r. ⌜ (r ≡ judgedNo (view (now (page .entry))) k) × KeptMarks (view (now (page .entry))) (k + 1) (now (used .exit)) ⌝ }
 {
     let s = layout::slots::get_slot(page, k);
-    if !is_record(s) {
+    if !layout::slots::is_record(s) {
         return 0;
     }
     if !lies_in(c, s) {
@@ -61,7 +59,7 @@ fn judge_record(page: &[u8], c: usize, k: usize, used: &mut [usize]) -> u8
     if l == 0 {
         return 0;
     }
-    if !marks::is_clear(used, o, o + l) {
+    if !crate::marks::is_clear(used, o, o + l) {
         return 1;
     }
     page_check::map::claim(used, o, o + l);

@@ -1,6 +1,5 @@
 // A page in use, once it is settled what is done to each slot: its header's numbers "worked out anew", and the slots that change written.
 use layout::slots::get_slot;
-use layout::slots::is_free;
 use layout::slots::len_of;
 use layout::slots::off_of;
 use store::BACK;
@@ -68,7 +67,7 @@ fn gather_slot(r: Numbers, k: usize, d: u8, s: Slot) -> Numbers
     let o = off_of(s);
     let mut first = r.first;
     if first == k {
-        if !is_free(s) {
+        if !layout::slots::is_free(s) {
             first = k + 1;
         }
     }

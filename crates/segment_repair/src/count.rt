@@ -4,12 +4,13 @@ use segment_pages::page_of;
 use store::MOST_SLOTS;
 use store::PAGE_SIZE;
 ghost use mathlib.Core.Path.{_≡_};
-ghost use Prim.Native.Nat.{_/_, _≤_, _<_};
+ghost use Prim.Native.Nat.{_/_};
 ghost use lib.ListN.{length};
 ghost use Rattle.store.specs.Numbers.{zeros};
-ghost use Rattle.store.specs.Repair.{standing, segAfter, segEntries, trueInv, sameInv};
+ghost use Rattle.store.specs.Repair.{standing, segEntries, trueOf, sameInv};
 ghost use Rattle.store.specs.Laws.Lent.{Within};
-ghost use Rattle.segment_repair.specs.Words.{Known, UsedPageOn, CountedAs};
+ghost use Rattle.segment_judge.specs.Words.{Known, UsedPageOn};
+ghost use Rattle.segment_repair.specs.Words.{CountedAs};
 
 // Of a page: how many entries it gets, whether it is in use afterwards, and how much is free on it then.
 pub struct Counted {
@@ -24,7 +25,7 @@ fn count_mended(segment: &[u8], sound: &[usize], p: usize, n: usize) -> Counted
     ensures { λ r. ⌜ CountedAs (standing (now (segment .entry))) p r ⌝ }
 {
     let mut deeds = [0u8; MOST_SLOTS];
-    crate::judge::judge_page(segment, sound, p, n, &mut deeds);
+    segment_judge::judge_page(segment, sound, p, n, &mut deeds);
     let page = page_of(segment, p);
     let r = mend::gather(page, n, &deeds);
     let h = mend::header_after(page, n, r);
@@ -45,7 +46,7 @@ fn count_used(segment: &[u8], sound: &[usize], p: usize, n: usize) -> Counted
     ensures { λ r. ⌜ CountedAs (standing (now (segment .entry))) p r ⌝ }
 {
     if page_repair::marks::is_marked(sound, p) {
-        if crate::judge::all_stay(segment, sound, p, n) {
+        if segment_judge::all_stay(segment, sound, p, n) {
             return Counted {
                 entries: 0,
                 used: true,
@@ -88,7 +89,7 @@ fn count_page(segment: &[u8], sound: &[usize], p: usize) -> Counted
 pub fn count_pages(segment: &[u8], sound: &[usize], inventory: &mut [u8]) -> usize
     requires { ⌜ Known (now segment) (now sound) × (now inventory ≡ zeros 16384) ⌝ }
     ensures { λ r. ⌜ (r ≡ length (segEntries (standing (now (segment .entry))) (length (now (segment .entry)) / 16384)))
-        × (now (inventory .exit) ≡ trueInv (segAfter (standing (now (segment .entry)))) (length (now (segment .entry)) / 16384) (length (now (segment .entry)) / 16384)) ⌝ }
+        × (now (inventory .exit) ≡ trueOf (standing (now (segment .entry)))) ⌝ }
 {
     let n = segment.len() / PAGE_SIZE;
     let mut entries = 0;

@@ -6,7 +6,7 @@ ghost use lib.ListN.{length};
 ghost use Rattle.store.specs.Numbers.{put};
 ghost use Rattle.store.specs.Repair.{slotEntries, words};
 ghost use Rattle.page_repair.specs.Mended.{deedsOf};
-ghost use Rattle.segment_repair.specs.Words.{Deeds};
+ghost use Rattle.segment_judge.specs.Words.{Deeds};
 
 // An entry's place where it is not a slot, and what was done there.
 pub const AT_HEADER: u64 = 65535;

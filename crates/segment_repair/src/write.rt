@@ -12,7 +12,8 @@ ghost use Rattle.store.specs.Page.{view};
 ghost use Rattle.store.specs.Segment.{pageOf};
 ghost use Rattle.store.specs.Repair.{standing, lost, segBytes, pageEntries, segEntries, words};
 ghost use Rattle.store.specs.Laws.Lent.{Within};
-ghost use Rattle.segment_repair.specs.Words.{Known, UsedPageOn, Written};
+ghost use Rattle.segment_judge.specs.Words.{Known, UsedPageOn};
+ghost use Rattle.segment_repair.specs.Words.{Written};
 
 // A page in use, of n slots; answers the number of the next entry.
 fn write_used(
@@ -23,11 +24,12 @@ fn write_used(
     entries: &mut [u64],
     at: usize,
 ) -> usize
-    requires { ⌜ Known (now segment) (now sound) × UsedPageOn (now segment) p n × (3 * (at + length (pageEntries (standing (now segment)) p)) ≤ length (now entries)) ⌝ }
+    requires { ⌜ Known (now segment) (now sound) × UsedPageOn (now segment) p n ⌝ }
+    requires { ⌜ 3 * (at + length (pageEntries (standing (now segment)) p)) ≤ length (now entries) ⌝ }
     ensures { λ r. ⌜ Written (now (segment .entry)) (now (segment .exit)) (now (entries .entry)) (now (entries .exit)) p at r ⌝ }
 {
     let mut deeds = [0u8; MOST_SLOTS];
-    crate::judge::judge_page(segment, sound, p, n, &mut deeds);
+    segment_judge::judge_page(segment, sound, p, n, &mut deeds);
     let next = tell::tell_slots(entries, at, p, n, &deeds);
     if !page_repair::mend::mend(&mut segment[p * 16384..(p + 1) * 16384], n, &deeds) {
         return next;
@@ -38,7 +40,8 @@ fn write_used(
 
 // "gets a zero header".
 fn write_lost(segment: &mut [u8], p: usize, entries: &mut [u64], at: usize) -> usize
-    requires { ⌜ Within (now segment) p × (lost (view (pageOf (now segment) p)) ≡ true) × (3 * (at + length (pageEntries (standing (now segment)) p)) ≤ length (now entries)) ⌝ }
+    requires { ⌜ Within (now segment) p × (lost (view (pageOf (now segment) p)) ≡ true) ⌝ }
+    requires { ⌜ 3 * (at + length (pageEntries (standing (now segment)) p)) ≤ length (now entries) ⌝ }
     ensures { λ r. ⌜ Written (now (segment .entry)) (now (segment .exit)) (now (entries .entry)) (now (entries .exit)) p at r ⌝ }
 {
     layout::header::set_header(&mut segment[p * 16384..(p + 1) * 16384], 0, 0, 0, 0);
@@ -53,7 +56,8 @@ fn write_page(
     entries: &mut [u64],
     at: usize,
 ) -> usize
-    requires { ⌜ Known (now segment) (now sound) × Within (now segment) p × (3 * (at + length (pageEntries (standing (now segment)) p)) ≤ length (now entries)) ⌝ }
+    requires { ⌜ Known (now segment) (now sound) × Within (now segment) p ⌝ }
+    requires { ⌜ 3 * (at + length (pageEntries (standing (now segment)) p)) ≤ length (now entries) ⌝ }
     ensures { λ r. ⌜ Written (now (segment .entry)) (now (segment .exit)) (now (entries .entry)) (now (entries .exit)) p at r ⌝ }
 {
     let n = layout::header::get_slot_count(page_of(segment, p));

@@ -1,7 +1,11 @@
-// What is done to each slot of a page, by the bytes as they stand.
+// What repair does to each slot of a page, by the bytes as they stand: "Then free redirects without a kept target pointing back from another
+// page; a target that no kept redirect names becomes an ordinary record".
+use layout::slots::REDIRECT;
 use page_repair::marks::is_marked;
 use segment_pages::page_of;
 use store::BACK;
+use store::ENTRY;
+use store::HEADER;
 use store::IDS_A_PAGE;
 use store::MOST_SLOTS;
 use store::PAGE_SIZE;
@@ -17,7 +21,7 @@ ghost use Rattle.store.specs.Segment.{pageOf};
 ghost use Rattle.store.specs.Repair.{standing, keeps, holds as holdsBy, named as namedBy, deed, deedNo, changes};
 ghost use Rattle.page_check.specs.Map.{Blank};
 ghost use Rattle.page_repair.specs.Kept.{judgedNo};
-ghost use Rattle.segment_repair.specs.Words.{Checked, Known, UsedPageOn, UsedOn, KeptTarget, Deeds};
+ghost use Rattle.segment_judge.specs.Words.{Checked, Known, UsedPageOn, UsedOn, KeptTarget, Deeds};
 
 // Marks the pages that are sound.
 pub fn check_pages(segment: &[u8], sound: &mut [usize])
@@ -130,15 +134,19 @@ pub fn judge_page(segment: &[u8], sound: &[usize], p: usize, n: usize, deeds: &m
     }
 }
 
-// Whether no slot of the page, which is sound and has n, changes.
+// Whether no slot of the page, which is sound and has n, changes. On such a page ordinary and free slots stay: their entries begin below
+// those of the other two kinds.
 pub fn all_stay(segment: &[u8], sound: &[usize], p: usize, n: usize) -> bool
     requires { ⌜ Known (now segment) (now sound) × UsedPageOn (now segment) p n × (soundPage (view (pageOf (now segment) p)) ≡ true) ⌝ }
     ensures { λ r. ⌜ r ≡ all n (λ k. not (changes (deed (standing (now (segment .entry))) p k))) ⌝ }
 {
+    let page = page_of(segment, p);
     let mut k = 0;
     while k < n {
-        if judge_slot(segment, sound, p, k, 0) != 0 {
-            return false;
+        if REDIRECT <= layout::get_u32(page, HEADER + ENTRY * k) {
+            if judge_slot(segment, sound, p, k, 0) != 0 {
+                return false;
+            }
         }
         k += 1;
     }
