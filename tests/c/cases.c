@@ -410,6 +410,13 @@ static void widest(void) {
     expect("no id", id, 77);
     expect("the most pages", hk_insert_record(pages, whole, inventory, PAGE, record, 3, &id), HK_DONE);
     expect("the first id", id, 0);
+    expect("the most pages, checked", hk_repair(pages, whole, inventory, PAGE, entries, 0, &id), HK_DONE);
+    pages[whole - PAGE] = 0xFF;
+    expect("the last page damaged", hk_repair(pages, whole, inventory, PAGE, entries, WORDS, &id), HK_DONE);
+    expect("one entry", id, 1);
+    told(0, HK_MAX_PAGES - 1, HK_AT_HEADER, HK_HEADER_ZEROED);
+    expect("one page too many", hk_repair(pages, whole + PAGE, inventory, PAGE, entries, WORDS, &id), HK_SIZE);
+    expect("no entry", id, 0);
     free(pages);
     end("the most pages, and one more");
 }
