@@ -39,6 +39,7 @@ pub mod RepairInventory
 pub mod Repair
 pub mod RepairAlone
 pub mod RepairQuiet
+pub mod RepairMixed
 pub mod RepairReads
 pub mod RepairEntries
 pub mod RepairSeen
