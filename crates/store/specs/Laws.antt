@@ -38,6 +38,8 @@ pub mod RepairPairs
 pub mod RepairInventory
 pub mod Repair
 pub mod RepairAlone
+pub mod RepairQuiet
+pub mod RepairMixed
 pub mod RepairReads
 pub mod RepairEntries
 pub mod RepairSeen

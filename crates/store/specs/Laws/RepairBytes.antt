@@ -1,5 +1,5 @@
 -- Repair's bytes: which it can change, and that what is seen of the segment afterwards is what was planned. Assumes nothing.
-use Prim.Native.Nat.{ℕ, zero, suc, _+_, _-_, _*_, _/_, _%_, _≤_, _<_}
+use Prim.Native.Nat.{ℕ, zero, suc, _+_, _*_, _/_, _%_, _≤_, _<_}
 use mathlib.Core.Path.{_≡_, refl, sym, ap, _∙_, subst}
 use mathlib.Core.Bool.{Bool, true, false, cond, _&&_}
 use mathlib.Core.List.{List}
@@ -142,7 +142,7 @@ shown-page q whole =
       lens = λ j h. length-take (len (slotAt q j)) (drop (off (slotAt q j)) q) ∙ omega (arith, length-drop (off (slotAt q j)) q);
     }
 
-same-slot : (d : Deed) (x : Slot) → changes d ≡ false → slotDone d x ≡ x
+pub same-slot : (d : Deed) (x : Slot) → changes d ≡ false → slotDone d x ≡ x
 same-slot Stays x e = refl
 same-slot RecordFreed x e = let z : _≡_ {A = ℕ} 0 1 = cc in absurd (omega arith)
 same-slot RedirectFreed x e = let z : _≡_ {A = ℕ} 0 1 = cc in absurd (omega arith)
