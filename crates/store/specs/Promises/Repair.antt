@@ -12,7 +12,7 @@ use Rattle.store.specs.Numbers.{put}
 use Rattle.store.specs.Segment.{sizeOk, invOk}
 use Rattle.store.specs.Calls.{Call, results, Each}
 use Rattle.store.specs.SoundSegment.{SoundSegment}
-use Rattle.store.specs.Repair.{standing, segBytes, invAfter, Entry, entries, words, Repaired, repairStep, deed, mendedBy}
+use Rattle.store.specs.Repair.{standing, segBytes, invAfter, Entry, entries, words, Repaired, repairStep}
 use Rattle.store.specs.Laws.SoundPage.{and-both}
 use Rattle.store.specs.Laws.SoundSegment.{sized}
 use Rattle.store.specs.Promises.Sound.{Right, calls-right}
@@ -45,7 +45,8 @@ module _ (s v l : List ℕ) where
   unfolding repairStep
   outcome = go (sizeOk s && invOk v) refl (ltb (length l / 3) (length (entries (standing s) v))) refl
     where
-      go : (a : Bool) → (sizeOk s && invOk v) ≡ a → (b : Bool) → ltb (length l / 3) (length (entries (standing s) v)) ≡ b → Outcome (cond (not a) wrongSize (cond b noPlace carriedOut))
+      go : (a : Bool) → (sizeOk s && invOk v) ≡ a → (b : Bool) → ltb (length l / 3) (length (entries (standing s) v)) ≡ b
+          → Outcome (cond (not a) wrongSize (cond b noPlace carriedOut))
       go true e true f = of-room e (ltb-true (length l / 3) (length (entries (standing s) v)) f)
       go true e false f = of-done e (ltb-false (length l / 3) (length (entries (standing s) v)) f)
       go false e b f = of-size e
@@ -121,7 +122,8 @@ module _ (s v l : List ℕ) where
 
   -- law 6: twice is once
   pub twice-once : repairStep s v l .answer ≡ 0 → (m : List ℕ)
-      → repairStep (repairStep s v l .seg) (repairStep s v l .inv) m ≡ record { answer = 0; count = 0; seg = repairStep s v l .seg; inv = repairStep s v l .inv; list = m }
+      → repairStep (repairStep s v l .seg) (repairStep s v l .inv) m
+      ≡ record { answer = 0; count = 0; seg = repairStep s v l .seg; inv = repairStep s v l .inv; list = m }
   twice-once q m = left-alone (repairStep s v l .seg) (repairStep s v l .inv) (sound-afterwards q) m
 
   -- law 9: no call answers 4 or 8 afterwards
