@@ -1,5 +1,5 @@
 -- Repair's entries are exactly the changes, in ascending order, and each tells what was done. Assumes nothing.
-use Prim.Native.Nat.{ℕ, zero, suc, _+_, _-_, _*_, _/_, _%_, _≤_, _<_}
+use Prim.Native.Nat.{ℕ, zero, suc, _+_, _*_, _/_, _%_, _≤_, _<_}
 use mathlib.Core.Path.{_≡_, refl, sym, ap, _∙_, subst}
 use mathlib.Core.Bool.{Bool, true, false, cond, _&&_}
 use mathlib.Core.List.{List, [], _∷_, _++_}
@@ -11,7 +11,7 @@ use lib.ListN.{length, drop}
 use lib.Dec.{eqb, ltb}
 use borrow.Author.Tests.{eq-eqb}
 use Rattle.store.specs.Numbers.{cut, put, zeros, be, all, idOf}
-use Rattle.store.specs.Slots.{slotOf, isRecord}
+use Rattle.store.specs.Slots.{slotOf}
 use Rattle.store.specs.Page.{View, view, fresh}
 use Rattle.store.specs.PageSteps.{putHead}
 use Rattle.store.specs.Inventory.{entryAt}
@@ -19,6 +19,7 @@ use Rattle.store.specs.Segment.{SegView, pageOf}
 use Rattle.store.specs.Repair.{standing, lost, keeps, holds, named, deedBy, deed, changes, slotDone, slotAfter, mended, emptied}
 use Rattle.store.specs.Repair.{pageAfter, sameHead, putSlots, putMended, pageBytes, sameBytes, sameInv, trueOf, invAfter, Entry, entry}
 use Rattle.store.specs.Repair.{deedNo, slotEntries, headEntries, pageEntries, segEntries, invEntries, entries, mendedBy}
+use Rattle.store.specs.RepairTold.{In, Before, Ascending, Tells, freed-record, freed-redirect, made-ordinary}
 use Rattle.store.specs.declared.Deed.{Deed}
 use Rattle.store.specs.declared.Deed.the-variants.{Stays, RecordFreed, RedirectFreed, MadeOrdinary}
 use Rattle.store.specs.Laws.Cases.{by-test}
@@ -33,10 +34,6 @@ use Rattle.store.specs.declared.Slot.{Slot}
 use Rattle.store.specs.declared.Slot.the-variants.{Ordinary, Free, Redirect, Target}
 
 -- ---- one of a list
-
-abbrev pub In : Entry → List Entry → Type 0
-In e [] = ⊥
-In e (x ∷ xs) = (e ≡ x) ⊎ In e xs
 
 in-either : (e : Entry) (xs ys : List Entry) → In e (xs ++ ys) → In e xs ⊎ In e ys
 in-either e [] ys h = inr h
@@ -178,11 +175,6 @@ entry-in u v e (of-page p l w) = in-left e (segEntries u (u .pages)) (invEntries
 entry-in u v e (of-inv q w) = in-right e (segEntries u (u .pages)) (invEntries u v) (rw q (inl w))
 
 -- ---- "The number in each fits what changed"
-
-pub data Tells : Slot → Slot → ℕ → Type 0 where
-  freed-record : (x : Slot) → isRecord x ≡ true → Tells x Free 1
-  freed-redirect : (t : ℕ) → Tells (Redirect t) Free 2
-  made-ordinary : (o l : ℕ) → Tells (Target o l) (Ordinary (o + 8) (l - 8)) 3
 
 pub deed-tells : (u : SegView) (p k : ℕ) (x : Slot) → changes (deedBy u p k x) ≡ true → Tells x (slotDone (deedBy u p k x) x) (deedNo (deedBy u p k x))
 deed-tells u p k (Ordinary o l) =
@@ -484,13 +476,6 @@ module _ (s : List ℕ) (whole : length s % 16384 ≡ 0) (v : List ℕ) where
       go (of-inv q w) = (ap (λ (x : Entry). x .page) w, ap (λ (x : Entry). x .what) w, inv-differs us v q)
 
 -- ---- "entries ascend by (page, place)"
-
-abbrev pub Before : Entry → Entry → Type 0
-Before a b = (a .page < b .page) ⊎ ((a .page ≡ b .page) × (a .place < b .place))
-
-abbrev pub Ascending : List Entry → Type 0
-Ascending [] = Unit {0}
-Ascending (x ∷ xs) = ((b : Entry) → In b xs → Before x b) × Ascending xs
 
 ascend : (xs ys : List Entry) → Ascending xs → Ascending ys → ((a b : Entry) → In a xs → In b ys → Before a b) → Ascending (xs ++ ys)
 ascend [] ys h g m = g

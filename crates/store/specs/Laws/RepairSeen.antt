@@ -18,22 +18,13 @@ use Rattle.store.specs.SoundSegment.{slotOn, backId}
 use Rattle.store.specs.Repair.{lost, lies, clear, keptBelow, isIn, keeps, kept, holds, redirectsTo, named, deedBy, deed, changes, slotDone, slotAfter}
 use Rattle.store.specs.Repair.{startAfter, spaceAfter, mended, emptied, pageAfter, segAfter, sameHead, putSlots, putMended, pageBytes, trueInv, trueOf}
 use Rattle.store.specs.Repair.{sameInv, invAfter, entry, deedNo, slotEntries, headEntries, pageEntries, segEntries, entries, mendedBy}
+use Rattle.store.specs.RepairTold.{SameSeen}
 use Rattle.store.specs.declared.Deed.the-variants.{Stays, RecordFreed, RedirectFreed, MadeOrdinary}
 use Rattle.store.specs.Laws.RepairPage.{used}
 use Rattle.store.specs.Laws.SoundPage.{and-both, and-in}
 use Rattle.store.specs.Laws.Cases.{not-in}
 use Rattle.store.specs.declared.Slot.{Slot}
 use Rattle.store.specs.declared.Slot.the-variants.{Ordinary, Free, Redirect, Target}
-
-pub record SameSeen (a b : SegView) : Type 0 where
-  pub pages : a .pages ≡ b .pages
-  pub counts : (p : ℕ) → p < a .pages → a .page p .slotCount ≡ b .page p .slotCount
-  pub firsts : (p : ℕ) → p < a .pages → a .page p .firstFree ≡ b .page p .firstFree
-  pub starts : (p : ℕ) → p < a .pages → a .page p .dataStart ≡ b .page p .dataStart
-  pub spaces : (p : ℕ) → p < a .pages → a .page p .freeSpace ≡ b .page p .freeSpace
-  pub slots : (p : ℕ) → p < a .pages → lost (a .page p) ≡ false → (k : ℕ) → a .page p .at k ≡ b .page p .at k
-  pub backs : (t : ℕ) → kept a t ≡ true → isTarget (slotOn a t) ≡ true → backId a t ≡ backId b t
-  pub past : (p : ℕ) → p < a .pages → (k : ℕ) → a .page p .slotCount ≤ k → a .page p .at k ≡ Free
 
 kept-in : (a : SegView) (t : ℕ) → pageNo t < a .pages → lost (a .page (pageNo t)) ≡ false → keeps (a .page (pageNo t)) (slotNo t) ≡ true → kept a t ≡ true
 unfolding kept

@@ -12,6 +12,7 @@ use Rattle.store.specs.Segment.{SegView, segView, pageOf, sizeOk, invOk,
 use Rattle.store.specs.SoundSegment.{slotOn, bytesOn}
 use Rattle.store.specs.Repair.{standing, lost, deed, changes, mended, sameHead, sameInv, trueOf, Entry, entry, deedNo, slotEntries}
 use Rattle.store.specs.Repair.{headEntries, pageEntries, segEntries, invEntries, entries, words, Repaired, repairStep}
+use Rattle.store.specs.RepairTold.{In}
 use Rattle.store.specs.declared.Deed.{Deed}
 use Rattle.store.specs.declared.Deed.the-variants.{Stays, RecordFreed, RedirectFreed, MadeOrdinary}
 use Rattle.store.specs.Laws.Numbers.{cut-same, drop-put}
@@ -20,7 +21,7 @@ use Rattle.store.specs.Laws.SoundSegment.{sized}
 use Rattle.store.specs.Laws.RepairPage.{used}
 use Rattle.store.specs.Laws.RepairBytes.{directory, untouched, slot-untouched}
 use Rattle.store.specs.Laws.RepairReads.{record-kept, still-read}
-use Rattle.store.specs.Laws.RepairEntries.{In, entry-in, of-page, of-slot}
+use Rattle.store.specs.Laws.RepairEntries.{entry-in, of-page, of-slot}
 use Rattle.store.specs.Promises.Repair.{Outcome, of-size, of-room, of-done, outcome}
 
 -- ---- laws 4 and 5, of the call
