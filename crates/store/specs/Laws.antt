@@ -38,6 +38,7 @@ pub mod RepairPairs
 pub mod RepairInventory
 pub mod Repair
 pub mod RepairAlone
+pub mod RepairCall
 pub mod RepairReads
 pub mod RepairEntries
 pub mod RepairSeen

@@ -1,4 +1,4 @@
--- Repair's laws, for every bytes that can be lent: sound afterwards; what is kept; refusals change nothing. Assumes nothing.
+-- Repair's laws, for every bytes that can be lent: sound afterwards; what is kept; refusals change nothing.
 use Prim.Native.Nat.{ℕ, _-_, _/_, _%_, _≤_, _<_}
 use mathlib.Core.Path.{_≡_, refl, sym, ap, _∙_, subst}
 use mathlib.Core.Bool.{Bool, true, false, cond, _&&_}

@@ -1,4 +1,4 @@
--- Repair leaves a sound segment alone, and only a sound one gets no entry. Assumes nothing.
+-- Repair leaves a sound segment alone, and only a sound one gets no entry.
 use Prim.Native.Nat.{ℕ, zero, suc, _+_, _*_, _/_, _≤_, _<_}
 use mathlib.Core.Path.{_≡_, refl, sym, ap, _∙_, subst}
 use mathlib.Core.Bool.{Bool, true, false, cond, not, _&&_, _||_}

@@ -1,4 +1,4 @@
--- Repair's bytes: which it can change, and that what is seen of the segment afterwards is what was planned. Assumes nothing.
+-- Repair's bytes: which it can change, and that what is seen of the segment afterwards is what was planned.
 use Prim.Native.Nat.{ℕ, zero, suc, _+_, _*_, _/_, _%_, _≤_, _<_}
 use mathlib.Core.Path.{_≡_, refl, sym, ap, _∙_, subst}
 use mathlib.Core.Bool.{Bool, true, false, cond, _&&_}

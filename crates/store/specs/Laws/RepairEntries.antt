@@ -1,4 +1,4 @@
--- Repair's entries are exactly the changes, in ascending order, and each tells what was done. Assumes nothing.
+-- Repair's entries are exactly the changes, in ascending order, and each tells what was done.
 use Prim.Native.Nat.{ℕ, zero, suc, _+_, _*_, _/_, _%_, _≤_, _<_}
 use mathlib.Core.Path.{_≡_, refl, sym, ap, _∙_, subst}
 use mathlib.Core.Bool.{Bool, true, false, cond, _&&_}

@@ -1,4 +1,4 @@
--- The true inventory: the fold of updates is one, what is the same as it is one, and any two are the same. Assumes nothing.
+-- The true inventory: the fold of updates is one, what is the same as it is one, and any two are the same.
 use Prim.Native.Nat.{ℕ, zero, suc, _+_, _-_, _*_, _/_, _%_, _≤_, _<_}
 use mathlib.Core.Path.{_≡_, refl, sym, ap, _∙_, subst}
 use mathlib.Core.Bool.{Bool, true, false, cond}

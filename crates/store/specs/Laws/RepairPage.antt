@@ -1,5 +1,5 @@
 -- Repair on one page: what is kept, the numbers worked out, and that a page in use is sound afterwards. Numbers and slots alone: no byte of a
--- page occurs here. Assumes nothing.
+-- page occurs here.
 use Prim.Native.Nat.{ℕ, zero, suc, _+_, _-_, _*_, _≤_, _<_, min}
 use mathlib.Core.Path.{_≡_, refl, sym, ap, _∙_}
 use mathlib.Core.Bool.{Bool, true, false, cond, not, _&&_, _||_}

@@ -1,4 +1,4 @@
--- Repair's redirects and targets: those that are left are paired. Over what is seen alone. Assumes nothing.
+-- Repair's redirects and targets: those that are left are paired. Over what is seen alone.
 use Prim.Native.Nat.{ℕ, _<_}
 use mathlib.Core.Path.{_≡_, refl, sym, ap, _∙_}
 use mathlib.Core.Bool.{Bool, true, false, cond, not, _&&_}

@@ -1,4 +1,4 @@
--- What could be read can still be read: after repair a read that answered 0 gives the same bytes at the same place. Assumes nothing.
+-- What could be read can still be read: after repair a read that answered 0 gives the same bytes at the same place.
 use Prim.Native.Nat.{ℕ, _+_, _-_, _/_, _%_, _≤_, _<_}
 use mathlib.Core.Path.{_≡_, refl, sym, ap, _∙_}
 use mathlib.Core.Bool.{Bool, true, false, cond, not, _&&_}

@@ -1,5 +1,5 @@
 -- Nothing unseen is looked at: what repair tells and writes is a function of the number of pages, the inventory, the headers, the slots of pages that are
--- not lost, and the first 8 bytes of kept targets. Assumes nothing.
+-- not lost, and the first 8 bytes of kept targets.
 use Prim.Native.Nat.{ℕ, zero, suc, _+_, _*_, _≤_, _<_}
 use mathlib.Core.Path.{_≡_, refl, sym, ap, _∙_}
 use mathlib.Core.Bool.{Bool, true, false, cond, not, _&&_, _||_}

@@ -1,4 +1,4 @@
--- Repair's laws in the request's words, where they speak of entries: what has none is kept; the list; how many there can be. Assumes nothing.
+-- Repair's laws in the request's words, where they speak of entries: what has none is kept; the list; how many there can be.
 use Prim.Native.Nat.{ℕ, zero, suc, _+_, _*_, _/_, _≤_, _<_}
 use mathlib.Core.Path.{_≡_, refl}
 use mathlib.Core.Bool.{Bool, true, false, cond}
@@ -22,7 +22,7 @@ use Rattle.store.specs.Laws.RepairPage.{used}
 use Rattle.store.specs.Laws.RepairBytes.{directory, untouched, slot-untouched}
 use Rattle.store.specs.Laws.RepairReads.{record-kept, still-read}
 use Rattle.store.specs.Laws.RepairEntries.{entry-in, of-page, of-slot}
-use Rattle.store.specs.Promises.Repair.{Outcome, of-size, of-room, of-done, outcome}
+use Rattle.store.specs.Laws.RepairCall.{Outcome, of-size, of-room, of-done, outcome}
 
 -- ---- laws 4 and 5, of the call
 
