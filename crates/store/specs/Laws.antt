@@ -40,6 +40,7 @@ pub mod Repair
 pub mod RepairAlone
 pub mod RepairQuiet
 pub mod RepairMixed
+pub mod RepairCall
 pub mod RepairReads
 pub mod RepairEntries
 pub mod RepairSeen

@@ -9,6 +9,7 @@ pub mod Calls
 pub mod Scan
 pub mod SoundSegment
 pub mod Repair
+pub mod RepairTold
 pub mod Answers
 pub mod Alike
 pub mod Laws

@@ -1,4 +1,4 @@
--- Repair's laws, for every bytes that can be lent: sound afterwards; what is kept; refusals change nothing. Assumes nothing.
+-- Repair's laws, for every bytes that can be lent: sound afterwards; what is kept; refusals change nothing.
 use Prim.Native.Nat.{ℕ, _-_, _/_, _%_, _≤_, _<_}
 use mathlib.Core.Path.{_≡_, refl, sym, ap, _∙_, subst}
 use mathlib.Core.Bool.{Bool, true, false, cond, _&&_}
@@ -15,7 +15,7 @@ use Rattle.store.specs.PageSteps.{initialised, opened}
 use Rattle.store.specs.Inventory.{classOf, Truth}
 use Rattle.store.specs.Segment.{SegView, segView, pageOf, sizeOk}
 use Rattle.store.specs.SoundSegment.{slotOn, bytesOn, Paired, nibbleOf, classes, SoundSegment}
-use Rattle.store.specs.Repair.{standing, lost, mended, emptied, pageAfter, segAfter, trueOf, sameInv, invAfter, deed, mendedBy}
+use Rattle.store.specs.Repair.{standing, lost, mended, emptied, pageAfter, segAfter, trueOf, sameInv, invAfter}
 use Rattle.store.specs.Laws.Cases.{by-test, or-in}
 use Rattle.store.specs.Laws.SoundPage.{past-free, sound-test, fresh-none}
 use Rattle.store.specs.Laws.Segments.{length-page}
@@ -28,7 +28,8 @@ use Rattle.store.specs.Laws.RepairInventory.{classesTo, true-length, tru
 
 pub opened-slot : (q : List ℕ) (k : ℕ) → opened (view q) .at k ≡ view q .at k
 opened-slot q k =
-    by-test (λ (w : View). w .at k ≡ view q .at k) (fresh (view q)) initialised (view q) (λ f. sym (past-free q k (omega (arith, fresh-none (view q) f)))) (λ f. refl)
+    by-test (λ (w : View). w .at k ≡ view q .at k) (fresh (view q)) initialised (view q) (λ f. sym (past-free q k (omega (arith, fresh-none (view q) f))))
+    (λ f. refl)
 
 pub opened-bytes : (q : List ℕ) (k : ℕ) → opened (view q) .bytes k ≡ view q .bytes k
 unfolding view
@@ -38,7 +39,8 @@ opened-bytes q k =
 
 pub opened-nibble : (w : View) → nibbleOf (opened w) ≡ nibbleOf w
 opened-nibble w =
-    by-test (λ (x : View). nibbleOf x ≡ nibbleOf w) (fresh w) initialised w (λ f. sym (ap (λ (b : Bool). cond b 0 (classOf (16372 - w .freeSpace))) f)) (λ f. refl)
+    by-test (λ (x : View). nibbleOf x ≡ nibbleOf w) (fresh w) initialised w (λ f. sym (ap (λ (b : Bool). cond b 0 (classOf (16372 - w .freeSpace))) f))
+    (λ f. refl)
 
 module _ (s : List ℕ) where
   pub seen-slot : (i : ℕ) → slotOn (segView s) i ≡ slotOn (standing s) i
@@ -66,7 +68,8 @@ unfolding segView standing
 opened-standing s p = refl
 
 -- pairing asks only for the slots and bytes of ids on the pages
-pub paired-same : (a b : SegView) → a .pages ≡ b .pages → ((i : ℕ) → pageNo i < b .pages → slotOn a i ≡ slotOn b i) → ((i : ℕ) → pageNo i < b .pages → bytesOn a i ≡ bytesOn b i)
+pub paired-same : (a b : SegView) → a .pages ≡ b .pages → ((i : ℕ) → pageNo i < b .pages → slotOn a i ≡ slotOn b i)
+    → ((i : ℕ) → pageNo i < b .pages → bytesOn a i ≡ bytesOn b i)
     → Paired b → Paired a
 paired-same a b n slots bytes h =
     record {
@@ -119,7 +122,8 @@ module _ (s : List ℕ) (whole : length s % 16384 ≡ 0) where
 
   after-pages : segView (repairedSeg s whole) .pages ≡ segAfter (standing s) .pages
   unfolding segAfter
-  after-pages = seen-pages (repairedSeg s whole) ∙ standing-pages (repairedSeg s whole) ∙ ap (λ (n : ℕ). n / 16384) (repaired-length s whole) ∙ sym (standing-pages s)
+  after-pages =
+      seen-pages (repairedSeg s whole) ∙ standing-pages (repairedSeg s whole) ∙ ap (λ (n : ℕ). n / 16384) (repaired-length s whole) ∙ sym (standing-pages s)
 
   pub planned-pages : segAfter (standing s) .pages ≡ length s / 16384
   unfolding segAfter
@@ -161,8 +165,10 @@ module _ (s : List ℕ) (whole : length s % 16384 ≡ 0) where
     inv-true : Truth (classesTo (segAfter (standing s)) (length s / 16384)) (length s / 16384) (invAfter (standing s) v)
     unfolding invAfter
     inv-true =
-        by-test (λ (r : List ℕ). Truth (classesTo (segAfter (standing s)) (length s / 16384)) (length s / 16384) r) (sameInv v (trueOf (standing s))) v (trueOf (standing s))
-        (λ e. same-true (classesTo (segAfter (standing s)) (length s / 16384)) (length s / 16384) v (trueOf (standing s)) (one ∙ sym (true-length (segAfter (standing s)) (standing s .pages) (standing s .pages))) e true-planned)
+        by-test (λ (r : List ℕ). Truth (classesTo (segAfter (standing s)) (length s / 16384)) (length s / 16384) r) (sameInv v (trueOf (standing s))) v
+        (trueOf (standing s))
+        (λ e. same-true (classesTo (segAfter (standing s)) (length s / 16384)) (length s / 16384) v (trueOf (standing s))
+        (one ∙ sym (true-length (segAfter (standing s)) (standing s .pages) (standing s .pages))) e true-planned)
         (λ e. true-planned)
 
     pub after-sound : sizeOk s ≡ true → SoundSegment (repairedSeg s whole) (invAfter (standing s) v)

@@ -1,4 +1,4 @@
--- Repair leaves a sound segment alone, and only a sound one gets no entry. Assumes nothing.
+-- Repair leaves a sound segment alone, and only a sound one gets no entry.
 use Prim.Native.Nat.{ℕ, zero, suc, _+_, _*_, _/_, _≤_, _<_}
 use mathlib.Core.Path.{_≡_, refl, sym, ap, _∙_, subst}
 use mathlib.Core.Bool.{Bool, true, false, cond, not, _&&_, _||_}
@@ -16,7 +16,9 @@ use Rattle.store.specs.PageSteps.{putHead, nextFree}
 use Rattle.store.specs.Inventory.{Truth}
 use Rattle.store.specs.Segment.{SegView, segView, pageOf, sizeOk, invOk}
 use Rattle.store.specs.SoundSegment.{slotOn, Paired, classes, SoundSegment}
-use Rattle.store.specs.Repair.{standing, lost, lies, keeps, holds, named, deedBy, deed, changes, slotAfter, lowest, startAfter, spaceAfter, mended, segAfter, sameHead, putSlots, putMended, pageBytes, segBytes, trueOf, sameInv, invAfter, Entry, entry, deedNo, slotEntries, headEntries, pageEntries, segEntries, invEntries, entries, words, Repaired, repairStep, mendedBy}
+use Rattle.store.specs.Repair.{standing, lost, lies, keeps, holds, named, deedBy, deed, changes, slotAfter, lowest, startAfter, spaceAfter}
+use Rattle.store.specs.Repair.{mended, segAfter, sameHead, putSlots, putMended, pageBytes, segBytes, trueOf, sameInv, invAfter, Entry, entry, deedNo}
+use Rattle.store.specs.Repair.{slotEntries, headEntries, pageEntries, segEntries, invEntries, entries, words, Repaired, repairStep, mendedBy}
 use Rattle.store.specs.declared.Deed.the-variants.{Stays, RecordFreed, RedirectFreed, MadeOrdinary}
 use Rattle.store.specs.Laws.Cases.{by-test, never, or-in, or-out}
 use Rattle.store.specs.Laws.Numbers.{put-nil, put-own}
@@ -28,7 +30,8 @@ use Rattle.store.specs.Laws.RepairPage.{in-all, lowest-low}
 use Rattle.store.specs.Laws.RepairBytes.{same-slot}
 use Rattle.store.specs.Laws.RepairPairs.{holds-in, KeptRedirect, named-in}
 use Rattle.store.specs.Laws.RepairInventory.{classesTo, true-length, true-same}
-use Rattle.store.specs.Laws.Repair.{seen-slot, seen-bytes, seen-pages, standing-pages, standing-page, paired-same, shown, true-planned, classes-after, after-sound}
+use Rattle.store.specs.Laws.Repair.{seen-slot, seen-bytes, seen-pages, standing-pages, standing-page}
+use Rattle.store.specs.Laws.Repair.{paired-same, shown, true-planned, classes-after, after-sound}
 use Rattle.store.specs.declared.Slot.{Slot}
 use Rattle.store.specs.declared.Slot.the-variants.{Ordinary, Free, Redirect, Target}
 
@@ -47,8 +50,11 @@ sound-not-lost q whole e = go (fresh (view q)) refl (ℕ-discrete (view q .slotC
 module _ (v : View) (h : Sound v) where
   lies-in : (j : ℕ) → lies v j ≡ true
   lies-in j =
-      and-in (leb (off (v .at j) + len (v .at j)) 16384) ((not (isTarget (v .at j)) || leb 8 (len (v .at j))) && (eqb (len (v .at j)) 0 || leb (12 + 8 * v .slotCount) (off (v .at j)))) (le-leb (off (v .at j) + len (v .at j)) 16384 (h .high j))
-      (and-in (not (isTarget (v .at j)) || leb 8 (len (v .at j))) (eqb (len (v .at j)) 0 || leb (12 + 8 * v .slotCount) (off (v .at j))) (long (isTarget (v .at j)) refl) (low (ℕ-discrete (len (v .at j)) 0)))
+      and-in (leb (off (v .at j) + len (v .at j)) 16384)
+      ((not (isTarget (v .at j)) || leb 8 (len (v .at j))) && (eqb (len (v .at j)) 0 || leb (12 + 8 * v .slotCount) (off (v .at j))))
+      (le-leb (off (v .at j) + len (v .at j)) 16384 (h .high j))
+      (and-in (not (isTarget (v .at j)) || leb 8 (len (v .at j))) (eqb (len (v .at j)) 0 || leb (12 + 8 * v .slotCount) (off (v .at j)))
+      (long (isTarget (v .at j)) refl) (low (ℕ-discrete (len (v .at j)) 0)))
     where
       long : (b : Bool) → isTarget (v .at j) ≡ b → (not b || leb 8 (len (v .at j))) ≡ true
       long true e = le-leb 8 (len (v .at j)) (h .targets j e)
@@ -56,7 +62,9 @@ module _ (v : View) (h : Sound v) where
 
       low : Dec (len (v .at j) ≡ 0) → (eqb (len (v .at j)) 0 || leb (12 + 8 * v .slotCount) (off (v .at j))) ≡ true
       low (yes e) = or-in (eqb (len (v .at j)) 0) (leb (12 + 8 * v .slotCount) (off (v .at j))) (eq-eqb (len (v .at j)) 0 e)
-      low (no n) = or-out (eqb (len (v .at j)) 0) (leb (12 + 8 * v .slotCount) (off (v .at j))) (le-leb (12 + 8 * v .slotCount) (off (v .at j)) (omega (arith, h .dir, h .low j (omega arith))))
+      low (no n) =
+          or-out (eqb (len (v .at j)) 0) (leb (12 + 8 * v .slotCount) (off (v .at j)))
+          (le-leb (12 + 8 * v .slotCount) (off (v .at j)) (omega (arith, h .dir, h .low j (omega arith))))
 
   pub all-kept : (j : ℕ) → isRecord (v .at j) ≡ true → keeps v j ≡ true
   unfolding keeps
@@ -70,7 +78,8 @@ module _ (v : View) (h : Sound v) where
   pub first-same : nextFree (v .slotCount) (v .at) 0 ≡ v .firstFree
   first-same = go (decLt (nextFree (v .slotCount) (v .at) 0) (v .firstFree)) (decLt (v .firstFree) (nextFree (v .slotCount) (v .at) 0))
     where
-      go : Dec (nextFree (v .slotCount) (v .at) 0 < v .firstFree) → Dec (v .firstFree < nextFree (v .slotCount) (v .at) 0) → nextFree (v .slotCount) (v .at) 0 ≡ v .firstFree
+      go : Dec (nextFree (v .slotCount) (v .at) 0 < v .firstFree) → Dec (v .firstFree < nextFree (v .slotCount) (v .at) 0)
+          → nextFree (v .slotCount) (v .at) 0 ≡ v .firstFree
       go (yes l) m =
           let a = next-free (v .slotCount) (v .at) 0 (omega (arith, h .first≤)) in
           let b = h .lower (nextFree (v .slotCount) (v .at) 0) l in
@@ -83,7 +92,11 @@ module _ (v : View) (h : Sound v) where
 
   pub start-same : startAfter (v .slotCount) (v .dataStart) (v .at) ≡ v .dataStart
   start-same =
-      rw (le-leb (12 + 8 * v .slotCount) (v .dataStart) (h .dir), le-leb (v .dataStart) (lowest (v .slotCount) (v .at)) (lowest-low (v .slotCount) (v .at) (v .dataStart) (h .start≤) (λ j l s. h .low j s)))
+      rw (
+        le-leb (12 + 8 * v .slotCount) (v .dataStart) (h .dir),
+        le-leb (v .dataStart) (lowest (v .slotCount) (v .at))
+            (lowest-low (v .slotCount) (v .at) (v .dataStart) (h .start≤) (λ j l s. h .low j s)),
+      )
 
   pub space-same : spaceAfter (v .slotCount) (v .at) ≡ v .freeSpace
   space-same = omega (arith, h .sums)
@@ -98,12 +111,14 @@ module _ (u : SegView) (p : ℕ) where
   none-written : (n : ℕ) (q : List ℕ) → ((k : ℕ) → k < n → changes (deed u p k) ≡ false) → putSlots (deed u p) (u .page p) n q ≡ q
   none-written zero q h = refl
   none-written (suc n) q h =
-      ap (λ (b : Bool). cond b (put (putSlots (deed u p) (u .page p) n q) (12 + 8 * n) (slotBytes (slotAfter u p n))) (putSlots (deed u p) (u .page p) n q)) (h n (omega arith)) ∙ none-written n q (λ k l. h k (omega arith))
+      ap (λ (b : Bool). cond b (put (putSlots (deed u p) (u .page p) n q) (12 + 8 * n) (slotBytes (slotAfter u p n))) (putSlots (deed u p) (u .page p) n q))
+      (h n (omega arith)) ∙ none-written n q (λ k l. h k (omega arith))
 
   none-told : (n : ℕ) → ((k : ℕ) → k < n → changes (deed u p k) ≡ false) → slotEntries (deed u p) p n ≡ []
   none-told zero h = refl
   none-told (suc n) h =
-      ap (λ (b : Bool). slotEntries (deed u p) p n ++ cond b (entry p n (deedNo (deed u p n)) ∷ []) []) (h n (omega arith)) ∙ ap (λ (es : List Entry). es ++ []) (none-told n (λ k l. h k (omega arith)))
+      ap (λ (b : Bool). slotEntries (deed u p) p n ++ cond b (entry p n (deedNo (deed u p n)) ∷ []) []) (h n (omega arith))
+      ∙ ap (λ (es : List Entry). es ++ []) (none-told n (λ k l. h k (omega arith)))
 
   abbrev pub Quiet : Type 0
   Quiet = ((k : ℕ) → k < u .page p .slotCount → changes (deed u p k) ≡ false) × (sameHead (u .page p) (mended u p) ≡ true)
@@ -113,14 +128,18 @@ module _ (u : SegView) (p : ℕ) where
   quiet-bytes q l h =
       ap (λ (b : Bool). cond b (put q 0 (zeros 12)) (cond (fresh (u .page p)) q (putMended (deed u p) (u .page p) q))) l
       ∙ by-test (λ (x : List ℕ). x ≡ q) (fresh (u .page p)) q (putMended (deed u p) (u .page p) q) (λ f. refl)
-      (λ f. ap (λ (b : Bool). cond b (putSlots (deed u p) (u .page p) (u .page p .slotCount) q) (putHead (mended u p) (putSlots (deed u p) (u .page p) (u .page p .slotCount) q))) (h f .1) ∙ none-written (u .page p .slotCount) q (h f .0))
+      (λ f. ap (λ (b : Bool). cond b (putSlots (deed u p) (u .page p) (u .page p .slotCount) q)
+      (putHead (mended u p) (putSlots (deed u p) (u .page p) (u .page p .slotCount) q))) (h f .1) ∙ none-written (u .page p .slotCount) q (h f .0))
 
   pub quiet-entries : lost (u .page p) ≡ false → (fresh (u .page p) ≡ false → Quiet) → pageEntries u p ≡ []
   unfolding pageEntries
   quiet-entries l h =
-      ap (λ (b : Bool). cond b (entry p 65535 5 ∷ []) (cond (fresh (u .page p)) [] (slotEntries (deed u p) p (u .page p .slotCount) ++ headEntries (deed u p) (u .page p) p))) l
-      ∙ by-test (λ (x : List Entry). x ≡ []) (fresh (u .page p)) [] (slotEntries (deed u p) p (u .page p .slotCount) ++ headEntries (deed u p) (u .page p) p) (λ f. refl)
-      (λ f. ap (λ (es : List Entry). es ++ headEntries (deed u p) (u .page p) p) (none-told (u .page p .slotCount) (h f .0)) ∙ ap (λ (b : Bool). cond b [] (entry p 65535 4 ∷ [])) (h f .1))
+      ap (λ (b : Bool). cond b (entry p 65535 5 ∷ []) (cond (fresh (u .page p)) []
+      (slotEntries (deed u p) p (u .page p .slotCount) ++ headEntries (deed u p) (u .page p) p))) l
+      ∙ by-test (λ (x : List Entry). x ≡ []) (fresh (u .page p)) [] (slotEntries (deed u p) p (u .page p .slotCount) ++ headEntries (deed u p) (u .page p) p)
+      (λ f. refl)
+      (λ f. ap (λ (es : List Entry). es ++ headEntries (deed u p) (u .page p) p) (none-told (u .page p .slotCount) (h f .0))
+      ∙ ap (λ (b : Bool). cond b [] (entry p 65535 4 ∷ [])) (h f .1))
 
   -- ---- and the other way: no entry, no change
 
@@ -130,14 +149,16 @@ module _ (u : SegView) (p : ℕ) where
 
   untold : (n : ℕ) → slotEntries (deed u p) p n ≡ [] → (k : ℕ) → k < n → changes (deed u p k) ≡ false
   untold zero e k l = absurd (not-suc-le-zero l)
-  untold (suc n) e k l = go (untold n) (nil-both (slotEntries (deed u p) p n) (cond (changes (deed u p n)) (entry p n (deedNo (deed u p n)) ∷ []) []) e) (ℕ-discrete k n)
+  untold (suc n) e k l =
+      go (untold n) (nil-both (slotEntries (deed u p) p n) (cond (changes (deed u p n)) (entry p n (deedNo (deed u p n)) ∷ []) []) e) (ℕ-discrete k n)
     where
       last : (b : Bool) → _≡_ {A = List Entry} (cond b (entry p n (deedNo (deed u p n)) ∷ []) []) [] → b ≡ false
       last true q = let z : _≡_ {A = ℕ} 0 1 = cc in absurd (omega arith)
       last false q = refl
 
       go : (slotEntries (deed u p) p n ≡ [] → (j : ℕ) → j < n → changes (deed u p j) ≡ false)
-          → (slotEntries (deed u p) p n ≡ []) × (cond (changes (deed u p n)) (entry p n (deedNo (deed u p n)) ∷ []) [] ≡ []) → Dec (k ≡ n) → changes (deed u p k) ≡ false
+          → (slotEntries (deed u p) p n ≡ []) × (cond (changes (deed u p n)) (entry p n (deedNo (deed u p n)) ∷ []) [] ≡ []) → Dec (k ≡ n)
+          → changes (deed u p k) ≡ false
       go ih h (yes d) = ap (λ (x : ℕ). changes (deed u p x)) d ∙ last (changes (deed u p n)) (h .1)
       go ih h (no d) = ih (h .0) k (omega arith)
 
@@ -149,13 +170,16 @@ module _ (u : SegView) (p : ℕ) where
       head true q = refl
       head false q = let z : _≡_ {A = ℕ} 0 1 = cc in absurd (omega arith)
 
-      used : (b : Bool) → fresh (u .page p) ≡ b → cond b [] (slotEntries (deed u p) p (u .page p .slotCount) ++ headEntries (deed u p) (u .page p) p) ≡ [] → fresh (u .page p) ≡ false → Quiet
+      used : (b : Bool) → fresh (u .page p) ≡ b → cond b [] (slotEntries (deed u p) p (u .page p .slotCount) ++ headEntries (deed u p) (u .page p) p) ≡ []
+          → fresh (u .page p) ≡ false → Quiet
       used true f e g = let z : _≡_ {A = ℕ} 0 1 = cc in absurd (omega arith)
       used false f e g =
           let h = nil-both (slotEntries (deed u p) p (u .page p .slotCount)) (headEntries (deed u p) (u .page p) p) e in
           (untold (u .page p .slotCount) (h .0), head (sameHead (u .page p) (mended u p)) (h .1))
 
-      go : (a : Bool) → lost (u .page p) ≡ a → cond a (entry p 65535 5 ∷ []) (cond (fresh (u .page p)) [] (slotEntries (deed u p) p (u .page p .slotCount) ++ headEntries (deed u p) (u .page p) p)) ≡ []
+      go : (a : Bool) → lost (u .page p) ≡ a
+          → cond a (entry p 65535 5 ∷ [])
+          (cond (fresh (u .page p)) [] (slotEntries (deed u p) p (u .page p .slotCount) ++ headEntries (deed u p) (u .page p) p)) ≡ []
           → (lost (u .page p) ≡ false) × (fresh (u .page p) ≡ false → Quiet)
       go true l e = let z : _≡_ {A = ℕ} 0 1 = cc in absurd (omega arith)
       go false l e = (l, used (fresh (u .page p)) refl e)
@@ -175,10 +199,13 @@ module _ (u : SegView) (p : ℕ) (w : Sound (u .page p)) (h : (k : ℕ) → k < 
       let e = same-at in
       let c : ℕ = u .page p .slotCount in (
         h,
-        and-in (eqb (u .page p .firstFree) (nextFree c (slotAfter u p) 0)) (eqb (u .page p .dataStart) (startAfter c (u .page p .dataStart) (slotAfter u p)) && eqb (u .page p .freeSpace) (spaceAfter c (slotAfter u p)))
+        and-in (eqb (u .page p .firstFree) (nextFree c (slotAfter u p) 0))
+            (eqb (u .page p .dataStart) (startAfter c (u .page p .dataStart) (slotAfter u p)) && eqb (u .page p .freeSpace) (spaceAfter c (slotAfter u p)))
             (eq-eqb (u .page p .firstFree) (nextFree c (slotAfter u p) 0) (sym (ap (λ (g : ℕ → Slot). nextFree c g 0) e ∙ first-same (u .page p) w)))
-            (and-in (eqb (u .page p .dataStart) (startAfter c (u .page p .dataStart) (slotAfter u p))) (eqb (u .page p .freeSpace) (spaceAfter c (slotAfter u p)))
-            (eq-eqb (u .page p .dataStart) (startAfter c (u .page p .dataStart) (slotAfter u p)) (sym (ap (λ (g : ℕ → Slot). startAfter c (u .page p .dataStart) g) e ∙ start-same (u .page p) w)))
+            (and-in (eqb (u .page p .dataStart) (startAfter c (u .page p .dataStart) (slotAfter u p)))
+            (eqb (u .page p .freeSpace) (spaceAfter c (slotAfter u p)))
+            (eq-eqb (u .page p .dataStart) (startAfter c (u .page p .dataStart) (slotAfter u p))
+            (sym (ap (λ (g : ℕ → Slot). startAfter c (u .page p .dataStart) g) e ∙ start-same (u .page p) w)))
             (eq-eqb (u .page p .freeSpace) (spaceAfter c (slotAfter u p)) (sym (ap (λ (g : ℕ → Slot). spaceAfter c g) e ∙ space-same (u .page p) w)))),
       )
 
@@ -228,7 +255,8 @@ module _ (s v : List ℕ) (h : SoundSegment s v) where
 
   in-use : (p : ℕ) → p < length s / 16384 → fresh (u .page p) ≡ false → Sound (u .page p)
   in-use p l f =
-      subst Sound (sym (standing-page s p)) (sound-page (pageOf s p) (length-page s p (omega (arith, z .whole))) (ap fresh (sym (standing-page s p)) ∙ f) (h .pages p l))
+      subst Sound (sym (standing-page s p)) (sound-page (pageOf s p) (length-page s p (omega (arith, z .whole))) (ap fresh (sym (standing-page s p)) ∙ f)
+      (h .pages p l))
 
   pages-are : u .pages ≡ length s / 16384
   pages-are = standing-pages s
@@ -263,7 +291,9 @@ module _ (s v : List ℕ) (h : SoundSegment s v) where
         holds = record {
           below = r .below;
           whole = not-lost (pageNo t) (omega (arith, pages-are, r .below));
-          keeps = all-kept (u .page (pageNo t)) (in-use (pageNo t) (omega (arith, pages-are, r .below)) (taken t (r .below) (free-not (slotOn u t) (r .target)))) (slotNo t) (record-by (slotOn u t) (r .target));
+          keeps =
+              all-kept (u .page (pageNo t)) (in-use (pageNo t) (omega (arith, pages-are, r .below)) (taken t (r .below) (free-not (slotOn u t) (r .target))))
+              (slotNo t) (record-by (slotOn u t) (r .target));
           target = r .target;
           other = r .other;
           back = r .back;
@@ -299,7 +329,8 @@ module _ (s v : List ℕ) (h : SoundSegment s v) where
       go (Target o n) e =
           let r = paired .targets (idOf p k) below (ap isTarget (here ∙ e)) in
           let q = named-in u (r .by) (idOf p k) (all-hold (r .by) (idOf p k) (r .below) (r .names)) in
-          ap (λ (b : Bool). cond b (cond (named u (idOf p k)) Stays MadeOrdinary) RecordFreed) (all-kept (u .page p) w k (ap isRecord e)) ∙ ap (λ (b : Bool). cond b Stays MadeOrdinary) q
+          ap (λ (b : Bool). cond b (cond (named u (idOf p k)) Stays MadeOrdinary) RecordFreed) (all-kept (u .page p) w k (ap isRecord e))
+          ∙ ap (λ (b : Bool). cond b Stays MadeOrdinary) q
 
   quiet : (p : ℕ) → p < length s / 16384 → fresh (u .page p) ≡ false → Quiet u p
   quiet p l f = quiet-by u p (in-use p l f) (λ k m. ap changes (all-stay p k l f m))
@@ -349,7 +380,9 @@ module _ (s v : List ℕ) (h : SoundSegment s v) where
 module _ (s v : List ℕ) (ok : sizeOk s ≡ true) (one : invOk v ≡ true) (none : entries (standing s) v ≡ []) where
   both : (segEntries (standing s) (length s / 16384) ≡ []) × (invEntries (standing s) v ≡ [])
   unfolding entries
-  both = nil-both (standing s) 0 (segEntries (standing s) (length s / 16384)) (invEntries (standing s) v) (ap (λ (n : ℕ). segEntries (standing s) n ++ invEntries (standing s) v) (sym (standing-pages s)) ∙ none)
+  both =
+      nil-both (standing s) 0 (segEntries (standing s) (length s / 16384)) (invEntries (standing s) v)
+      (ap (λ (n : ℕ). segEntries (standing s) n ++ invEntries (standing s) v) (sym (standing-pages s)) ∙ none)
 
   pub none-bytes : segBytes (standing s) (length s / 16384) s ≡ s
   none-bytes =
@@ -367,4 +400,5 @@ module _ (s v : List ℕ) (ok : sizeOk s ≡ true) (one : invOk v ≡ true) (non
   pub only-sound : SoundSegment s v
   only-sound =
       subst (λ (t : List ℕ). SoundSegment t v) none-bytes
-      (subst (λ (w : List ℕ). SoundSegment (segBytes (standing s) (length s / 16384) s) w) none-inv (after-sound s (sized s ok .whole) (sized s ok .few) v (eqb-true (length v) 16384 one) ok))
+      (subst (λ (w : List ℕ). SoundSegment (segBytes (standing s) (length s / 16384) s) w) none-inv
+      (after-sound s (sized s ok .whole) (sized s ok .few) v (eqb-true (length v) 16384 one) ok))

@@ -1,5 +1,5 @@
--- Repair's entries are exactly the changes, in ascending order, and each tells what was done. Assumes nothing.
-use Prim.Native.Nat.{ℕ, zero, suc, _+_, _-_, _*_, _/_, _%_, _≤_, _<_}
+-- Repair's entries are exactly the changes, in ascending order, and each tells what was done.
+use Prim.Native.Nat.{ℕ, zero, suc, _+_, _*_, _/_, _%_, _≤_, _<_}
 use mathlib.Core.Path.{_≡_, refl, sym, ap, _∙_, subst}
 use mathlib.Core.Bool.{Bool, true, false, cond, _&&_}
 use mathlib.Core.List.{List, [], _∷_, _++_}
@@ -11,12 +11,15 @@ use lib.ListN.{length, drop}
 use lib.Dec.{eqb, ltb}
 use borrow.Author.Tests.{eq-eqb}
 use Rattle.store.specs.Numbers.{cut, put, zeros, be, all, idOf}
-use Rattle.store.specs.Slots.{slotOf, isRecord}
+use Rattle.store.specs.Slots.{slotOf}
 use Rattle.store.specs.Page.{View, view, fresh}
 use Rattle.store.specs.PageSteps.{putHead}
 use Rattle.store.specs.Inventory.{entryAt}
 use Rattle.store.specs.Segment.{SegView, pageOf}
-use Rattle.store.specs.Repair.{standing, lost, keeps, holds, named, deedBy, deed, changes, slotDone, slotAfter, mended, emptied, pageAfter, sameHead, putSlots, putMended, pageBytes, sameBytes, sameInv, trueOf, invAfter, Entry, entry, deedNo, slotEntries, headEntries, pageEntries, segEntries, invEntries, entries, mendedBy}
+use Rattle.store.specs.Repair.{standing, lost, keeps, holds, named, deedBy, deed, changes, slotDone, slotAfter, mended, emptied}
+use Rattle.store.specs.Repair.{pageAfter, sameHead, putSlots, putMended, pageBytes, sameBytes, sameInv, trueOf, invAfter, Entry, entry}
+use Rattle.store.specs.Repair.{deedNo, slotEntries, headEntries, pageEntries, segEntries, invEntries, entries, mendedBy}
+use Rattle.store.specs.RepairTold.{In, Before, Ascending, Tells, freed-record, freed-redirect, made-ordinary}
 use Rattle.store.specs.declared.Deed.{Deed}
 use Rattle.store.specs.declared.Deed.the-variants.{Stays, RecordFreed, RedirectFreed, MadeOrdinary}
 use Rattle.store.specs.Laws.Cases.{by-test}
@@ -31,10 +34,6 @@ use Rattle.store.specs.declared.Slot.{Slot}
 use Rattle.store.specs.declared.Slot.the-variants.{Ordinary, Free, Redirect, Target}
 
 -- ---- one of a list
-
-abbrev pub In : Entry → List Entry → Type 0
-In e [] = ⊥
-In e (x ∷ xs) = (e ≡ x) ⊎ In e xs
 
 in-either : (e : Entry) (xs ys : List Entry) → In e (xs ++ ys) → In e xs ⊎ In e ys
 in-either e [] ys h = inr h
@@ -80,10 +79,14 @@ module _ (u : SegView) (p : ℕ) where
       own true q = inl refl
       own false q = let z : _≡_ {A = ℕ} 0 1 = cc in absurd (omega arith)
 
-      go : (k < n → changes (deed u p k) ≡ true → In (entry p k (deedNo (deed u p k))) (slotEntries (deed u p) p n)) → Dec (k ≡ n) → In (entry p k (deedNo (deed u p k))) (slotEntries (deed u p) p (suc n))
+      go : (k < n → changes (deed u p k) ≡ true → In (entry p k (deedNo (deed u p k))) (slotEntries (deed u p) p n)) → Dec (k ≡ n)
+          → In (entry p k (deedNo (deed u p k))) (slotEntries (deed u p) p (suc n))
       go ih (yes d) =
-          rw d (in-right (entry p n (deedNo (deed u p n))) (slotEntries (deed u p) p n) (cond (changes (deed u p n)) (entry p n (deedNo (deed u p n)) ∷ []) []) (own (changes (deed u p n)) (ap (λ (x : ℕ). changes (deed u p x)) (sym d) ∙ c)))
-      go ih (no d) = in-left (entry p k (deedNo (deed u p k))) (slotEntries (deed u p) p n) (cond (changes (deed u p n)) (entry p n (deedNo (deed u p n)) ∷ []) []) (ih (omega arith) c)
+          rw d (in-right (entry p n (deedNo (deed u p n))) (slotEntries (deed u p) p n) (cond (changes (deed u p n)) (entry p n (deedNo (deed u p n)) ∷ []) [])
+          (own (changes (deed u p n)) (ap (λ (x : ℕ). changes (deed u p x)) (sym d) ∙ c)))
+      go ih (no d) =
+          in-left (entry p k (deedNo (deed u p k))) (slotEntries (deed u p) p n) (cond (changes (deed u p n)) (entry p n (deedNo (deed u p n)) ∷ []) [])
+          (ih (omega arith) c)
 
   slot-of : (e : Entry) (n : ℕ) → In e (slotEntries (deed u p) p n) → SlotEntry u p n e
   slot-of e zero h = absurd h
@@ -94,7 +97,8 @@ module _ (u : SegView) (p : ℕ) where
       own true q (inr w) = absurd w
       own false q w = absurd w
 
-      go : (In e (slotEntries (deed u p) p n) → SlotEntry u p n e) → In e (slotEntries (deed u p) p n) ⊎ In e (cond (changes (deed u p n)) (entry p n (deedNo (deed u p n)) ∷ []) []) → SlotEntry u p (suc n) e
+      go : (In e (slotEntries (deed u p) p n) → SlotEntry u p n e)
+          → In e (slotEntries (deed u p) p n) ⊎ In e (cond (changes (deed u p n)) (entry p n (deedNo (deed u p n)) ∷ []) []) → SlotEntry u p (suc n) e
       go ih (inl a) = let w = ih a in record { slot = w .slot; below = omega (arith, w .below); changes = w .changes; is = w .is }
       go ih (inr b) = own (changes (deed u p n)) refl b
 
@@ -102,17 +106,20 @@ module _ (u : SegView) (p : ℕ) where
   unfolding pageEntries
   page-of e = go (lost (u .page p)) refl (fresh (u .page p)) refl
     where
-      head : lost (u .page p) ≡ false → fresh (u .page p) ≡ false → (b : Bool) → sameHead (u .page p) (mended u p) ≡ b → In e (cond b [] (entry p 65535 4 ∷ [])) → PageEntry u p e
+      head : lost (u .page p) ≡ false → fresh (u .page p) ≡ false → (b : Bool) → sameHead (u .page p) (mended u p) ≡ b → In e (cond b [] (entry p 65535 4 ∷ []))
+          → PageEntry u p e
       head l f true q w = absurd w
       head l f false q (inl w) = of-head l f q w
       head l f false q (inr w) = absurd w
 
-      either : lost (u .page p) ≡ false → fresh (u .page p) ≡ false → In e (slotEntries (deed u p) p (u .page p .slotCount)) ⊎ In e (headEntries (deed u p) (u .page p) p) → PageEntry u p e
+      either : lost (u .page p) ≡ false → fresh (u .page p) ≡ false
+          → In e (slotEntries (deed u p) p (u .page p .slotCount)) ⊎ In e (headEntries (deed u p) (u .page p) p) → PageEntry u p e
       either l f (inl a) = of-slot l f (slot-of e (u .page p .slotCount) a)
       either l f (inr b) = head l f (sameHead (u .page p) (mended u p)) refl b
 
       go : (a : Bool) → lost (u .page p) ≡ a → (b : Bool) → fresh (u .page p) ≡ b
-          → In e (cond a (entry p 65535 5 ∷ []) (cond b [] (slotEntries (deed u p) p (u .page p .slotCount) ++ headEntries (deed u p) (u .page p) p))) → PageEntry u p e
+          → In e (cond a (entry p 65535 5 ∷ []) (cond b [] (slotEntries (deed u p) p (u .page p .slotCount) ++ headEntries (deed u p) (u .page p) p)))
+          → PageEntry u p e
       go true l b f (inl w) = of-lost l w
       go true l b f (inr w) = absurd w
       go false l true f w = absurd w
@@ -121,7 +128,8 @@ module _ (u : SegView) (p : ℕ) where
   page-in : (e : Entry) → PageEntry u p e → In e (pageEntries u p)
   unfolding pageEntries
   page-in e (of-slot l f w) =
-      rw (l, f, w .is) (in-left (entry p (w .slot) (deedNo (deed u p (w .slot)))) (slotEntries (deed u p) p (u .page p .slotCount)) (headEntries (deed u p) (u .page p) p) (slot-in (u .page p .slotCount) (w .slot) (w .below) (w .changes)))
+      rw (l, f, w .is) (in-left (entry p (w .slot) (deedNo (deed u p (w .slot)))) (slotEntries (deed u p) p (u .page p .slotCount))
+      (headEntries (deed u p) (u .page p) p) (slot-in (u .page p .slotCount) (w .slot) (w .below) (w .changes)))
   page-in e (of-head l f q w) = rw (l, f) (in-right e (slotEntries (deed u p) p (u .page p .slotCount)) (headEntries (deed u p) (u .page p) p) (rw q (inl w)))
   page-in e (of-lost l w) = rw l (inl w)
 
@@ -168,11 +176,6 @@ entry-in u v e (of-inv q w) = in-right e (segEntries u (u .pages)) (invEntries u
 
 -- ---- "The number in each fits what changed"
 
-pub data Tells : Slot → Slot → ℕ → Type 0 where
-  freed-record : (x : Slot) → isRecord x ≡ true → Tells x Free 1
-  freed-redirect : (t : ℕ) → Tells (Redirect t) Free 2
-  made-ordinary : (o l : ℕ) → Tells (Target o l) (Ordinary (o + 8) (l - 8)) 3
-
 pub deed-tells : (u : SegView) (p k : ℕ) (x : Slot) → changes (deedBy u p k x) ≡ true → Tells x (slotDone (deedBy u p k x) x) (deedNo (deedBy u p k x))
 deed-tells u p k (Ordinary o l) =
     by-test (λ (d : Deed). changes d ≡ true → Tells (Ordinary o l) (slotDone d (Ordinary o l)) (deedNo d)) (keeps (u .page p) k) Stays RecordFreed
@@ -182,7 +185,8 @@ deed-tells u p k (Redirect t) =
     by-test (λ (d : Deed). changes d ≡ true → Tells (Redirect t) (slotDone d (Redirect t)) (deedNo d)) (holds u (idOf p k) t) Stays RedirectFreed
     (λ q e. let z : _≡_ {A = ℕ} 0 1 = cc in absurd (omega arith)) (λ q e. freed-redirect t)
 deed-tells u p k (Target o l) =
-    by-test (λ (d : Deed). changes d ≡ true → Tells (Target o l) (slotDone d (Target o l)) (deedNo d)) (keeps (u .page p) k) (cond (named u (idOf p k)) Stays MadeOrdinary) RecordFreed
+    by-test (λ (d : Deed). changes d ≡ true → Tells (Target o l) (slotDone d (Target o l)) (deedNo d)) (keeps (u .page p) k)
+    (cond (named u (idOf p k)) Stays MadeOrdinary) RecordFreed
     (λ q. by-test (λ (d : Deed). changes d ≡ true → Tells (Target o l) (slotDone d (Target o l)) (deedNo d)) (named u (idOf p k)) Stays MadeOrdinary
     (λ w e. let z : _≡_ {A = ℕ} 0 1 = cc in absurd (omega arith)) (λ w e. made-ordinary o l))
     (λ q e. freed-record (Target o l) refl)
@@ -249,47 +253,64 @@ module _ (u : SegView) (p : ℕ) (q : List ℕ) (is : view q ≡ u .page p) (who
   mended-view : lost (u .page p) ≡ false → fresh (u .page p) ≡ false → view (pageBytes u p q) ≡ mended u p
   mended-view l f = page-seen u p q is whole ∙ after-is u p l f
 
-  pub slot-bytes-differ : (k : ℕ) → lost (u .page p) ≡ false → fresh (u .page p) ≡ false → changes (deed u p k) ≡ true → cut (pageBytes u p q) (12 + 8 * k) 8 ≢ cut q (12 + 8 * k) 8
+  pub slot-bytes-differ : (k : ℕ) → lost (u .page p) ≡ false → fresh (u .page p) ≡ false → changes (deed u p k) ≡ true
+      → cut (pageBytes u p q) (12 + 8 * k) 8 ≢ cut q (12 + 8 * k) 8
   slot-bytes-differ k l f c e =
       let m = mended-view l f in
-      let n : view (pageBytes u p q) .slotCount ≡ view q .slotCount = ap (λ (v : View). v .slotCount) m ∙ mended-count u p ∙ sym (ap (λ (v : View). v .slotCount) is) in
+      let n : view (pageBytes u p q) .slotCount ≡ view q .slotCount =
+      ap (λ (v : View). v .slotCount) m ∙ mended-count u p ∙ sym (ap (λ (v : View). v .slotCount) is) in
       slot-differs u p k c (sym (mended-slot u p k) ∙ sym (ap (λ (v : View). v .at k) m) ∙ same-entry (pageBytes u p q) q k n e ∙ ap (λ (v : View). v .at k) is)
 
-  pub head-bytes-differ : lost (u .page p) ≡ false → fresh (u .page p) ≡ false → sameHead (u .page p) (mended u p) ≡ false → cut (pageBytes u p q) 0 12 ≢ cut q 0 12
+  pub head-bytes-differ : lost (u .page p) ≡ false → fresh (u .page p) ≡ false → sameHead (u .page p) (mended u p) ≡ false
+      → cut (pageBytes u p q) 0 12 ≢ cut q 0 12
   head-bytes-differ l f h e =
       let m = mended-view l f in
-      let a : u .page p .firstFree ≡ mended u p .firstFree = sym (ap (λ (v : View). v .firstFree) is) ∙ sym (same-first (pageBytes u p q) q e) ∙ ap (λ (v : View). v .firstFree) m in
-      let b : u .page p .dataStart ≡ mended u p .dataStart = sym (ap (λ (v : View). v .dataStart) is) ∙ sym (same-start (pageBytes u p q) q e) ∙ ap (λ (v : View). v .dataStart) m in
-      let c : u .page p .freeSpace ≡ mended u p .freeSpace = sym (ap (λ (v : View). v .freeSpace) is) ∙ sym (same-space (pageBytes u p q) q e) ∙ ap (λ (v : View). v .freeSpace) m in
-      let t = and-in (eqb (u .page p .firstFree) (mended u p .firstFree)) (eqb (u .page p .dataStart) (mended u p .dataStart) && eqb (u .page p .freeSpace) (mended u p .freeSpace)) (eq-eqb (u .page p .firstFree) (mended u p .firstFree) a)
-      (and-in (eqb (u .page p .dataStart) (mended u p .dataStart)) (eqb (u .page p .freeSpace) (mended u p .freeSpace)) (eq-eqb (u .page p .dataStart) (mended u p .dataStart) b) (eq-eqb (u .page p .freeSpace) (mended u p .freeSpace) c)) in
+      let a : u .page p .firstFree ≡ mended u p .firstFree =
+      sym (ap (λ (v : View). v .firstFree) is) ∙ sym (same-first (pageBytes u p q) q e) ∙ ap (λ (v : View). v .firstFree) m in
+      let b : u .page p .dataStart ≡ mended u p .dataStart =
+      sym (ap (λ (v : View). v .dataStart) is) ∙ sym (same-start (pageBytes u p q) q e) ∙ ap (λ (v : View). v .dataStart) m in
+      let c : u .page p .freeSpace ≡ mended u p .freeSpace =
+      sym (ap (λ (v : View). v .freeSpace) is) ∙ sym (same-space (pageBytes u p q) q e) ∙ ap (λ (v : View). v .freeSpace) m in
+      let t = and-in (eqb (u .page p .firstFree) (mended u p .firstFree))
+      (eqb (u .page p .dataStart) (mended u p .dataStart) && eqb (u .page p .freeSpace) (mended u p .freeSpace))
+      (eq-eqb (u .page p .firstFree) (mended u p .firstFree) a)
+      (and-in (eqb (u .page p .dataStart) (mended u p .dataStart)) (eqb (u .page p .freeSpace) (mended u p .freeSpace))
+      (eq-eqb (u .page p .dataStart) (mended u p .dataStart) b) (eq-eqb (u .page p .freeSpace) (mended u p .freeSpace) c)) in
       let z : _≡_ {A = ℕ} 0 1 = cc in omega arith
 
   pub lost-bytes-differ : lost (u .page p) ≡ true → cut (pageBytes u p q) 0 12 ≢ cut q 0 12
   lost-bytes-differ l e =
       let m : view (pageBytes u p q) ≡ emptied = page-seen u p q is whole ∙ lost-is u p l in
-      let a : u .page p .slotCount ≡ 0 = sym (ap (λ (v : View). v .slotCount) is) ∙ sym (same-count (pageBytes u p q) q e) ∙ ap (λ (v : View). v .slotCount) m in
-      let b : u .page p .firstFree ≡ 0 = sym (ap (λ (v : View). v .firstFree) is) ∙ sym (same-first (pageBytes u p q) q e) ∙ ap (λ (v : View). v .firstFree) m in
-      let c : u .page p .dataStart ≡ 0 = sym (ap (λ (v : View). v .dataStart) is) ∙ sym (same-start (pageBytes u p q) q e) ∙ ap (λ (v : View). v .dataStart) m in
-      let d : u .page p .freeSpace ≡ 0 = sym (ap (λ (v : View). v .freeSpace) is) ∙ sym (same-space (pageBytes u p q) q e) ∙ ap (λ (v : View). v .freeSpace) m in
+      let a : u .page p .slotCount ≡ 0 =
+      sym (ap (λ (v : View). v .slotCount) is) ∙ sym (same-count (pageBytes u p q) q e) ∙ ap (λ (v : View). v .slotCount) m in
+      let b : u .page p .firstFree ≡ 0 =
+      sym (ap (λ (v : View). v .firstFree) is) ∙ sym (same-first (pageBytes u p q) q e) ∙ ap (λ (v : View). v .firstFree) m in
+      let c : u .page p .dataStart ≡ 0 =
+      sym (ap (λ (v : View). v .dataStart) is) ∙ sym (same-start (pageBytes u p q) q e) ∙ ap (λ (v : View). v .dataStart) m in
+      let d : u .page p .freeSpace ≡ 0 =
+      sym (ap (λ (v : View). v .freeSpace) is) ∙ sym (same-space (pageBytes u p q) q e) ∙ ap (λ (v : View). v .freeSpace) m in
       let g = zero-header (u .page p) a b c d in
       let z : _≡_ {A = ℕ} 0 1 = cc in omega arith
 
-  pub head-bytes-same : lost (u .page p) ≡ false → (fresh (u .page p) ≡ false → sameHead (u .page p) (mended u p) ≡ true) → cut (pageBytes u p q) 0 12 ≡ cut q 0 12
+  pub head-bytes-same : lost (u .page p) ≡ false → (fresh (u .page p) ≡ false → sameHead (u .page p) (mended u p) ≡ true)
+      → cut (pageBytes u p q) 0 12 ≡ cut q 0 12
   unfolding pageBytes
   head-bytes-same l h =
       ap (λ (b : Bool). cut (cond b (put q 0 (zeros 12)) (cond (fresh (u .page p)) q (putMended (deed u p) (u .page p) q))) 0 12) l
       ∙ by-test (λ (x : List ℕ). cut x 0 12 ≡ cut q 0 12) (fresh (u .page p)) q (putMended (deed u p) (u .page p) q) (λ f. refl)
-      (λ f. ap (λ (b : Bool). cut (cond b (putSlots (deed u p) (u .page p) (u .page p .slotCount) q) (putHead (mended u p) (putSlots (deed u p) (u .page p) (u .page p .slotCount) q))) 0 12) (h f)
+      (λ f. ap (λ (b : Bool). cut (cond b (putSlots (deed u p) (u .page p) (u .page p .slotCount) q)
+      (putHead (mended u p) (putSlots (deed u p) (u .page p) (u .page p .slotCount) q))) 0 12) (h f)
       ∙ slots-frame (deed u p) (u .page p) (u .page p .slotCount) q 0 12 (inl (omega arith)))
 
-  pub slot-bytes-same : (k : ℕ) → (lost (u .page p) ≡ false → fresh (u .page p) ≡ false → k < u .page p .slotCount → changes (deed u p k) ≡ false) → cut (pageBytes u p q) (12 + 8 * k) 8 ≡ cut q (12 + 8 * k) 8
+  pub slot-bytes-same : (k : ℕ) → (lost (u .page p) ≡ false → fresh (u .page p) ≡ false → k < u .page p .slotCount → changes (deed u p k) ≡ false)
+      → cut (pageBytes u p q) (12 + 8 * k) 8 ≡ cut q (12 + 8 * k) 8
   slot-bytes-same k h = go (lost (u .page p)) refl (fresh (u .page p)) refl (decLt k (u .page p .slotCount))
     where
       past : (b : Bool) → lost (u .page p) ≡ b → cond b 12 (12 + 8 * u .page p .slotCount) ≤ 12 + 8 * k → directory (u .page p) ≤ 12 + 8 * k
       past b e m = rw e m
 
-      go : (a : Bool) → lost (u .page p) ≡ a → (b : Bool) → fresh (u .page p) ≡ b → Dec (k < u .page p .slotCount) → cut (pageBytes u p q) (12 + 8 * k) 8 ≡ cut q (12 + 8 * k) 8
+      go : (a : Bool) → lost (u .page p) ≡ a → (b : Bool) → fresh (u .page p) ≡ b → Dec (k < u .page p .slotCount)
+          → cut (pageBytes u p q) (12 + 8 * k) 8 ≡ cut q (12 + 8 * k) 8
       go true l b f d = page-past-directory u p q (12 + 8 * k) 8 (past true l (omega arith))
       go false l b f (no d) = page-past-directory u p q (12 + 8 * k) 8 (past false l (omega arith))
       go false l true f (yes d) = absurd (omega (arith, fresh-none (u .page p) f))
@@ -300,7 +321,8 @@ module _ (u : SegView) (p : ℕ) (q : List ℕ) (is : view q ≡ u .page p) (who
 same-self : (v : List ℕ) → sameInv v v ≡ true
 unfolding sameInv
 same-self v =
-    and-in (all 15 (λ c. eqb (entryAt v c) (entryAt v c))) (sameBytes (drop 120 v) (drop 120 v)) (all-in 15 (λ c. eqb (entryAt v c) (entryAt v c)) (λ c l. eq-eqb (entryAt v c) (entryAt v c) refl)) (same-own (drop 120 v))
+    and-in (all 15 (λ c. eqb (entryAt v c) (entryAt v c))) (sameBytes (drop 120 v) (drop 120 v))
+    (all-in 15 (λ c. eqb (entryAt v c) (entryAt v c)) (λ c l. eq-eqb (entryAt v c) (entryAt v c) refl)) (same-own (drop 120 v))
 
 inv-differs : (u : SegView) (v : List ℕ) → sameInv v (trueOf u) ≡ false → invAfter u v ≢ v
 unfolding invAfter
@@ -340,15 +362,18 @@ module _ (s : List ℕ) (whole : length s % 16384 ≡ 0) (v : List ℕ) where
   slot-told p k l n = go (lost (us .page p)) refl (fresh (us .page p)) refl (decLt k (us .page p .slotCount)) (changes (deed us p k)) refl
     where
       same : (lost (us .page p) ≡ false → fresh (us .page p) ≡ false → k < us .page p .slotCount → changes (deed us p k) ≡ false) → ⊥
-      same h = n (ap (λ (q : List ℕ). cut q (12 + 8 * k) 8) (repaired-page s whole p l) ∙ slot-bytes-same us p (pageOf s p) (sym (standing-page s p)) (long p l) k h)
+      same h =
+          n (ap (λ (q : List ℕ). cut q (12 + 8 * k) 8) (repaired-page s whole p l) ∙ slot-bytes-same us p (pageOf s p) (sym (standing-page s p)) (long p l) k h)
 
-      go : (a : Bool) → lost (us .page p) ≡ a → (b : Bool) → fresh (us .page p) ≡ b → Dec (k < us .page p .slotCount) → (c : Bool) → changes (deed us p k) ≡ c → In (entry p k (deedNo (deed us p k))) (entries us v)
+      go : (a : Bool) → lost (us .page p) ≡ a → (b : Bool) → fresh (us .page p) ≡ b → Dec (k < us .page p .slotCount) → (c : Bool) → changes (deed us p k) ≡ c
+          → In (entry p k (deedNo (deed us p k))) (entries us v)
       go true a b f d c e = absurd (same (λ x y m. let z : _≡_ {A = ℕ} 0 1 = cc in absurd (omega arith)))
       go false a true f d c e = absurd (same (λ x y m. let z : _≡_ {A = ℕ} 0 1 = cc in absurd (omega arith)))
       go false a false f (no d) c e = absurd (same (λ x y m. absurd (d m)))
       go false a false f (yes d) false e = absurd (same (λ x y m. e))
       go false a false f (yes d) true e =
-          entry-in us v (entry p k (deedNo (deed us p k))) (of-page p (omega (arith, standing-pages s)) (of-slot a f (record { slot = k; below = d; changes = e; is = refl })))
+          entry-in us v (entry p k (deedNo (deed us p k))) (of-page p (omega (arith, standing-pages s))
+          (of-slot a f (record { slot = k; below = d; changes = e; is = refl })))
 
   pub head-told : (p : ℕ) → p < length s / 16384 → HeadChanges p → In (entry p 65535 (cond (lost (us .page p)) 5 4)) (entries us v)
   unfolding HeadChanges
@@ -360,7 +385,8 @@ module _ (s : List ℕ) (whole : length s % 16384 ≡ 0) (v : List ℕ) where
       below : p < us .pages
       below = omega (arith, standing-pages s)
 
-      go : (a : Bool) → lost (us .page p) ≡ a → (b : Bool) → fresh (us .page p) ≡ b → (c : Bool) → sameHead (us .page p) (mended us p) ≡ c → In (entry p 65535 (cond a 5 4)) (entries us v)
+      go : (a : Bool) → lost (us .page p) ≡ a → (b : Bool) → fresh (us .page p) ≡ b → (c : Bool) → sameHead (us .page p) (mended us p) ≡ c
+          → In (entry p 65535 (cond a 5 4)) (entries us v)
       go true a b f c e = entry-in us v (entry p 65535 5) (of-page p below (of-lost a refl))
       go false a true f c e = absurd (same a (λ y. let z : _≡_ {A = ℕ} 0 1 = cc in absurd (omega arith)))
       go false a false f true e = absurd (same a (λ y. e))
@@ -388,7 +414,8 @@ module _ (s : List ℕ) (whole : length s % 16384 ≡ 0) (v : List ℕ) where
   pub slot-only : (p k d : ℕ) → k < 65535 → In (entry p k d) (entries us v) → SlotTold p k d
   slot-only p k d small h = go (entry-of us v (entry p k d) h)
     where
-      own : (r : ℕ) → r < us .pages → lost (us .page r) ≡ false → fresh (us .page r) ≡ false → (j : ℕ) → j < us .page r .slotCount → changes (deed us r j) ≡ true → p ≡ r → k ≡ j → d ≡ deedNo (deed us r j) → SlotTold p k d
+      own : (r : ℕ) → r < us .pages → lost (us .page r) ≡ false → fresh (us .page r) ≡ false → (j : ℕ) → j < us .page r .slotCount
+          → changes (deed us r j) ≡ true → p ≡ r → k ≡ j → d ≡ deedNo (deed us r j) → SlotTold p k d
       own r l a f j m c ep ek ed =
           let l′ : r < length s / 16384 = omega (arith, standing-pages s) in
           let t : SlotTold r j d = record {
@@ -402,7 +429,8 @@ module _ (s : List ℕ) (whole : length s % 16384 ≡ 0) (v : List ℕ) where
 
       by : (r : ℕ) → r < us .pages → PageEntry us r (entry p k d) → SlotTold p k d
       by r l (of-slot a f w) =
-          own r l a f (w .slot) (w .below) (w .changes) (ap (λ (x : Entry). x .page) (w .is)) (ap (λ (x : Entry). x .place) (w .is)) (ap (λ (x : Entry). x .what) (w .is))
+          own r l a f (w .slot) (w .below) (w .changes) (ap (λ (x : Entry). x .page) (w .is)) (ap (λ (x : Entry). x .place) (w .is))
+          (ap (λ (x : Entry). x .what) (w .is))
       by r l (of-head a f q w) = absurd (omega (arith, ap (λ (x : Entry). x .place) w))
       by r l (of-lost a w) = absurd (omega (arith, ap (λ (x : Entry). x .place) w))
 
@@ -418,7 +446,8 @@ module _ (s : List ℕ) (whole : length s % 16384 ≡ 0) (v : List ℕ) where
   pub head-only : (p d : ℕ) → In (entry p 65535 d) (entries us v) → HeadTold p d
   head-only p d h = go (entry-of us v (entry p 65535 d) h)
     where
-      head : (r : ℕ) → r < us .pages → lost (us .page r) ≡ false → fresh (us .page r) ≡ false → sameHead (us .page r) (mended us r) ≡ false → d ≡ 4 → HeadTold r d
+      head : (r : ℕ) → r < us .pages → lost (us .page r) ≡ false → fresh (us .page r) ≡ false → sameHead (us .page r) (mended us r) ≡ false → d ≡ 4
+          → HeadTold r d
       head r l a f q ed =
           let l′ : r < length s / 16384 = omega (arith, standing-pages s) in
           record { below = l′; what = rw a ed; changes = head-changes r l′ (head-bytes-differ us r (pageOf s r) (sym (standing-page s r)) (long r l′) a f q) }
@@ -447,13 +476,6 @@ module _ (s : List ℕ) (whole : length s % 16384 ≡ 0) (v : List ℕ) where
       go (of-inv q w) = (ap (λ (x : Entry). x .page) w, ap (λ (x : Entry). x .what) w, inv-differs us v q)
 
 -- ---- "entries ascend by (page, place)"
-
-abbrev pub Before : Entry → Entry → Type 0
-Before a b = (a .page < b .page) ⊎ ((a .page ≡ b .page) × (a .place < b .place))
-
-abbrev pub Ascending : List Entry → Type 0
-Ascending [] = Unit {0}
-Ascending (x ∷ xs) = ((b : Entry) → In b xs → Before x b) × Ascending xs
 
 ascend : (xs ys : List Entry) → Ascending xs → Ascending ys → ((a b : Entry) → In a xs → In b ys → Before a b) → Ascending (xs ++ ys)
 ascend [] ys h g m = g
@@ -484,26 +506,35 @@ none-is false e b (inr q) = absurd q
 slots-ascend : (u : SegView) (p n : ℕ) → Ascending (slotEntries (deed u p) p n)
 slots-ascend u p zero = tt
 slots-ascend u p (suc n) =
-    ascend (slotEntries (deed u p) p n) (cond (changes (deed u p n)) (entry p n (deedNo (deed u p n)) ∷ []) []) (slots-ascend u p n) (one-ascends (changes (deed u p n)) (entry p n (deedNo (deed u p n))))
+    ascend (slotEntries (deed u p) p n) (cond (changes (deed u p n)) (entry p n (deedNo (deed u p n)) ∷ []) []) (slots-ascend u p n)
+    (one-ascends (changes (deed u p n)) (entry p n (deedNo (deed u p n))))
     (λ a b x y.
     let w = slot-of u p a n x in
     let q = one-is (changes (deed u p n)) (entry p n (deedNo (deed u p n))) b y in
-    inr (ap (λ (z : Entry). z .page) (w .is) ∙ sym (ap (λ (z : Entry). z .page) q), omega (arith, w .below, ap (λ (z : Entry). z .place) (w .is), ap (λ (z : Entry). z .place) q)))
+    inr (
+      ap (λ (z : Entry). z .page) (w .is) ∙ sym (ap (λ (z : Entry). z .page) q),
+      omega (arith, w .below, ap (λ (z : Entry). z .place) (w .is), ap (λ (z : Entry). z .place) q),
+    ))
 
 page-ascends : (u : SegView) (p : ℕ) → Ascending (pageEntries u p)
 unfolding pageEntries
 page-ascends u p = go (lost (u .page p)) refl (fresh (u .page p)) refl
   where
-    go : (a : Bool) → lost (u .page p) ≡ a → (b : Bool) → fresh (u .page p) ≡ b → Ascending (cond a (entry p 65535 5 ∷ []) (cond b [] (slotEntries (deed u p) p (u .page p .slotCount) ++ headEntries (deed u p) (u .page p) p)))
+    go : (a : Bool) → lost (u .page p) ≡ a → (b : Bool) → fresh (u .page p) ≡ b
+        → Ascending (cond a (entry p 65535 5 ∷ []) (cond b [] (slotEntries (deed u p) p (u .page p .slotCount) ++ headEntries (deed u p) (u .page p) p)))
     go true l b f = (λ b w. absurd w, tt)
     go false l true f = tt
     go false l false f =
-        ascend (slotEntries (deed u p) p (u .page p .slotCount)) (headEntries (deed u p) (u .page p) p) (slots-ascend u p (u .page p .slotCount)) (none-ascends (sameHead (u .page p) (mended u p)) (entry p 65535 4))
+        ascend (slotEntries (deed u p) p (u .page p .slotCount)) (headEntries (deed u p) (u .page p) p) (slots-ascend u p (u .page p .slotCount))
+        (none-ascends (sameHead (u .page p) (mended u p)) (entry p 65535 4))
         (λ a b x y.
         let w = slot-of u p a (u .page p .slotCount) x in
         let q = none-is (sameHead (u .page p) (mended u p)) (entry p 65535 4) b y in
         let m = used (u .page p) l f in
-        inr (ap (λ (z : Entry). z .page) (w .is) ∙ sym (ap (λ (z : Entry). z .page) q), omega (arith, w .below, ap (λ (z : Entry). z .place) (w .is), ap (λ (z : Entry). z .place) q)))
+        inr (
+          ap (λ (z : Entry). z .page) (w .is) ∙ sym (ap (λ (z : Entry). z .page) q),
+          omega (arith, w .below, ap (λ (z : Entry). z .place) (w .is), ap (λ (z : Entry). z .place) q),
+        ))
 
 on-page : (u : SegView) (p : ℕ) (e : Entry) → PageEntry u p e → e .page ≡ p
 on-page u p e (of-slot l f w) = ap (λ (z : Entry). z .page) (w .is)

@@ -1,4 +1,4 @@
--- The true inventory: the fold of updates is one, what is the same as it is one, and any two are the same. Assumes nothing.
+-- The true inventory: the fold of updates is one, what is the same as it is one, and any two are the same.
 use Prim.Native.Nat.{ℕ, zero, suc, _+_, _-_, _*_, _/_, _%_, _≤_, _<_}
 use mathlib.Core.Path.{_≡_, refl, sym, ap, _∙_, subst}
 use mathlib.Core.Bool.{Bool, true, false, cond}
@@ -14,7 +14,7 @@ use Rattle.store.specs.Page.{fresh}
 use Rattle.store.specs.Inventory.{classOf, halfOf, nibbleAt, nibble, entryAt, update, Truth}
 use Rattle.store.specs.Segment.{SegView}
 use Rattle.store.specs.SoundSegment.{nibbleOf}
-use Rattle.store.specs.Repair.{trueInv, sameBytes, sameInv, deed, mendedBy}
+use Rattle.store.specs.Repair.{trueInv, sameBytes, sameInv}
 use Rattle.store.specs.Laws.Cases.{by-test}
 use Rattle.store.specs.Laws.Classes.{class-top}
 use Rattle.store.specs.Laws.Truth.{lowest-falls}
@@ -29,7 +29,8 @@ classesTo w p q = cond (ltb q p) (nibbleOf (w .page q)) 0
 classes-bounded : (w : SegView) (p : ℕ) → Bounded (classesTo w p)
 classes-bounded w p q =
     by-test (λ m. m < 16) (ltb q p) (nibbleOf (w .page q)) 0
-    (λ e. by-test (λ m. m < 16) (fresh (w .page q)) 0 (classOf (16372 - w .page q .freeSpace)) (λ f. omega arith) (λ f. omega (arith, class-top (16372 - w .page q .freeSpace))))
+    (λ e. by-test (λ m. m < 16) (fresh (w .page q)) 0 (classOf (16372 - w .page q .freeSpace)) (λ f. omega arith)
+    (λ f. omega (arith, class-top (16372 - w .page q .freeSpace))))
     (λ e. omega arith)
 
 -- one page more
@@ -122,8 +123,14 @@ pub true-same : (f : ℕ → ℕ) (n : ℕ) (v w : List ℕ) → length v ≡ 16
 unfolding sameInv
 true-same f n v w lv lw a b =
     and-in (all 15 (λ c. eqb (entryAt v c) (entryAt w c))) (sameBytes (drop 120 v) (drop 120 w))
-    (all-in 15 (λ c. eqb (entryAt v c) (entryAt w c)) (λ c m. eq-eqb (entryAt v c) (entryAt w c) (omega (arith, lowest-falls f n c c (entryAt v c) (entryAt w c) (omega arith) (a .entries c m) (b .entries c m), lowest-falls f n c c (entryAt w c) (entryAt v c) (omega arith) (b .entries c m) (a .entries c m)))))
-    (subst (λ (r : List ℕ). sameBytes (drop 120 v) r ≡ true) (ext-getD 0 (drop 120 v) (drop 120 w) (length-drop 120 v ∙ omega arith ∙ sym (length-drop 120 w)) each) (same-own (drop 120 v)))
+    (all-in 15 (λ c. eqb (entryAt v c) (entryAt w c))
+    (λ c m. eq-eqb (entryAt v c) (entryAt w c) (omega (
+      arith,
+      lowest-falls f n c c (entryAt v c) (entryAt w c) (omega arith) (a .entries c m) (b .entries c m),
+      lowest-falls f n c c (entryAt w c) (entryAt v c) (omega arith) (b .entries c m) (a .entries c m),
+    ))))
+    (subst (λ (r : List ℕ). sameBytes (drop 120 v) r ≡ true)
+    (ext-getD 0 (drop 120 v) (drop 120 w) (length-drop 120 v ∙ omega arith ∙ sym (length-drop 120 w)) each) (same-own (drop 120 v)))
   where
     each : (x : ℕ) → x < length (drop 120 v) → getD (drop 120 v) x 0 ≡ getD (drop 120 w) x 0
     each x l =

@@ -1,5 +1,5 @@
 -- Repair on one page: what is kept, the numbers worked out, and that a page in use is sound afterwards. Numbers and slots alone: no byte of a
--- page occurs here. Assumes nothing.
+-- page occurs here.
 use Prim.Native.Nat.{ℕ, zero, suc, _+_, _-_, _*_, _≤_, _<_, min}
 use mathlib.Core.Path.{_≡_, refl, sym, ap, _∙_}
 use mathlib.Core.Bool.{Bool, true, false, cond, not, _&&_, _||_}
@@ -16,7 +16,8 @@ use Rattle.store.specs.Slots.{off, len, isRecord, isTarget}
 use Rattle.store.specs.Page.{View, fresh, apart}
 use Rattle.store.specs.PageSteps.{nextFree}
 use Rattle.store.specs.Segment.{SegView}
-use Rattle.store.specs.Repair.{lost, lies, clear, keptBelow, isIn, keeps, holds, named, deedBy, deed, slotDone, bytesDone, slotAfter, bytesAfter, lowest, startAfter, mended, mendedBy}
+use Rattle.store.specs.Repair.{lost, lies, clear, keptBelow, isIn, keeps, holds, named, deedBy, deed, slotDone}
+use Rattle.store.specs.Repair.{bytesDone, slotAfter, bytesAfter, lowest, startAfter, mended, mendedBy}
 use Rattle.store.specs.declared.Deed.{Deed}
 use Rattle.store.specs.declared.Deed.the-variants.{Stays, RecordFreed, RedirectFreed, MadeOrdinary}
 use Rattle.store.specs.Laws.Cases.{by-test, not-in, or-in, or-out, or-true, or-false}
@@ -53,7 +54,8 @@ clear-at : (v : View) (k : ℕ) (js : List ℕ) → clear v k js ≡ true → (j
 clear-at v k [] c j e = let z : _≡_ {A = ℕ} 0 1 = cc in absurd (omega arith)
 clear-at v k (i ∷ js) c j e = go (clear-at v k js) (and-both (apart v i k) (clear v k js) c) (in-cons j i js e)
   where
-    go : (clear v k js ≡ true → (m : ℕ) → isIn m js ≡ true → apart v m k ≡ true) → (apart v i k ≡ true) × (clear v k js ≡ true) → (j ≡ i) ⊎ (isIn j js ≡ true) → apart v j k ≡ true
+    go : (clear v k js ≡ true → (m : ℕ) → isIn m js ≡ true → apart v m k ≡ true) → (apart v i k ≡ true) × (clear v k js ≡ true) → (j ≡ i) ⊎ (isIn j js ≡ true)
+        → apart v j k ≡ true
     go ih b (inl q) = ap (λ (x : ℕ). apart v x k) q ∙ b .0
     go ih b (inr q) = ih (b .1) j q
 
@@ -134,7 +136,8 @@ in-all v (suc k) l a j h r = go (in-all v k l a j) (ℕ-discrete j k)
     next : (b : Bool) → good v k ≡ b → isRecord (v .at k) ≡ true → isIn k (cond b (k ∷ keptBelow v k) (keptBelow v k)) ≡ true
     next true e q = or-in (eqb k k) (isIn k (keptBelow v k)) (eq-eqb k k refl)
     next false e q =
-        let g = and-in (isRecord (v .at k)) (lies v k && clear v k (keptBelow v k)) q (and-in (lies v k) (clear v k (keptBelow v k)) (l k q) (clear-in v k (keptBelow v k) (λ i w. a i k))) in
+        let g = and-in (isRecord (v .at k)) (lies v k && clear v k (keptBelow v k)) q
+        (and-in (lies v k) (clear v k (keptBelow v k)) (l k q) (clear-in v k (keptBelow v k) (λ i w. a i k))) in
         let z : _≡_ {A = ℕ} 0 1 = cc in absurd (omega arith)
 
     older : (b : Bool) → isIn j (keptBelow v k) ≡ true → isIn j (cond b (k ∷ keptBelow v k) (keptBelow v k)) ≡ true
@@ -166,7 +169,9 @@ keeps-is v k e =
       is = h .1;
       high = leb-true (off x + len x) 16384 (a .0);
       target = λ t. leb-true 8 (len x) (or-right (not (isTarget x)) (leb 8 (len x)) (ap not t) (b .0));
-      low = λ p. leb-true (12 + 8 * v .slotCount) (off x) (or-right (eqb (len x) 0) (leb (12 + 8 * v .slotCount) (off x)) (ne-eqb (len x) 0 (omega arith)) (b .1));
+      low =
+          λ p. leb-true (12 + 8 * v .slotCount) (off x) (or-right (eqb (len x) 0) (leb (12 + 8 * v .slotCount) (off x)) (ne-eqb (len x) 0 (omega arith))
+          (b .1));
     }
 
 pub keeps-apart : (v : View) (i j : ℕ) → i ≢ j → keeps v i ≡ true → keeps v j ≡ true → Apart (v .at i) (v .at j)
@@ -222,7 +227,8 @@ module _ (u : SegView) (p : ℕ) (h : Shown (u .page p)) (k : ℕ) where
 
   after-by : (x : Slot) → u .page p .at k ≡ x → After (u .page p) k (slotDone (deedBy u p k x) x) (bytesDone (deedBy u p k x) (u .page p .bytes k))
   after-by (Ordinary o l) e =
-      by-test (λ (d : Deed). After (u .page p) k (slotDone d (Ordinary o l)) (bytesDone d (u .page p .bytes k))) (keeps (u .page p) k) Stays RecordFreed (λ q. own (Ordinary o l) e q) (λ q. freed [] refl)
+      by-test (λ (d : Deed). After (u .page p) k (slotDone d (Ordinary o l)) (bytesDone d (u .page p .bytes k))) (keeps (u .page p) k) Stays RecordFreed
+      (λ q. own (Ordinary o l) e q) (λ q. freed [] refl)
   after-by Free e = freed (u .page p .bytes k) (h .lens k (rw e (omega arith)) ∙ ap len e)
   after-by (Redirect t) e =
       by-test (λ (d : Deed). After (u .page p) k (slotDone d (Redirect t)) (bytesDone d (u .page p .bytes k))) (holds u (idOf p k) t) Stays RedirectFreed
@@ -236,8 +242,10 @@ module _ (u : SegView) (p : ℕ) (h : Shown (u .page p)) (k : ℕ) where
       })
       (λ q. freed [] refl)
   after-by (Target o l) e =
-      by-test (λ (d : Deed). After (u .page p) k (slotDone d (Target o l)) (bytesDone d (u .page p .bytes k))) (keeps (u .page p) k) (cond (named u (idOf p k)) Stays MadeOrdinary) RecordFreed
-      (λ q. by-test (λ (d : Deed). After (u .page p) k (slotDone d (Target o l)) (bytesDone d (u .page p .bytes k))) (named u (idOf p k)) Stays MadeOrdinary (λ w. own (Target o l) e q)
+      by-test (λ (d : Deed). After (u .page p) k (slotDone d (Target o l)) (bytesDone d (u .page p .bytes k))) (keeps (u .page p) k)
+      (cond (named u (idOf p k)) Stays MadeOrdinary) RecordFreed
+      (λ q. by-test (λ (d : Deed). After (u .page p) k (slotDone d (Target o l)) (bytesDone d (u .page p .bytes k))) (named u (idOf p k)) Stays MadeOrdinary
+      (λ w. own (Target o l) e q)
       (λ w.
       let m = keeps-is (u .page p) k q in
       let ho : off (u .page p .at k) ≡ o = ap off e in
@@ -323,13 +331,15 @@ module _ (at : ℕ → Slot) (aparts : (i j : ℕ) → i ≢ j → Apart (at i) 
           let o : covers (off (at n)) (len (at n)) x ≡ 1 = rw (le-ltb x (off (at n)) (omega arith), lt-ltb x (off (at n) + len (at n)) b) in
           omega arith
 
-pub room-beside : (at : ℕ → Slot) (n m a : ℕ) → ((i j : ℕ) → i ≢ j → Apart (at i) (at j)) → ((j : ℕ) → off (at j) + len (at j) ≤ m) → ((j : ℕ) → 0 < len (at j) → a ≤ off (at j))
+pub room-beside : (at : ℕ → Slot) (n m a : ℕ) → ((i j : ℕ) → i ≢ j → Apart (at i) (at j)) → ((j : ℕ) → off (at j) + len (at j) ≤ m)
+    → ((j : ℕ) → 0 < len (at j) → a ≤ off (at j))
     → sum n (λ k. len (at k)) ≤ m - a
 room-beside at n m a aparts high low =
     let one : sum n (λ k. len (at k)) ≡ sum n (λ k. sum m (covers (off (at k)) (len (at k)))) =
     sum-ext n (λ k. len (at k)) (λ k. sum m (covers (off (at k)) (len (at k)))) (λ j l. omega (arith, covers-sum (off (at j)) (len (at j)) m, high j)) in
     let two = sum-turn n m (λ k. covers (off (at k)) (len (at k))) in
-    let three = sum-ones m a (λ x. sum n (λ k. covers (off (at k)) (len (at k)) x)) (λ x l. sum-zero n (λ k. covers (off (at k)) (len (at k)) x) (λ j q. none x l j (decLt 0 (len (at j))))) (λ x. once at aparts x n) in
+    let three = sum-ones m a (λ x. sum n (λ k. covers (off (at k)) (len (at k)) x))
+    (λ x l. sum-zero n (λ k. covers (off (at k)) (len (at k)) x) (λ j q. none x l j (decLt 0 (len (at j))))) (λ x. once at aparts x n) in
     omega arith
   where
     none : (x : ℕ) → x < a → (j : ℕ) → Dec (0 < len (at j)) → covers (off (at j)) (len (at j)) x ≡ 0
@@ -354,7 +364,8 @@ pub lowest-each : (n : ℕ) (at : ℕ → Slot) (j : ℕ) → j < n → 0 < len 
 lowest-each zero at j l s = absurd (not-suc-le-zero l)
 lowest-each (suc n) at j l s = go (lowest-each n at j) (ℕ-discrete j n) (eqb (len (at n)) 0) refl
   where
-    go : (j < n → 0 < len (at j) → lowest n at ≤ off (at j)) → Dec (j ≡ n) → (b : Bool) → eqb (len (at n)) 0 ≡ b → cond b (lowest n at) (min (off (at n)) (lowest n at)) ≤ off (at j)
+    go : (j < n → 0 < len (at j) → lowest n at ≤ off (at j)) → Dec (j ≡ n) → (b : Bool) → eqb (len (at n)) 0 ≡ b
+        → cond b (lowest n at) (min (off (at n)) (lowest n at)) ≤ off (at j)
     go ih (yes e) true q = absurd (omega (arith, eqb-true (len (at n)) 0 q, ap (λ (x : ℕ). len (at x)) e))
     go ih (yes e) false q = omega (arith, ap (λ (x : ℕ). off (at x)) e)
     go ih (no e) true q = ih (omega arith) s
@@ -375,7 +386,8 @@ pub record Start (c : ℕ) (at : ℕ → Slot) (e : ℕ) : Type 0 where
 pub start-is : (c d : ℕ) (at : ℕ → Slot) → 12 + 8 * c ≤ lowest c at → Start c at (startAfter c d at)
 start-is c d at h =
     by-test (Start c at) (leb (12 + 8 * c) d && leb d (lowest c at)) d (lowest c at)
-    (λ e. let b = and-both (leb (12 + 8 * c) d) (leb d (lowest c at)) e in record { dir = leb-true (12 + 8 * c) d (b .0); under = leb-true d (lowest c at) (b .1) })
+    (λ e. let b = and-both (leb (12 + 8 * c) d) (leb d (lowest c at)) e in
+    record { dir = leb-true (12 + 8 * c) d (b .0); under = leb-true d (lowest c at) (b .1) })
     (λ e. record { dir = h; under = omega arith })
 
 -- ---- a page in use is sound afterwards
@@ -396,8 +408,10 @@ module _ (u : SegView) (p : ℕ) (h : Shown (u .page p)) (some : 0 < u .page p .
       let y = after u p h j .within b in
       side x y (keeps-apart (u .page p) i j n (x .0) (y .0) (x .3) (y .3))
     where
-      side : (keeps (u .page p) i ≡ true) × (off (u .page p .at i) ≤ off (at′ i)) × (off (at′ i) + len (at′ i) ≤ off (u .page p .at i) + len (u .page p .at i)) × (0 < len (u .page p .at i))
-          → (keeps (u .page p) j ≡ true) × (off (u .page p .at j) ≤ off (at′ j)) × (off (at′ j) + len (at′ j) ≤ off (u .page p .at j) + len (u .page p .at j)) × (0 < len (u .page p .at j))
+      side : (keeps (u .page p) i ≡ true) × (off (u .page p .at i) ≤ off (at′ i)) × (off (at′ i) + len (at′ i) ≤ off (u .page p .at i) + len (u .page p .at i))
+          × (0 < len (u .page p .at i))
+          → (keeps (u .page p) j ≡ true) × (off (u .page p .at j) ≤ off (at′ j)) × (off (at′ j) + len (at′ j) ≤ off (u .page p .at j) + len (u .page p .at j))
+          × (0 < len (u .page p .at j))
           → (off (u .page p .at i) + len (u .page p .at i) ≤ off (u .page p .at j)) ⊎ (off (u .page p .at j) + len (u .page p .at j) ≤ off (u .page p .at i))
           → (off (at′ i) + len (at′ i) ≤ off (at′ j)) ⊎ (off (at′ j) + len (at′ j) ≤ off (at′ i))
       side x y (inl q) = inl (omega arith)

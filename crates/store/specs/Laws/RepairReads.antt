@@ -1,4 +1,4 @@
--- What could be read can still be read: after repair a read that answered 0 gives the same bytes at the same place. Assumes nothing.
+-- What could be read can still be read: after repair a read that answered 0 gives the same bytes at the same place.
 use Prim.Native.Nat.{ℕ, _+_, _-_, _/_, _%_, _≤_, _<_}
 use mathlib.Core.Path.{_≡_, refl, sym, ap, _∙_}
 use mathlib.Core.Bool.{Bool, true, false, cond, not, _&&_}
@@ -6,14 +6,15 @@ use mathlib.Core.List.{List}
 use native.Mathlib.Omega.{arith}
 use native.Mathlib.Decide.{decLt}
 use lib.ListN.{length, take, drop}
-use lib.Dec.{eqb, ltb, leb}
-use borrow.Author.Tests.{eqb-true, eqb-false, ltb-true, leb-false, not-true, not-false}
+use lib.Dec.{eqb, ltb}
+use borrow.Author.Tests.{eqb-true, eqb-false, ltb-true, not-true}
 use Rattle.store.specs.Numbers.{be, idOf, pageNo, slotNo}
 use Rattle.store.specs.Slots.{isFree, isRecord, isTarget}
 use Rattle.store.specs.Page.{View, view, fresh, sound}
-use Rattle.store.specs.Segment.{SegView, segView, pageOf, sizeOk, pointsBack, Read, noRead, readBy, readPlan, readStep, Part, noPart, partOn, partBy, locateStep}
+use Rattle.store.specs.Segment.{SegView, segView, pageOf, sizeOk, pointsBack, Read, noRead, readBy}
+use Rattle.store.specs.Segment.{readPlan, readStep, Part, noPart, partOn, partBy, locateStep}
 use Rattle.store.specs.SoundSegment.{slotOn, bytesOn}
-use Rattle.store.specs.Repair.{standing, lost, keeps, holds, named, deedBy, deed, slotDone, bytesDone, segAfter, invAfter, mendedBy}
+use Rattle.store.specs.Repair.{standing, lost, keeps, holds, named, deedBy, deed, slotDone, bytesDone, segAfter, invAfter}
 use Rattle.store.specs.declared.Deed.{Deed}
 use Rattle.store.specs.declared.Deed.the-variants.{Stays, RecordFreed, MadeOrdinary}
 use Rattle.store.specs.Laws.Slots.{tag}
@@ -47,7 +48,8 @@ module _ (s : List ℕ) (i : ℕ) where
     where
       go : (a : Bool) → sizeOk s ≡ a → cond a (readPlan (segView s) i) (noRead 1) .answer ≡ 0 → Readable
       go true x =
-          by-root (λ (r : Read). readPlan (segView s) i ≡ r → r .answer ≡ 0 → Readable) (segView s) i noRead (readBy (segView s) i) (λ l q e. absurd (omega arith)) (λ l d q e. absurd (omega arith))
+          by-root (λ (r : Read). readPlan (segView s) i ≡ r → r .answer ≡ 0 → Readable) (segView s) i noRead (readBy (segView s) i)
+          (λ l q e. absurd (omega arith)) (λ l d q e. absurd (omega arith))
           (λ l d q e. record { sizes = x; below = l; sound = d; is = ap (λ (b : Bool). cond b (readPlan (segView s) i) (noRead 1)) x ∙ q }) refl
       go false x = λ e. absurd (omega arith)
 
@@ -57,7 +59,8 @@ module _ (s : List ℕ) (i : ℕ) where
 
 -- ---- a sound page with a slot that is not free
 
-pub in-use : (q : List ℕ) (k : ℕ) → length q ≡ 16384 → sound (view q) ≡ true → isFree (view q .at k) ≡ false → (lost (view q) ≡ false) × (k < view q .slotCount) × Sound (view q)
+pub in-use : (q : List ℕ) (k : ℕ) → length q ≡ 16384 → sound (view q) ≡ true → isFree (view q .at k) ≡ false
+    → (lost (view q) ≡ false) × (k < view q .slotCount) × Sound (view q)
 in-use q k whole e t = go (fresh (view q)) refl
   where
     free : view q .slotCount ≤ k → ⊥
@@ -93,7 +96,8 @@ module _ (s : List ℕ) (whole : length s % 16384 ≡ 0) where
   bytes-left i l = seen-bytes s′ i ∙ ap (λ (v : View). v .bytes (slotNo i)) (after-page s whole (pageNo i) l)
 
   -- law 4, of the record: a slot to which nothing is done keeps id, offset, length and bytes
-  pub record-kept : (i : ℕ) → pageNo i < length s / 16384 → lost (u .page (pageNo i)) ≡ false → slotNo i < u .page (pageNo i) .slotCount → deed u (pageNo i) (slotNo i) ≡ Stays
+  pub record-kept : (i : ℕ) → pageNo i < length s / 16384 → lost (u .page (pageNo i)) ≡ false → slotNo i < u .page (pageNo i) .slotCount
+      → deed u (pageNo i) (slotNo i) ≡ Stays
       → (slotOn (segView s′) i ≡ slotOn (segView s) i) × (bytesOn (segView s′) i ≡ bytesOn (segView s) i)
   record-kept i l n k d =
       (slot-left i l ∙ slot-stays u i n k d ∙ sym (seen-slot s i), bytes-left i l ∙ bytes-stay u i n k d ∙ sym (seen-bytes s i))
@@ -102,9 +106,11 @@ module _ (s : List ℕ) (whole : length s % 16384 ≡ 0) where
       → (lost (u .page (pageNo i)) ≡ false) × (slotNo i < u .page (pageNo i) .slotCount) × Sound (u .page (pageNo i))
   unfolding standing
   used-page i l e t =
-      in-use (pageOf s (pageNo i)) (slotNo i) (length-page s (pageNo i) (omega arith)) (sound-closed (view (pageOf s (pageNo i))) (ap sound (sym (opened-standing s (pageNo i))) ∙ e)) t
+      in-use (pageOf s (pageNo i)) (slotNo i) (length-page s (pageNo i) (omega arith))
+      (sound-closed (view (pageOf s (pageNo i))) (ap sound (sym (opened-standing s (pageNo i))) ∙ e)) t
 
-  bytes-now : (i : ℕ) → lost (u .page (pageNo i)) ≡ false → slotNo i < u .page (pageNo i) .slotCount → bytesOn (segAfter u) i ≡ bytesDone (deedBy u (pageNo i) (slotNo i) (slotOn u i)) (bytesOn u i)
+  bytes-now : (i : ℕ) → lost (u .page (pageNo i)) ≡ false → slotNo i < u .page (pageNo i) .slotCount
+      → bytesOn (segAfter u) i ≡ bytesDone (deedBy u (pageNo i) (slotNo i) (slotOn u i)) (bytesOn u i)
   unfolding segAfter deed
   bytes-now i l h = ap (λ (v : View). v .bytes (slotNo i)) (after-used u (pageNo i) (slotNo i) l h) ∙ mended-bytes u (pageNo i) (slotNo i)
 
@@ -137,7 +143,8 @@ module _ (s : List ℕ) (whole : length s % 16384 ≡ 0) where
         }
 
     -- nothing is done to the slot, which is an ordinary one or a target
-    own-stays : (x : Slot) → slotOn (segView s) i ≡ x → isRecord x ≡ true → deed u (pageNo i) (slotNo i) ≡ Stays → lost (u .page (pageNo i)) ≡ false → slotNo i < u .page (pageNo i) .slotCount → Same i
+    own-stays : (x : Slot) → slotOn (segView s) i ≡ x → isRecord x ≡ true → deed u (pageNo i) (slotNo i) ≡ Stays → lost (u .page (pageNo i)) ≡ false
+        → slotNo i < u .page (pageNo i) .slotCount → Same i
     own-stays x e k d n m =
         let h = record-kept i below n m d in
         let f : slotOn (segView s′) i ≡ x = h .0 ∙ e in
@@ -157,7 +164,8 @@ module _ (s : List ℕ) (whole : length s % 16384 ≡ 0) where
         part (Target o l) q = refl
 
     -- a target that becomes ordinary: read by its own id, as before
-    made : (o l : ℕ) → slotOn (segView s) i ≡ Target o l → deed u (pageNo i) (slotNo i) ≡ MadeOrdinary → lost (u .page (pageNo i)) ≡ false → slotNo i < u .page (pageNo i) .slotCount → Same i
+    made : (o l : ℕ) → slotOn (segView s) i ≡ Target o l → deed u (pageNo i) (slotNo i) ≡ MadeOrdinary → lost (u .page (pageNo i)) ≡ false
+        → slotNo i < u .page (pageNo i) .slotCount → Same i
     made o l e d n m =
         let g : slotOn u i ≡ Target o l = sym (seen-slot s i) ∙ e in
         let w : deedBy u (pageNo i) (slotNo i) (slotOn u i) ≡ MadeOrdinary = sym (deed-is i (slotOn u i) refl) ∙ d in
@@ -165,14 +173,16 @@ module _ (s : List ℕ) (whole : length s % 16384 ≡ 0) where
         slot-left i below ∙ slot-now u i n m ∙ ap (λ (x : Deed). slotDone x (slotOn u i)) w ∙ ap (slotDone MadeOrdinary) g in
         let b : bytesOn (segView s′) i ≡ drop 8 (bytesOn (segView s) i) =
         bytes-left i below ∙ bytes-now i n m ∙ ap (λ (x : Deed). bytesDone x (bytesOn u i)) w ∙ ap (drop 8) (sym (seen-bytes s i)) in
-        same-by (ap (λ (y : Slot). look (bytesOn (segView s′)) i (tag y)) f ∙ ap (λ (z : List ℕ). record { answer = 0; bytes = z }) b ∙ ap (readBy (segView s) i) (sym e))
+        same-by (ap (λ (y : Slot). look (bytesOn (segView s′)) i (tag y)) f ∙ ap (λ (z : List ℕ). record { answer = 0; bytes = z }) b
+        ∙ ap (readBy (segView s) i) (sym e))
         (ap (partBy (segView s′) i) f ∙ ap (partBy (segView s) i) (sym e))
 
     followed : (t : ℕ) → slotOn (segView s) i ≡ Redirect t → pointsBack (segView s) i t ≡ true → Same i
     followed t e q =
         let g : slotOn u i ≡ Redirect t = sym (seen-slot s i) ∙ e in
         let w : View = segView s .page (pageNo t) in
-        let b4 = and-both (ltb (pageNo t) (segView s .pages) && not (eqb (pageNo t) (pageNo i)) && sound w && isTarget (w .at (slotNo t))) (eqb (be (take 8 (w .bytes (slotNo t)))) i) q in
+        let b4 = and-both (ltb (pageNo t) (segView s .pages) && not (eqb (pageNo t) (pageNo i)) && sound w && isTarget (w .at (slotNo t)))
+        (eqb (be (take 8 (w .bytes (slotNo t)))) i) q in
         let b3 = and-both (ltb (pageNo t) (segView s .pages) && not (eqb (pageNo t) (pageNo i)) && sound w) (isTarget (w .at (slotNo t))) (b4 .0) in
         let b2 = and-both (ltb (pageNo t) (segView s .pages) && not (eqb (pageNo t) (pageNo i))) (sound w) (b3 .0) in
         let b1 = and-both (ltb (pageNo t) (segView s .pages)) (not (eqb (pageNo t) (pageNo i))) (b2 .0) in
@@ -204,7 +214,8 @@ module _ (s : List ℕ) (whole : length s % 16384 ≡ 0) where
     pub still-read : Same i
     still-read = go (slotOn (segView s) i) refl (sym (ap (λ (x : Read). x .answer) (r .is)) ∙ zero)
       where
-        page-by : (x : Slot) → slotOn (segView s) i ≡ x → isRecord x ≡ true → (lost (u .page (pageNo i)) ≡ false) × (slotNo i < u .page (pageNo i) .slotCount) × Sound (u .page (pageNo i))
+        page-by : (x : Slot) → slotOn (segView s) i ≡ x → isRecord x ≡ true
+            → (lost (u .page (pageNo i)) ≡ false) × (slotNo i < u .page (pageNo i) .slotCount) × Sound (u .page (pageNo i))
         page-by x e k = used-page i below (r .sound) (ap isFree (sym (seen-slot s i) ∙ e) ∙ record-taken x k)
 
         kept-by : (x : Slot) → slotOn (segView s) i ≡ x → isRecord x ≡ true → keeps (u .page (pageNo i)) (slotNo i) ≡ true
@@ -218,7 +229,8 @@ module _ (s : List ℕ) (whole : length s % 16384 ≡ 0) where
         go Free e a = let z : readBy (segView s) i Free .answer ≡ 0 = ap (λ (x : Slot). readBy (segView s) i x .answer) (sym e) ∙ a in absurd (omega arith)
         go (Redirect t) e a = back (pointsBack (segView s) i t) refl (ap (λ (x : Slot). readBy (segView s) i x .answer) (sym e) ∙ a)
           where
-            back : (b : Bool) → pointsBack (segView s) i t ≡ b → cond b (record { answer = 0; bytes = drop 8 (segView s .page (pageNo t) .bytes (slotNo t)) }) (noRead 4) .answer ≡ 0 → Same i
+            back : (b : Bool) → pointsBack (segView s) i t ≡ b
+                → cond b (record { answer = 0; bytes = drop 8 (segView s .page (pageNo t) .bytes (slotNo t)) }) (noRead 4) .answer ≡ 0 → Same i
             back true q w = followed t e q
             back false q w = absurd (omega arith)
         go (Target o l) e a = name (named u (idOf (pageNo i) (slotNo i))) refl

@@ -1,6 +1,6 @@
 -- Nothing unseen is looked at: what repair tells and writes is a function of the number of pages, the inventory, the headers, the slots of pages that are
--- not lost, and the first 8 bytes of kept targets. Assumes nothing.
-use Prim.Native.Nat.{ℕ, zero, suc, _+_, _-_, _*_, _≤_, _<_}
+-- not lost, and the first 8 bytes of kept targets.
+use Prim.Native.Nat.{ℕ, zero, suc, _+_, _*_, _≤_, _<_}
 use mathlib.Core.Path.{_≡_, refl, sym, ap, _∙_}
 use mathlib.Core.Bool.{Bool, true, false, cond, not, _&&_, _||_}
 use mathlib.Core.List.{List, [], _∷_, _++_}
@@ -15,23 +15,16 @@ use Rattle.store.specs.PageSteps.{nextFree}
 use Rattle.store.specs.Inventory.{update}
 use Rattle.store.specs.Segment.{SegView}
 use Rattle.store.specs.SoundSegment.{slotOn, backId}
-use Rattle.store.specs.Repair.{lost, lies, clear, keptBelow, isIn, keeps, kept, holds, redirectsTo, named, deedBy, deed, changes, slotDone, slotAfter, startAfter, spaceAfter, mended, emptied, pageAfter, segAfter, sameHead, putSlots, putMended, pageBytes, trueInv, trueOf, sameInv, invAfter, entry, deedNo, slotEntries, headEntries, pageEntries, segEntries, entries, mendedBy}
+use Rattle.store.specs.Repair.{lost, lies, clear, keptBelow, isIn, keeps, kept, holds, redirectsTo, named, deedBy, deed, changes, slotDone, slotAfter}
+use Rattle.store.specs.Repair.{startAfter, spaceAfter, mended, emptied, pageAfter, segAfter, sameHead, putSlots, putMended, pageBytes, trueInv, trueOf}
+use Rattle.store.specs.Repair.{sameInv, invAfter, entry, deedNo, slotEntries, headEntries, pageEntries, segEntries, entries, mendedBy}
+use Rattle.store.specs.RepairTold.{SameSeen}
 use Rattle.store.specs.declared.Deed.the-variants.{Stays, RecordFreed, RedirectFreed, MadeOrdinary}
 use Rattle.store.specs.Laws.RepairPage.{used}
 use Rattle.store.specs.Laws.SoundPage.{and-both, and-in}
 use Rattle.store.specs.Laws.Cases.{not-in}
 use Rattle.store.specs.declared.Slot.{Slot}
 use Rattle.store.specs.declared.Slot.the-variants.{Ordinary, Free, Redirect, Target}
-
-pub record SameSeen (a b : SegView) : Type 0 where
-  pub pages : a .pages ≡ b .pages
-  pub counts : (p : ℕ) → p < a .pages → a .page p .slotCount ≡ b .page p .slotCount
-  pub firsts : (p : ℕ) → p < a .pages → a .page p .firstFree ≡ b .page p .firstFree
-  pub starts : (p : ℕ) → p < a .pages → a .page p .dataStart ≡ b .page p .dataStart
-  pub spaces : (p : ℕ) → p < a .pages → a .page p .freeSpace ≡ b .page p .freeSpace
-  pub slots : (p : ℕ) → p < a .pages → lost (a .page p) ≡ false → (k : ℕ) → a .page p .at k ≡ b .page p .at k
-  pub backs : (t : ℕ) → kept a t ≡ true → isTarget (slotOn a t) ≡ true → backId a t ≡ backId b t
-  pub past : (p : ℕ) → p < a .pages → (k : ℕ) → a .page p .slotCount ≤ k → a .page p .at k ≡ Free
 
 kept-in : (a : SegView) (t : ℕ) → pageNo t < a .pages → lost (a .page (pageNo t)) ≡ false → keeps (a .page (pageNo t)) (slotNo t) ≡ true → kept a t ≡ true
 unfolding kept
@@ -83,14 +76,17 @@ module _ (a b : SegView) (h : SameSeen a b) where
   kept-same t = go (ltb (pageNo t) (a .pages)) refl (lost (a .page (pageNo t))) refl
     where
       go : (x : Bool) → ltb (pageNo t) (a .pages) ≡ x → (y : Bool) → lost (a .page (pageNo t)) ≡ y
-          → (ltb (pageNo t) (a .pages) && (not (lost (a .page (pageNo t))) && keeps (a .page (pageNo t)) (slotNo t))) ≡ (ltb (pageNo t) (b .pages) && (not (lost (b .page (pageNo t))) && keeps (b .page (pageNo t)) (slotNo t)))
+          → (ltb (pageNo t) (a .pages) && (not (lost (a .page (pageNo t))) && keeps (a .page (pageNo t)) (slotNo t)))
+          ≡ (ltb (pageNo t) (b .pages) && (not (lost (b .page (pageNo t))) && keeps (b .page (pageNo t)) (slotNo t)))
       go false e y f =
           let g : ltb (pageNo t) (b .pages) ≡ false = ap (ltb (pageNo t)) (sym (h .pages)) ∙ e in
-          ap (λ (x : Bool). x && (not (lost (a .page (pageNo t))) && keeps (a .page (pageNo t)) (slotNo t))) e ∙ sym (ap (λ (x : Bool). x && (not (lost (b .page (pageNo t))) && keeps (b .page (pageNo t)) (slotNo t))) g)
+          ap (λ (x : Bool). x && (not (lost (a .page (pageNo t))) && keeps (a .page (pageNo t)) (slotNo t))) e
+          ∙ sym (ap (λ (x : Bool). x && (not (lost (b .page (pageNo t))) && keeps (b .page (pageNo t)) (slotNo t))) g)
       go true e true f =
           let l = ltb-true (pageNo t) (a .pages) e in
           let g : lost (b .page (pageNo t)) ≡ true = sym (lost-same (pageNo t) l) ∙ f in
-          (λ i. ltb (pageNo t) (h .pages i) && (not (f i) && keeps (a .page (pageNo t)) (slotNo t))) ∙ sym (ap (λ (y : Bool). ltb (pageNo t) (b .pages) && (not y && keeps (b .page (pageNo t)) (slotNo t))) g)
+          (λ i. ltb (pageNo t) (h .pages i) && (not (f i) && keeps (a .page (pageNo t)) (slotNo t)))
+          ∙ sym (ap (λ (y : Bool). ltb (pageNo t) (b .pages) && (not y && keeps (b .page (pageNo t)) (slotNo t))) g)
       go true e false f =
           let l = ltb-true (pageNo t) (a .pages) e in
           λ i. ltb (pageNo t) (h .pages i) && (not (lost-same (pageNo t) l i) && page-keeps (pageNo t) l f (slotNo t) i)
@@ -108,14 +104,16 @@ module _ (a b : SegView) (h : SameSeen a b) where
   holds-same i t = go (kept a t) refl (isTarget (slotOn a t)) refl
     where
       go : (x : Bool) → kept a t ≡ x → (y : Bool) → isTarget (slotOn a t) ≡ y
-          → (kept a t && (isTarget (slotOn a t) && (not (eqb (pageNo t) (pageNo i)) && eqb (backId a t) i))) ≡ (kept b t && (isTarget (slotOn b t) && (not (eqb (pageNo t) (pageNo i)) && eqb (backId b t) i)))
+          → (kept a t && (isTarget (slotOn a t) && (not (eqb (pageNo t) (pageNo i)) && eqb (backId a t) i)))
+          ≡ (kept b t && (isTarget (slotOn b t) && (not (eqb (pageNo t) (pageNo i)) && eqb (backId b t) i)))
       go false e y f =
           ap (λ (x : Bool). x && (isTarget (slotOn a t) && (not (eqb (pageNo t) (pageNo i)) && eqb (backId a t) i))) e
           ∙ sym (ap (λ (x : Bool). x && (isTarget (slotOn b t) && (not (eqb (pageNo t) (pageNo i)) && eqb (backId b t) i))) (sym (kept-same t) ∙ e))
       go true e false f =
           let w = kept-page t e in
           let g : isTarget (slotOn b t) ≡ false = ap isTarget (sym (h .slots (pageNo t) (w .0) (w .1) (slotNo t))) ∙ f in
-          (λ z. kept-same t z && (f z && (not (eqb (pageNo t) (pageNo i)) && eqb (backId a t) i))) ∙ sym (ap (λ (y : Bool). kept b t && (y && (not (eqb (pageNo t) (pageNo i)) && eqb (backId b t) i))) g)
+          (λ z. kept-same t z && (f z && (not (eqb (pageNo t) (pageNo i)) && eqb (backId a t) i)))
+          ∙ sym (ap (λ (y : Bool). kept b t && (y && (not (eqb (pageNo t) (pageNo i)) && eqb (backId b t) i))) g)
       go true e true f =
           let w = kept-page t e in
           λ z. kept-same t z && (isTarget (h .slots (pageNo t) (w .0) (w .1) (slotNo t) z) && (not (eqb (pageNo t) (pageNo i)) && eqb (h .backs t e f z) i))
@@ -137,11 +135,13 @@ module _ (a b : SegView) (h : SameSeen a b) where
           go : (y : Bool) → ltb (pageNo x) (a .pages) ≡ y → (z : Bool) → lost (a .page (pageNo x)) ≡ z → at-a x ≡ at-b x
           go false q z r =
               let g : ltb (pageNo x) (b .pages) ≡ false = ap (ltb (pageNo x)) (sym (h .pages)) ∙ q in
-              ap (λ (y : Bool). y && (not (lost (a .page (pageNo x))) && (redirectsTo t (slotOn a x) && holds a x t))) q ∙ sym (ap (λ (y : Bool). y && (not (lost (b .page (pageNo x))) && (redirectsTo t (slotOn b x) && holds b x t))) g)
+              ap (λ (y : Bool). y && (not (lost (a .page (pageNo x))) && (redirectsTo t (slotOn a x) && holds a x t))) q
+              ∙ sym (ap (λ (y : Bool). y && (not (lost (b .page (pageNo x))) && (redirectsTo t (slotOn b x) && holds b x t))) g)
           go true q true r =
               let l = ltb-true (pageNo x) (a .pages) q in
               let g : lost (b .page (pageNo x)) ≡ true = sym (lost-same (pageNo x) l) ∙ r in
-              (λ i. ltb (pageNo x) (h .pages i) && (not (r i) && (redirectsTo t (slotOn a x) && holds a x t))) ∙ sym (ap (λ (y : Bool). ltb (pageNo x) (b .pages) && (not y && (redirectsTo t (slotOn b x) && holds b x t))) g)
+              (λ i. ltb (pageNo x) (h .pages i) && (not (r i) && (redirectsTo t (slotOn a x) && holds a x t)))
+              ∙ sym (ap (λ (y : Bool). ltb (pageNo x) (b .pages) && (not y && (redirectsTo t (slotOn b x) && holds b x t))) g)
           go true q false r =
               let l = ltb-true (pageNo x) (a .pages) q in
               λ i. ltb (pageNo x) (h .pages i) && (not (lost-same (pageNo x) l i) && (redirectsTo t (h .slots (pageNo x) l r (slotNo x) i) && holds-same x t i))
@@ -167,7 +167,9 @@ module _ (a b : SegView) (h : SameSeen a b) where
         own : keeps (a .page p) k ≡ true → kept a (idOf p k) ≡ true
         own q = kept-in a (idOf p k) (omega (arith, pn)) ((λ i. lost (a .page (pn i))) ∙ n) ((λ i. keeps (a .page (pn i)) (sn i)) ∙ q)
 
-        go : (c : Bool) → keeps (a .page p) k ≡ c → cond (keeps (a .page p) k) (cond (named a (idOf p k)) Stays MadeOrdinary) RecordFreed ≡ cond (keeps (b .page p) k) (cond (named b (idOf p k)) Stays MadeOrdinary) RecordFreed
+        go : (c : Bool) → keeps (a .page p) k ≡ c
+            → cond (keeps (a .page p) k) (cond (named a (idOf p k)) Stays MadeOrdinary) RecordFreed
+            ≡ cond (keeps (b .page p) k) (cond (named b (idOf p k)) Stays MadeOrdinary) RecordFreed
         go true q = λ i. cond (page-keeps p l n k i) (cond (named-same (idOf p k) (own q) (ap isTarget here) i) Stays MadeOrdinary) RecordFreed
         go false q =
             ap (λ (c : Bool). cond c (cond (named a (idOf p k)) Stays MadeOrdinary) RecordFreed) q
@@ -228,7 +230,8 @@ module _ (a b : SegView) (h : SameSeen a b) where
   page-written p l q = go (lost (a .page p)) refl (fresh (a .page p)) refl
     where
       go : (x : Bool) → lost (a .page p) ≡ x → (y : Bool) → fresh (a .page p) ≡ y
-          → cond (lost (a .page p)) (put q 0 (zeros 12)) (cond (fresh (a .page p)) q (putMended (deed a p) (a .page p) q)) ≡ cond (lost (b .page p)) (put q 0 (zeros 12)) (cond (fresh (b .page p)) q (putMended (deed b p) (b .page p) q))
+          → cond (lost (a .page p)) (put q 0 (zeros 12)) (cond (fresh (a .page p)) q (putMended (deed a p) (a .page p) q))
+          ≡ cond (lost (b .page p)) (put q 0 (zeros 12)) (cond (fresh (b .page p)) q (putMended (deed b p) (b .page p) q))
       go true e y f =
           ap (λ (x : Bool). cond x (put q 0 (zeros 12)) (cond (fresh (a .page p)) q (putMended (deed a p) (a .page p) q))) e
           ∙ sym (ap (λ (x : Bool). cond x (put q 0 (zeros 12)) (cond (fresh (b .page p)) q (putMended (deed b p) (b .page p) q))) (sym (lost-same p l) ∙ e))
@@ -243,17 +246,24 @@ module _ (a b : SegView) (h : SameSeen a b) where
   page-told p l = go (lost (a .page p)) refl (fresh (a .page p)) refl
     where
       go : (x : Bool) → lost (a .page p) ≡ x → (y : Bool) → fresh (a .page p) ≡ y
-          → cond (lost (a .page p)) (entry p 65535 5 ∷ []) (cond (fresh (a .page p)) [] (slotEntries (deed a p) p (a .page p .slotCount) ++ headEntries (deed a p) (a .page p) p))
-          ≡ cond (lost (b .page p)) (entry p 65535 5 ∷ []) (cond (fresh (b .page p)) [] (slotEntries (deed b p) p (b .page p .slotCount) ++ headEntries (deed b p) (b .page p) p))
+          → cond (lost (a .page p)) (entry p 65535 5 ∷ [])
+          (cond (fresh (a .page p)) [] (slotEntries (deed a p) p (a .page p .slotCount) ++ headEntries (deed a p) (a .page p) p))
+          ≡ cond (lost (b .page p)) (entry p 65535 5 ∷ []) (cond (fresh (b .page p)) []
+          (slotEntries (deed b p) p (b .page p .slotCount) ++ headEntries (deed b p) (b .page p) p))
       go true e y f =
-          ap (λ (x : Bool). cond x (entry p 65535 5 ∷ []) (cond (fresh (a .page p)) [] (slotEntries (deed a p) p (a .page p .slotCount) ++ headEntries (deed a p) (a .page p) p))) e
-          ∙ sym (ap (λ (x : Bool). cond x (entry p 65535 5 ∷ []) (cond (fresh (b .page p)) [] (slotEntries (deed b p) p (b .page p .slotCount) ++ headEntries (deed b p) (b .page p) p))) (sym (lost-same p l) ∙ e))
+          ap (λ (x : Bool). cond x (entry p 65535 5 ∷ []) (cond (fresh (a .page p)) []
+          (slotEntries (deed a p) p (a .page p .slotCount) ++ headEntries (deed a p) (a .page p) p))) e
+          ∙ sym (ap (λ (x : Bool). cond x (entry p 65535 5 ∷ [])
+          (cond (fresh (b .page p)) [] (slotEntries (deed b p) p (b .page p .slotCount) ++ headEntries (deed b p) (b .page p) p))) (sym (lost-same p l) ∙ e))
       go false e true f =
-          (λ i. cond (lost-same p l i) (entry p 65535 5 ∷ []) (cond (f i) [] (slotEntries (deed a p) p (a .page p .slotCount) ++ headEntries (deed a p) (a .page p) p)))
-          ∙ sym (ap (λ (y : Bool). cond (lost (b .page p)) (entry p 65535 5 ∷ []) (cond y [] (slotEntries (deed b p) p (b .page p .slotCount) ++ headEntries (deed b p) (b .page p) p))) (sym (fresh-same p l) ∙ f))
+          (λ i. cond (lost-same p l i) (entry p 65535 5 ∷ [])
+          (cond (f i) [] (slotEntries (deed a p) p (a .page p .slotCount) ++ headEntries (deed a p) (a .page p) p)))
+          ∙ sym (ap (λ (y : Bool). cond (lost (b .page p)) (entry p 65535 5 ∷ [])
+          (cond y [] (slotEntries (deed b p) p (b .page p .slotCount) ++ headEntries (deed b p) (b .page p) p))) (sym (fresh-same p l) ∙ f))
       go false e false f =
           let m = used (a .page p) e f .1 in
-          let t : slotEntries (deed a p) p (a .page p .slotCount) ≡ slotEntries (deed b p) p (b .page p .slotCount) = ap (slotEntries (deed a p) p) (h .counts p l) ∙ slots-told p l e m (b .page p .slotCount) in
+          let t : slotEntries (deed a p) p (a .page p .slotCount) ≡ slotEntries (deed b p) p (b .page p .slotCount) =
+          ap (slotEntries (deed a p) p) (h .counts p l) ∙ slots-told p l e m (b .page p .slotCount) in
           λ i. cond (lost-same p l i) (entry p 65535 5 ∷ []) (cond (fresh-same p l i) [] (t i ++ cond (head-same p l e m i) [] (entry p 65535 4 ∷ [])))
 
   seg-told : (n : ℕ) → n ≤ a .pages → segEntries a n ≡ segEntries b n
@@ -267,8 +277,10 @@ module _ (a b : SegView) (h : SameSeen a b) where
   unfolding pageAfter
   number-same p l = go (lost (a .page p)) refl (fresh (a .page p)) refl
     where
-      each : (f : View → ℕ) → (x : Bool) → lost (a .page p) ≡ x → (y : Bool) → fresh (a .page p) ≡ y → (x ≡ false → y ≡ true → f (a .page p) ≡ f (b .page p)) → (x ≡ false → y ≡ false → f (mended a p) ≡ f (mended b p))
-          → f (cond (lost (a .page p)) emptied (cond (fresh (a .page p)) (a .page p) (mended a p))) ≡ f (cond (lost (b .page p)) emptied (cond (fresh (b .page p)) (b .page p) (mended b p)))
+      each : (f : View → ℕ) → (x : Bool) → lost (a .page p) ≡ x → (y : Bool) → fresh (a .page p) ≡ y → (x ≡ false → y ≡ true → f (a .page p) ≡ f (b .page p))
+          → (x ≡ false → y ≡ false → f (mended a p) ≡ f (mended b p))
+          → f (cond (lost (a .page p)) emptied (cond (fresh (a .page p)) (a .page p) (mended a p)))
+          ≡ f (cond (lost (b .page p)) emptied (cond (fresh (b .page p)) (b .page p) (mended b p)))
       each f true e y g s m =
           ap (λ (x : Bool). f (cond x emptied (cond (fresh (a .page p)) (a .page p) (mended a p)))) e
           ∙ sym (ap (λ (x : Bool). f (cond x emptied (cond (fresh (b .page p)) (b .page p) (mended b p)))) (sym (lost-same p l) ∙ e))
@@ -280,10 +292,14 @@ module _ (a b : SegView) (h : SameSeen a b) where
           ∙ sym ((λ i. f (cond ((sym (lost-same p l) ∙ e) i) emptied (cond ((sym (fresh-same p l) ∙ g) i) (b .page p) (mended b p)))))
 
       go : (x : Bool) → lost (a .page p) ≡ x → (y : Bool) → fresh (a .page p) ≡ y
-          → (cond (lost (a .page p)) emptied (cond (fresh (a .page p)) (a .page p) (mended a p)) .slotCount ≡ cond (lost (b .page p)) emptied (cond (fresh (b .page p)) (b .page p) (mended b p)) .slotCount)
-          × (cond (lost (a .page p)) emptied (cond (fresh (a .page p)) (a .page p) (mended a p)) .firstFree ≡ cond (lost (b .page p)) emptied (cond (fresh (b .page p)) (b .page p) (mended b p)) .firstFree)
-          × (cond (lost (a .page p)) emptied (cond (fresh (a .page p)) (a .page p) (mended a p)) .dataStart ≡ cond (lost (b .page p)) emptied (cond (fresh (b .page p)) (b .page p) (mended b p)) .dataStart)
-          × (cond (lost (a .page p)) emptied (cond (fresh (a .page p)) (a .page p) (mended a p)) .freeSpace ≡ cond (lost (b .page p)) emptied (cond (fresh (b .page p)) (b .page p) (mended b p)) .freeSpace)
+          → (cond (lost (a .page p)) emptied (cond (fresh (a .page p)) (a .page p) (mended a p)) .slotCount
+          ≡ cond (lost (b .page p)) emptied (cond (fresh (b .page p)) (b .page p) (mended b p)) .slotCount)
+          × (cond (lost (a .page p)) emptied (cond (fresh (a .page p)) (a .page p) (mended a p)) .firstFree
+          ≡ cond (lost (b .page p)) emptied (cond (fresh (b .page p)) (b .page p) (mended b p)) .firstFree)
+          × (cond (lost (a .page p)) emptied (cond (fresh (a .page p)) (a .page p) (mended a p)) .dataStart
+          ≡ cond (lost (b .page p)) emptied (cond (fresh (b .page p)) (b .page p) (mended b p)) .dataStart)
+          × (cond (lost (a .page p)) emptied (cond (fresh (a .page p)) (a .page p) (mended a p)) .freeSpace
+          ≡ cond (lost (b .page p)) emptied (cond (fresh (b .page p)) (b .page p) (mended b p)) .freeSpace)
       go x e y g = (
         each (λ v. v .slotCount) x e y g (λ q r. h .counts p l) (λ q r. count-same p l (e ∙ q) (used (a .page p) (e ∙ q) (g ∙ r) .1)),
         each (λ v. v .firstFree) x e y g (λ q r. h .firsts p l) (λ q r. first-same p l (e ∙ q) (used (a .page p) (e ∙ q) (g ∙ r) .1)),

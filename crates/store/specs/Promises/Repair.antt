@@ -1,115 +1,36 @@
--- Repair as it is called: for every segment, inventory and list. Assumes nothing.
-use Prim.Native.Nat.{ℕ, _/_, _≤_, _<_}
-use mathlib.Core.Path.{_≡_, refl, sym, _∙_}
-use mathlib.Core.Bool.{Bool, true, false, cond, not, _&&_}
+-- Repair, for every segment, inventory and list. Carried out it leaves a sound segment; a sound one it leaves as it is; refused it changes
+-- nothing. What is kept: RepairKept. Which entries there are: RepairEntries. What is looked at: RepairSeen. All of it is about `repairStep`.
+use Prim.Native.Nat.{ℕ, _/_, _<_}
+use mathlib.Core.Path.{_≡_, refl, sym, ap, _∙_}
+use mathlib.Core.Bool.{Bool, true, false, _&&_}
 use mathlib.Core.List.{List, [], _∷_}
 use mathlib.Core.Logic.{_≢_}
 use native.Mathlib.Omega.{arith}
+use native.Mathlib.Decide.{ℕ-discrete}
 use lib.ListN.{length}
-use lib.Dec.{ltb}
-use borrow.Author.Tests.{eqb-true, ltb-true, ltb-false}
-use Rattle.store.specs.Numbers.{put}
 use Rattle.store.specs.Segment.{sizeOk, invOk}
 use Rattle.store.specs.Calls.{Call, results, Each}
 use Rattle.store.specs.SoundSegment.{SoundSegment}
-use Rattle.store.specs.Repair.{standing, segBytes, invAfter, Entry, entries, words, Repaired, repairStep, deed, mendedBy}
+use Rattle.store.specs.Repair.{standing, Entry, entries, Repaired, repairStep}
 use Rattle.store.specs.Laws.SoundPage.{and-both}
-use Rattle.store.specs.Laws.SoundSegment.{sized}
-use Rattle.store.specs.Promises.Sound.{Right, calls-right}
-use Rattle.store.specs.Laws.Repair.{after-sound}
 use Rattle.store.specs.Laws.RepairAlone.{left-alone, only-sound}
+use Rattle.store.specs.Laws.RepairCall.{outcome, refused-by, room-by, room-in, size-by, size-in, count-by, sound-by, done-by}
+use Rattle.store.specs.Promises.Sound.{Right, calls-right}
 
--- what it answers and leaves, by what the tests say
 module _ (s v l : List ℕ) where
-  abbrev pub wrongSize : Repaired
-  wrongSize = record { answer = 1; count = 0; seg = s; inv = v; list = l }
-
-  abbrev pub noPlace : Repaired
-  noPlace = record { answer = 11; count = length (entries (standing s) v); seg = s; inv = v; list = l }
-
-  abbrev pub carriedOut : Repaired
-  carriedOut = record {
-    answer = 0;
-    count = length (entries (standing s) v);
-    seg = segBytes (standing s) (length s / 16384) s;
-    inv = invAfter (standing s) v;
-    list = put l 0 (words (entries (standing s) v));
-  }
-
-  pub data Outcome : Repaired → Type 0 where
-    of-size : (sizeOk s && invOk v) ≡ false → Outcome wrongSize
-    of-room : (sizeOk s && invOk v) ≡ true → length l / 3 < length (entries (standing s) v) → Outcome noPlace
-    of-done : (sizeOk s && invOk v) ≡ true → length (entries (standing s) v) ≤ length l / 3 → Outcome carriedOut
-
-  pub outcome : Outcome (repairStep s v l)
-  unfolding repairStep
-  outcome = go (sizeOk s && invOk v) refl (ltb (length l / 3) (length (entries (standing s) v))) refl
-    where
-      go : (a : Bool) → (sizeOk s && invOk v) ≡ a → (b : Bool) → ltb (length l / 3) (length (entries (standing s) v)) ≡ b → Outcome (cond (not a) wrongSize (cond b noPlace carriedOut))
-      go true e true f = of-room e (ltb-true (length l / 3) (length (entries (standing s) v)) f)
-      go true e false f = of-done e (ltb-false (length l / 3) (length (entries (standing s) v)) f)
-      go false e b f = of-size e
-
-  -- law 7: a refusal changes nothing
-  refused-by : (r : Repaired) → Outcome r → r .answer ≢ 0 → (r .seg ≡ s) × (r .inv ≡ v) × (r .list ≡ l)
-  refused-by r (of-size e) n = (refl, refl, refl)
-  refused-by r (of-room e f) n = (refl, refl, refl)
-  refused-by r (of-done e f) n = absurd (n refl)
-
-  pub refused-same : repairStep s v l .answer ≢ 0 → (repairStep s v l .seg ≡ s) × (repairStep s v l .inv ≡ v) × (repairStep s v l .list ≡ l)
-  refused-same n = refused-by (repairStep s v l) outcome n
-
-  -- 11 exactly if the sizes are right and the list has fewer places than the count
-  room-by : (r : Repaired) → Outcome r → r .answer ≡ 11 → ((sizeOk s && invOk v) ≡ true) × (length l / 3 < r .count)
-  room-by r (of-size e) q = absurd (omega arith)
-  room-by r (of-room e f) q = (e, f)
-  room-by r (of-done e f) q = absurd (omega arith)
-
-  pub room-only : repairStep s v l .answer ≡ 11 → ((sizeOk s && invOk v) ≡ true) × (length l / 3 < repairStep s v l .count)
-  room-only q = room-by (repairStep s v l) outcome q
-
-  room-in : (r : Repaired) → Outcome r → (sizeOk s && invOk v) ≡ true → length l / 3 < r .count → r .answer ≡ 11
-  room-in r (of-size e) q m = let z : _≡_ {A = ℕ} 0 1 = cc in absurd (omega arith)
-  room-in r (of-room e f) q m = refl
-  room-in r (of-done e f) q m = absurd (omega arith)
-
-  pub room-if : (sizeOk s && invOk v) ≡ true → length l / 3 < repairStep s v l .count → repairStep s v l .answer ≡ 11
-  room-if q m = room-in (repairStep s v l) outcome q m
-
-  -- 1 exactly if a size is wrong, and then the count is 0
-  size-by : (r : Repaired) → Outcome r → r .answer ≡ 1 → ((sizeOk s && invOk v) ≡ false) × (r .count ≡ 0)
-  size-by r (of-size e) q = (e, refl)
-  size-by r (of-room e f) q = absurd (omega arith)
-  size-by r (of-done e f) q = absurd (omega arith)
-
-  pub size-only : repairStep s v l .answer ≡ 1 → ((sizeOk s && invOk v) ≡ false) × (repairStep s v l .count ≡ 0)
-  size-only q = size-by (repairStep s v l) outcome q
-
-  pub size-if : (sizeOk s && invOk v) ≡ false → repairStep s v l .answer ≡ 1
-  unfolding repairStep
-  size-if e = rw e
-
-  count-by : (r : Repaired) → Outcome r → (sizeOk s && invOk v) ≡ true → r .count ≡ length (entries (standing s) v)
-  count-by r (of-size e) q = let z : _≡_ {A = ℕ} 0 1 = cc in absurd (omega arith)
-  count-by r (of-room e f) q = refl
-  count-by r (of-done e f) q = refl
-
-  pub count-is : (sizeOk s && invOk v) ≡ true → repairStep s v l .count ≡ length (entries (standing s) v)
-  count-is q = count-by (repairStep s v l) outcome q
-
-  -- law 1: sound afterwards
-  sound-by : (r : Repaired) → Outcome r → r .answer ≡ 0 → SoundSegment (r .seg) (r .inv)
-  sound-by r (of-size e) q = absurd (omega arith)
-  sound-by r (of-room e f) q = absurd (omega arith)
-  sound-by r (of-done e f) q =
-      let b = and-both (sizeOk s) (invOk v) e in
-      let z = sized s (b .0) in
-      after-sound s (z .whole) (z .few) v (eqb-true (length v) 16384 (b .1)) (b .0)
-
+  -- "Afterwards the segment is sound."
   pub sound-afterwards : repairStep s v l .answer ≡ 0 → SoundSegment (repairStep s v l .seg) (repairStep s v l .inv)
-  sound-afterwards q = sound-by (repairStep s v l) outcome q
+  sound-afterwards q = sound-by s v l (repairStep s v l) (outcome s v l) q
 
-  -- law 2: the count is 0 only for a sound one. (`left-alone` is the other half: answer 0, count 0, every byte and the list as before)
+  -- "A sound one gets no entry and keeps each byte", also with an empty list
+  pub sound-alone : SoundSegment s v → repairStep s v l ≡ record { answer = 0; count = 0; seg = s; inv = v; list = l }
+  sound-alone h = left-alone s v h l
+
+  -- with right sizes the count is that of the entries
+  pub count-is : (sizeOk s && invOk v) ≡ true → repairStep s v l .count ≡ length (entries (standing s) v)
+  count-is q = count-by s v l (repairStep s v l) (outcome s v l) q
+
+  -- and only a sound one: "With right sizes the count is 0 exactly if the segment is sound"
   pub none-sound : (sizeOk s && invOk v) ≡ true → repairStep s v l .count ≡ 0 → SoundSegment s v
   none-sound e n =
       let b = and-both (sizeOk s) (invOk v) e in
@@ -119,16 +40,35 @@ module _ (s v l : List ℕ) where
       nil [] q = refl
       nil (x ∷ es) q = absurd (omega arith)
 
-  -- law 6: twice is once
+  -- "Twice is once. A second repair answers 0 with count 0", and changes nothing
   pub twice-once : repairStep s v l .answer ≡ 0 → (m : List ℕ)
-      → repairStep (repairStep s v l .seg) (repairStep s v l .inv) m ≡ record { answer = 0; count = 0; seg = repairStep s v l .seg; inv = repairStep s v l .inv; list = m }
+      → repairStep (repairStep s v l .seg) (repairStep s v l .inv) m
+      ≡ record { answer = 0; count = 0; seg = repairStep s v l .seg; inv = repairStep s v l .inv; list = m }
   twice-once q m = left-alone (repairStep s v l .seg) (repairStep s v l .inv) (sound-afterwards q) m
 
-  -- law 9: no call answers 4 or 8 afterwards
+  -- "after a repair that answers 0, no sequence of calls answers 4 or 8"
   pub right-afterwards : repairStep s v l .answer ≡ 0 → (cs : List Call) → Each Right (results cs (repairStep s v l .seg) (repairStep s v l .inv))
   right-afterwards q cs = calls-right cs (repairStep s v l .seg) (repairStep s v l .inv) (sound-afterwards q)
 
--- the count does not depend on the list
+  -- "Refusals change nothing: segment, inventory and list."
+  pub refused-same : repairStep s v l .answer ≢ 0 → (repairStep s v l .seg ≡ s) × (repairStep s v l .inv ≡ v) × (repairStep s v l .list ≡ l)
+  refused-same n = refused-by s v l (repairStep s v l) (outcome s v l) n
+
+  -- "The answer is 11 exactly if the sizes are right and the list has fewer places than the count": three words are a place
+  pub room-only : repairStep s v l .answer ≡ 11 → ((sizeOk s && invOk v) ≡ true) × (length l / 3 < repairStep s v l .count)
+  room-only q = room-by s v l (repairStep s v l) (outcome s v l) q
+
+  pub room-if : (sizeOk s && invOk v) ≡ true → length l / 3 < repairStep s v l .count → repairStep s v l .answer ≡ 11
+  room-if q m = room-in s v l (repairStep s v l) (outcome s v l) q m
+
+  -- 1 exactly if a size is wrong; "Answer 1: count is 0"
+  pub size-only : repairStep s v l .answer ≡ 1 → ((sizeOk s && invOk v) ≡ false) × (repairStep s v l .count ≡ 0)
+  size-only q = size-by s v l (repairStep s v l) (outcome s v l) q
+
+  pub size-if : (sizeOk s && invOk v) ≡ false → repairStep s v l .answer ≡ 1
+  size-if e = size-in s v l (repairStep s v l) (outcome s v l) e
+
+-- "the count does not depend on the list"
 pub count-same : (s v l m : List ℕ) → repairStep s v l .count ≡ repairStep s v m .count
 count-same s v l m = go (sizeOk s && invOk v) refl
   where
@@ -136,15 +76,16 @@ count-same s v l m = go (sizeOk s && invOk v) refl
     go true e = count-is s v l e ∙ sym (count-is s v m e)
     go false e = size-only s v l (size-if s v l e) .1 ∙ sym (size-only s v m (size-if s v m e) .1)
 
--- the check by an empty list: 0 exactly if the segment is sound, whatever the sizes
+-- "a call with an empty list is a check that changes nothing: it answers 0 exactly if the segment is sound"
+pub check-if : (s v : List ℕ) → SoundSegment s v → repairStep s v [] .answer ≡ 0
+check-if s v h = ap (λ (r : Repaired). r .answer) (sound-alone s v [] h)
+
 pub check-only : (s v : List ℕ) → repairStep s v [] .answer ≡ 0 → SoundSegment s v
-check-only s v q = go (sizeOk s && invOk v) refl (outcome s v [])
+check-only s v q = let d = done-by s v [] (repairStep s v []) (outcome s v []) q in none-sound s v [] (d .0) (omega (arith, d .1))
+
+pub check-same : (s v : List ℕ) → (repairStep s v [] .seg ≡ s) × (repairStep s v [] .inv ≡ v)
+check-same s v = go (ℕ-discrete (repairStep s v [] .answer) 0)
   where
-    go : (b : Bool) → (sizeOk s && invOk v) ≡ b → Outcome s v [] (repairStep s v []) → SoundSegment s v
-    go true e o = none-sound s v [] e (few (repairStep s v []) o q)
-      where
-        few : (r : Repaired) → Outcome s v [] r → r .answer ≡ 0 → r .count ≡ 0
-        few r (of-size e) q = refl
-        few r (of-room e f) q = absurd (omega arith)
-        few r (of-done e f) q = omega arith
-    go false e o = absurd (omega (arith, size-if s v [] e))
+    go : Dec (repairStep s v [] .answer ≡ 0) → (repairStep s v [] .seg ≡ s) × (repairStep s v [] .inv ≡ v)
+    go (yes q) = let e = sound-alone s v [] (check-only s v q) in (ap (λ (r : Repaired). r .seg) e, ap (λ (r : Repaired). r .inv) e)
+    go (no n) = let k = refused-same s v [] n in (k .0, k .1)

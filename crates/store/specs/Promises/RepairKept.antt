@@ -1,4 +1,4 @@
--- Repair's laws in the request's words, where they speak of entries: what has none is kept; the list; how many there can be. Assumes nothing.
+-- Repair's laws in the request's words, where they speak of entries: what has none is kept; the list; how many there can be.
 use Prim.Native.Nat.{ℕ, zero, suc, _+_, _*_, _/_, _≤_, _<_}
 use mathlib.Core.Path.{_≡_, refl}
 use mathlib.Core.Bool.{Bool, true, false, cond}
@@ -10,7 +10,9 @@ use Rattle.store.specs.Numbers.{cut, pageNo, slotNo}
 use Rattle.store.specs.Page.{view, fresh}
 use Rattle.store.specs.Segment.{SegView, segView, pageOf, sizeOk, invOk, readStep, locateStep}
 use Rattle.store.specs.SoundSegment.{slotOn, bytesOn}
-use Rattle.store.specs.Repair.{standing, lost, deed, changes, mended, sameHead, sameInv, trueOf, Entry, entry, deedNo, slotEntries, headEntries, pageEntries, segEntries, invEntries, entries, words, Repaired, repairStep, mendedBy}
+use Rattle.store.specs.Repair.{standing, lost, deed, changes, mended, sameHead, sameInv, trueOf, Entry, entry, deedNo, slotEntries}
+use Rattle.store.specs.Repair.{headEntries, pageEntries, segEntries, invEntries, entries, words, Repaired, repairStep}
+use Rattle.store.specs.RepairTold.{In}
 use Rattle.store.specs.declared.Deed.{Deed}
 use Rattle.store.specs.declared.Deed.the-variants.{Stays, RecordFreed, RedirectFreed, MadeOrdinary}
 use Rattle.store.specs.Laws.Numbers.{cut-same, drop-put}
@@ -19,8 +21,8 @@ use Rattle.store.specs.Laws.SoundSegment.{sized}
 use Rattle.store.specs.Laws.RepairPage.{used}
 use Rattle.store.specs.Laws.RepairBytes.{directory, untouched, slot-untouched}
 use Rattle.store.specs.Laws.RepairReads.{record-kept, still-read}
-use Rattle.store.specs.Laws.RepairEntries.{In, entry-in, of-page, of-slot}
-use Rattle.store.specs.Promises.Repair.{Outcome, of-size, of-room, of-done, outcome}
+use Rattle.store.specs.Laws.RepairEntries.{entry-in, of-page, of-slot}
+use Rattle.store.specs.Laws.RepairCall.{Outcome, of-size, of-room, of-done, outcome}
 
 -- ---- laws 4 and 5, of the call
 
@@ -38,13 +40,17 @@ untold-stays u v p k l n m h = go (fresh (u .page p)) refl (changes (deed u p k)
     go : (a : Bool) → fresh (u .page p) ≡ a → (b : Bool) → changes (deed u p k) ≡ b → changes (deed u p k) ≡ false
     go true f b e = absurd (omega (arith, fresh-none (u .page p) f))
     go false f false e = e
-    go false f true e = absurd (h (deedNo (deed u p k)) (entry-in u v (entry p k (deedNo (deed u p k))) (of-page p l (of-slot n f (record { slot = k; below = m; changes = e; is = refl })))))
+    go false f true e =
+        absurd (h (deedNo (deed u p k)) (entry-in u v (entry p k (deedNo (deed u p k)))
+        (of-page p l (of-slot n f (record { slot = k; below = m; changes = e; is = refl })))))
 
 pub record Kept (s v : List ℕ) (r : Repaired) : Type 0 where
   -- "No byte of the segment outside headers and directories changes."
-  pub outside : (p j m : ℕ) → p < length s / 16384 → directory (view (pageOf s p)) ≤ j → j + m ≤ 16384 → cut (r .seg) (p * 16384 + j) m ≡ cut s (p * 16384 + j) m
+  pub outside : (p j m : ℕ) → p < length s / 16384 → directory (view (pageOf s p)) ≤ j → j + m ≤ 16384
+      → cut (r .seg) (p * 16384 + j) m ≡ cut s (p * 16384 + j) m
   -- "A slot below the count without an entry, on a page that is not lost, has the same 8 bytes"
-  pub slots : (p k : ℕ) → p < length s / 16384 → lost (view (pageOf s p)) ≡ false → k < view (pageOf s p) .slotCount → ((d : ℕ) → In (entry p k d) (entries (standing s) v) → ⊥)
+  pub slots : (p k : ℕ) → p < length s / 16384 → lost (view (pageOf s p)) ≡ false → k < view (pageOf s p) .slotCount
+      → ((d : ℕ) → In (entry p k d) (entries (standing s) v) → ⊥)
       → cut (pageOf (r .seg) p) (12 + 8 * k) 8 ≡ cut (pageOf s p) (12 + 8 * k) 8
   -- "so its record keeps id, offset, length and bytes"
   pub records : (i : ℕ) → pageNo i < length s / 16384 → lost (view (pageOf s (pageNo i))) ≡ false → slotNo i < view (pageOf s (pageNo i)) .slotCount
@@ -63,7 +69,9 @@ kept-by s v l r (of-done e f) q =
     record {
       outside = λ p j m a c d. untouched s (z .whole) p j m a c d;
       slots = λ p k a c d h. slot-untouched s (z .whole) p k a c d (untold-stays (standing s) v p k a c d h);
-      records = λ i a c d h. record-kept s (z .whole) i a c d (changes-not (deed (standing s) (pageNo i) (slotNo i)) (untold-stays (standing s) v (pageNo i) (slotNo i) a c d h));
+      records =
+          λ i a c d h. record-kept s (z .whole) i a c d (changes-not (deed (standing s) (pageNo i) (slotNo i))
+          (untold-stays (standing s) v (pageNo i) (slotNo i) a c d h));
       reads = λ i a. let w = still-read s (z .whole) v (z .few) (eqb-true (length v) 16384 (b .1)) (b .0) i a in (w .reads, w .places);
     }
 
@@ -116,7 +124,8 @@ page-most u p = go (lost (u .page p)) refl (fresh (u .page p)) refl
     head true e = omega arith
     head false e = omega arith
 
-    go : (a : Bool) → lost (u .page p) ≡ a → (b : Bool) → fresh (u .page p) ≡ b → length (cond a (entry p 65535 5 ∷ []) (cond b [] (slotEntries (deed u p) p (u .page p .slotCount) ++ headEntries (deed u p) (u .page p) p))) ≤ 2047
+    go : (a : Bool) → lost (u .page p) ≡ a → (b : Bool) → fresh (u .page p) ≡ b
+        → length (cond a (entry p 65535 5 ∷ []) (cond b [] (slotEntries (deed u p) p (u .page p .slotCount) ++ headEntries (deed u p) (u .page p) p))) ≤ 2047
     go true l b f = omega arith
     go false l true f = omega arith
     go false l false f =

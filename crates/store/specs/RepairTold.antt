@@ -1,0 +1,57 @@
+-- What is said of repair: which entries there are and what they tell (Promises/RepairEntries), and what it looks at (Promises/RepairSeen).
+use Prim.Native.Nat.{ℕ, _+_, _-_, _*_, _/_, _≤_, _<_}
+use mathlib.Core.Path.{_≡_}
+use mathlib.Core.Bool.{true, false}
+use mathlib.Core.List.{List, [], _∷_}
+use mathlib.Core.Logic.{_⊎_}
+use lib.ListN.{length}
+use Rattle.store.specs.Numbers.{cut}
+use Rattle.store.specs.Slots.{isRecord, isTarget}
+use Rattle.store.specs.Page.{view}
+use Rattle.store.specs.Segment.{SegView, pageOf}
+use Rattle.store.specs.SoundSegment.{slotOn, backId}
+use Rattle.store.specs.Repair.{standing, lost, kept, Entry}
+use Rattle.store.specs.declared.Slot.{Slot}
+use Rattle.store.specs.declared.Slot.the-variants.{Ordinary, Free, Redirect, Target}
+
+-- ---- entries
+
+-- e is one of a list
+abbrev pub In : Entry → List Entry → Type 0
+In e [] = ⊥
+In e (x ∷ xs) = (e ≡ x) ⊎ In e xs
+
+-- "entries ascend by (page, place)": strictly, so that no two are of one place
+abbrev pub Before : Entry → Entry → Type 0
+Before a b = (a .page < b .page) ⊎ ((a .page ≡ b .page) × (a .place < b .place))
+
+abbrev pub Ascending : List Entry → Type 0
+Ascending [] = Unit {0}
+Ascending (x ∷ xs) = ((b : Entry) → In b xs → Before x b) × Ascending xs
+
+-- "The number in each fits what changed: freed record, freed redirect, target made ordinary": what a slot was, what it is, the number
+pub data Tells : Slot → Slot → ℕ → Type 0 where
+  freed-record : (x : Slot) → isRecord x ≡ true → Tells x Free 1
+  freed-redirect : (t : ℕ) → Tells (Redirect t) Free 2
+  made-ordinary : (o l : ℕ) → Tells (Target o l) (Ordinary (o + 8) (l - 8)) 3
+
+-- ---- what is looked at
+
+-- "n, the headers, the slots below the count of pages that are not lost and the first 8 bytes of kept targets", in two segments
+pub record LooksSame (s t : List ℕ) : Type 0 where
+  pub lengths : length s ≡ length t
+  pub headers : (p : ℕ) → p < length s / 16384 → cut (pageOf s p) 0 12 ≡ cut (pageOf t p) 0 12
+  pub slots : (p : ℕ) → p < length s / 16384 → lost (view (pageOf s p)) ≡ false → (k : ℕ) → k < view (pageOf s p) .slotCount
+      → cut (pageOf s p) (12 + 8 * k) 8 ≡ cut (pageOf t p) (12 + 8 * k) 8
+  pub backs : (i : ℕ) → kept (standing s) i ≡ true → isTarget (slotOn (standing s) i) ≡ true → backId (standing s) i ≡ backId (standing t) i
+
+-- the same of what is seen of the pages
+pub record SameSeen (a b : SegView) : Type 0 where
+  pub pages : a .pages ≡ b .pages
+  pub counts : (p : ℕ) → p < a .pages → a .page p .slotCount ≡ b .page p .slotCount
+  pub firsts : (p : ℕ) → p < a .pages → a .page p .firstFree ≡ b .page p .firstFree
+  pub starts : (p : ℕ) → p < a .pages → a .page p .dataStart ≡ b .page p .dataStart
+  pub spaces : (p : ℕ) → p < a .pages → a .page p .freeSpace ≡ b .page p .freeSpace
+  pub slots : (p : ℕ) → p < a .pages → lost (a .page p) ≡ false → (k : ℕ) → a .page p .at k ≡ b .page p .at k
+  pub backs : (t : ℕ) → kept a t ≡ true → isTarget (slotOn a t) ≡ true → backId a t ≡ backId b t
+  pub past : (p : ℕ) → p < a .pages → (k : ℕ) → a .page p .slotCount ≤ k → a .page p .at k ≡ Free
