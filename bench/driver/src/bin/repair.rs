@@ -1,6 +1,7 @@
-//! `repair SEGMENT PAGES slots|check|count UNITS`: a repair by the archive of a segment made by hand. `slots` prints how many slots it has, and how many of them
-//! are redirects and targets; `check` compares a repair with the judge's plain one, and whether it leaves a sound segment; `count` repairs the
-//! first of two copies, or both, so that what two take less what one takes is a repair.
+//! `repair SEGMENT PAGES slots|check|count UNITS`: a repair by the archive of a segment made by hand.
+//! `slots` prints how many slots it has, and how many of them are redirects and targets; `check`
+//! compares a repair with the judge's plain one, and looks whether it leaves a sound segment; `count`
+//! repairs the first of two copies, or both, so that what two take less what one takes is a repair.
 
 use driver::making::{page, Start};
 use hekatosuy::{SlottedPageSegment, Touched};
@@ -97,13 +98,13 @@ fn list_for(pages: usize) -> Vec<Touched> {
     vec![Touched::default(); 2047 * pages + 1]
 }
 
-fn check(lent: &mut Lent) -> bool {
+fn check(lent: &Lent) -> bool {
     let (mut segment, mut inventory) = (lent.segment.clone(), lent.inventory.clone());
     let mut list = list_for(segment.len() / PAGE_SIZE);
     let told = SlottedPageSegment::new(&mut segment, &mut inventory).repair(&mut list).map(<[Touched]>::to_vec);
     let words: Vec<[u64; 3]> = told.unwrap_or_default().into_iter().map(Touched::words).collect();
-    let plain = model::repair::repair(&mut lent.segment, &mut lent.inventory, usize::MAX);
-    plain == Ok(words) && segment == lent.segment && inventory == lent.inventory && judge::soundness::is_sound(&segment, &inventory)
+    let plain = model::repair::plan(&lent.segment, &lent.inventory);
+    plain.entries == words && plain.segment == segment && plain.inventory == inventory && judge::soundness::is_sound(&segment, &inventory)
 }
 
 fn count(lent: &Lent, units: usize) {
@@ -123,13 +124,13 @@ fn main() -> ExitCode {
         [name, pages, ref rest @ ..] => (name, pages.parse().unwrap_or(0), rest),
         _ => ("", 0, &words[..]),
     };
-    let Some(mut lent) = made(name, pages) else {
+    let Some(lent) = made(name, pages) else {
         eprintln!("repair SEGMENT PAGES slots|check|count UNITS");
         return ExitCode::FAILURE;
     };
     match rest {
         ["slots"] => println!("{} {}", lent.slots, lent.forwarded),
-        ["check"] if !check(&mut lent) => {
+        ["check"] if !check(&lent) => {
             eprintln!("repair {name} {pages}: not as the judge's");
             return ExitCode::FAILURE;
         }
