@@ -51,11 +51,11 @@ module _ (v : View) (k : ℕ) where
 
   -- ---- "overlaps a record already kept"
 
-  pub clear-apart : clear v k (keptBelow v k) ≡ true → (j : ℕ) → isIn j (keptBelow v k) ≡ true → Apart (v .at j) (v .at k)
-  clear-apart c j e = two-apart v j k (λ q. omega (arith, in-good v k j e .0)) (clear-at v k (keptBelow v k) c j e)
+  pub clear-is : clear v k (keptBelow v k) ≡ true → (j : ℕ) → isIn j (keptBelow v k) ≡ true → Apart (v .at j) (v .at k)
+  clear-is c j e = two-apart v j k (λ q. omega (arith, in-good v k j e .0)) (clear-at v k (keptBelow v k) c j e)
 
-  pub apart-clear : ((j : ℕ) → isIn j (keptBelow v k) ≡ true → Apart (v .at j) (v .at k)) → clear v k (keptBelow v k) ≡ true
-  apart-clear f = clear-in v k (keptBelow v k) (λ j e. apart-test v j k (λ _. f j e))
+  pub clear-by : ((j : ℕ) → isIn j (keptBelow v k) ≡ true → Apart (v .at j) (v .at k)) → clear v k (keptBelow v k) ≡ true
+  clear-by f = clear-in v k (keptBelow v k) (λ j e. apart-test v j k (λ _. f j e))
 
   -- ---- one turn by its three tests
 
