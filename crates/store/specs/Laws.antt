@@ -33,6 +33,7 @@ pub mod Rows
 pub mod Grown
 pub mod Blank
 pub mod RepairPage
+pub mod RepairKept
 pub mod RepairBytes
 pub mod RepairPairs
 pub mod RepairInventory
