@@ -1,0 +1,3 @@
+pub mod TellLaws
+pub mod WriteLaws
+pub mod RepairLaws
