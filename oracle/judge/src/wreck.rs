@@ -22,11 +22,13 @@ pub struct Wreck {
     random: Random,
 }
 
-/// Up to five pages, mostly with few slots.
+/// Up to five pages, mostly with few slots; for each five hundredth seed some hundred pages.
 pub fn wreck(seed: u64) -> Wreck {
     let mut random = Random::new(seed ^ 0x0004_BE4C);
-    let n = random.pick(&[0, 1, 1, 1, 1, 1, 1, 2, 2, 2, 2, 2, 2, 3, 3, 3, 3, 3, 4, 5]);
-    let most_slots = random.pick(&[1, 2, 3, 5, 8, 8, 12, 12, 40, 2046]);
+    let many = seed % 500 == 0;
+    let few = random.pick(&[0, 1, 1, 1, 1, 1, 1, 2, 2, 2, 2, 2, 2, 3, 3, 3, 3, 3, 4, 5]);
+    let n = if many { 60 + random.below(80) as usize } else { few };
+    let most_slots = if many { 4 } else { random.pick(&[1, 2, 3, 5, 8, 8, 12, 12, 40, 2046]) };
     let pokes = match random.below(16) {
         0 => vec![],
         1 => fresh_with_leftovers(&mut random, n),
@@ -88,7 +90,7 @@ impl Wreck {
 
     /// Nothing; one damage; several of one kind; several of any kind.
     fn damage(&mut self) {
-        let times = self.random.pick(&[0, 1, 1, 1, 1, 2, 3, 4, 8, 30]);
+        let times = self.random.pick(&[0, 1, 1, 1, 1, 2, 3, 4, 8, 30]) * self.n().div_ceil(5);
         let one = self.random.pick(&KINDS);
         let alike = self.random.one_in(3);
         for _ in 0..times {

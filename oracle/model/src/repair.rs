@@ -51,8 +51,10 @@ reasons! {
     TargetFreed "redirect: to a target that is freed"
     PointsElsewhere "redirect: target points elsewhere"
     Paired "redirect and target kept"
+    PairedUnsound "redirect and target kept, on a page that is not sound"
     Unnamed "target: no kept redirect names it"
     UnnamedOf8 "target: of exactly 8 bytes, unnamed"
+    UnpairedSound "redirect or target unpaired, on a page that is sound"
     FirstFree "header: first free"
     StartInDirectory "header: data start in the directory"
     StartPast "header: data start past the page"
@@ -105,7 +107,11 @@ pub fn plan(segment: &[u8], inventory: &[u8]) -> Plan {
             page[..HEADER].fill(0);
             plan.entries.push([number as u64, AT_HEADER, HEADER_ZEROED]);
         } else if !before.slots.is_empty() {
+            let told = plan.entries.len();
             mend_slots(&mut page, number, before, &named, &mut plan);
+            if plan.entries.len() > told && page::sound(&segment[number * PAGE..][..PAGE]) {
+                plan.reasons.push(Reason::UnpairedSound);
+            }
             mend_header(&mut page, number, &mut plan);
         }
         plan.segment[number * PAGE..][..PAGE].copy_from_slice(&page);
@@ -181,8 +187,10 @@ fn kept_redirects(segment: &[u8], pages: &[Judged], reasons: &mut Vec<Reason>) -
         for (k, redirect) in page.slots.iter().enumerate().filter(|(_, slot)| slot.kind == Kind::Redirect) {
             let id = number as u64 * 65536 + k as u64;
             let astray = astray(segment, pages, id, redirect.id);
-            reasons.push(astray.unwrap_or(Reason::Paired));
+            reasons.extend(astray);
             if astray.is_none() {
+                let page = &segment[(redirect.id / 65536) as usize * PAGE..][..PAGE];
+                reasons.push(if page::sound(page) { Reason::Paired } else { Reason::PairedUnsound });
                 named.roots.insert(id);
                 named.targets.insert(redirect.id);
             }
