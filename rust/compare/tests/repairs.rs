@@ -2,8 +2,8 @@
 //! answers, counts, lists and bytes. And what the request asks of each, by the archive's own calls.
 
 use compare::Ours;
-use judge::repairs::{ids, reads, same_bytes, RepairCounts, LEFTOVER};
 use judge::random::Random;
+use judge::repairs::{ids, reads, same_bytes, RepairCounts, LEFTOVER};
 use judge::soundness::is_sound;
 use judge::wreck::{wreck, Wreck};
 use model::repair::{plan, repair};
@@ -59,6 +59,19 @@ fn run_one(seed: u64, counts: &mut RepairCounts) {
     assert_eq!(before, after, "seed {seed}: reads before and after");
     assert!(before.iter().all(|read| same_bytes(read, &wreck.segment, ours.segment())), "seed {seed}: a record's bytes changed");
     counts.reads += before.len() as u64;
+}
+
+/// Answer 1 comes with count 0, and leaves the list; no pages and an inventory of zeros are sound.
+#[test]
+fn sizes() {
+    for (segment, inventory, answer) in [(16383, 16384, 1), (16385, 16384, 1), (16384, 16383, 1), (16384, 0, 1), (0, 16385, 1), (0, 16384, 0)] {
+        for words in [0, 2, 30] {
+            let (mut ours, mut list) = (Ours::new(&vec![1; segment], &vec![0; inventory]), vec![LEFTOVER; words]);
+            assert_eq!(ours.repair(&mut list), (answer, 0), "{segment} and {inventory} bytes");
+            assert!(list.iter().all(|&word| word == LEFTOVER), "{segment} and {inventory} bytes: the list");
+            assert!(ours.bytes() == (&vec![1; segment][..], &vec![0; inventory][..]), "{segment} and {inventory} bytes changed");
+        }
+    }
 }
 
 #[test]
