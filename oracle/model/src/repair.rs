@@ -98,7 +98,7 @@ pub fn repair(segment: &mut [u8], inventory: &mut [u8], list: &mut [u64]) -> (u6
 
 /// The repair of a segment of whole pages and its inventory.
 pub fn plan(segment: &[u8], inventory: &[u8]) -> Plan {
-    let mut plan = Plan { segment: segment.to_vec(), inventory: true_inventory(&[]), entries: vec![], reasons: vec![] };
+    let mut plan = Plan { segment: segment.to_vec(), inventory: vec![], entries: vec![], reasons: vec![] };
     let pages: Vec<Judged> = segment.chunks(PAGE).map(|page| judge_page(page, &mut plan.reasons)).collect();
     let named = kept_redirects(segment, &pages, &mut plan.reasons);
     for (number, before) in pages.iter().enumerate() {
