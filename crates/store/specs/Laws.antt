@@ -41,4 +41,5 @@ pub mod RepairAlone
 pub mod RepairCall
 pub mod RepairReads
 pub mod RepairEntries
+pub mod RepairList
 pub mod RepairSeen

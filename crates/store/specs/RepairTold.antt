@@ -1,18 +1,25 @@
--- What is said of repair: which entries there are and what they tell (Promises/RepairEntries), and what it looks at (Promises/RepairSeen).
+-- What is said of repair: where it writes (Promises/RepairKept), which entries there are and what they tell (Promises/RepairEntries), what it
+-- looks at (Promises/RepairSeen).
 use Prim.Native.Nat.{ℕ, _+_, _-_, _*_, _/_, _≤_, _<_}
 use mathlib.Core.Path.{_≡_}
-use mathlib.Core.Bool.{true, false}
+use mathlib.Core.Bool.{true, false, cond}
 use mathlib.Core.List.{List, [], _∷_}
 use mathlib.Core.Logic.{_⊎_}
 use lib.ListN.{length}
 use Rattle.store.specs.Numbers.{cut}
 use Rattle.store.specs.Slots.{isRecord, isTarget}
-use Rattle.store.specs.Page.{view}
+use Rattle.store.specs.Page.{View, view}
 use Rattle.store.specs.Segment.{SegView, pageOf}
 use Rattle.store.specs.SoundSegment.{slotOn, backId}
 use Rattle.store.specs.Repair.{standing, lost, kept, Entry}
 use Rattle.store.specs.declared.Slot.{Slot}
 use Rattle.store.specs.declared.Slot.the-variants.{Ordinary, Free, Redirect, Target}
+
+-- ---- bytes
+
+-- "headers and directories": where they end on a page; a lost page has only its header
+abbrev pub directory : View → ℕ
+directory v = cond (lost v) 12 (12 + 8 * v .slotCount)
 
 -- ---- entries
 

@@ -19,14 +19,14 @@ use Rattle.store.specs.Segment.{SegView, pageOf}
 use Rattle.store.specs.Repair.{standing, lost, keeps, holds, named, deedBy, deed, changes, slotDone, slotAfter, mended, emptied}
 use Rattle.store.specs.Repair.{pageAfter, sameHead, putSlots, putMended, pageBytes, sameBytes, sameInv, trueOf, invAfter, Entry, entry}
 use Rattle.store.specs.Repair.{deedNo, slotEntries, headEntries, pageEntries, segEntries, invEntries, entries, mendedBy}
-use Rattle.store.specs.RepairTold.{In, Before, Ascending, Tells, freed-record, freed-redirect, made-ordinary}
+use Rattle.store.specs.RepairTold.{directory, In, Before, Ascending, Tells, freed-record, freed-redirect, made-ordinary}
 use Rattle.store.specs.declared.Deed.{Deed}
 use Rattle.store.specs.declared.Deed.the-variants.{Stays, RecordFreed, RedirectFreed, MadeOrdinary}
 use Rattle.store.specs.Laws.Cases.{by-test}
 use Rattle.store.specs.Laws.Numbers.{cut-take}
 use Rattle.store.specs.Laws.SoundPage.{and-in, all-in, fresh-none}
 use Rattle.store.specs.Laws.RepairPage.{used}
-use Rattle.store.specs.Laws.RepairBytes.{slots-frame, directory, page-past-directory, page-slot-same, page-seen, repairedSeg, repaired-page}
+use Rattle.store.specs.Laws.RepairBytes.{slots-frame, page-past-directory, page-slot-same, page-seen, repairedSeg, repaired-page, repaired-view}
 use Rattle.store.specs.Laws.RepairInventory.{same-own}
 use Rattle.store.specs.Laws.Segments.{length-page}
 use Rattle.store.specs.Laws.Repair.{standing-pages, standing-page}
@@ -405,11 +405,19 @@ module _ (s : List ℕ) (whole : length s % 16384 ≡ 0) (v : List ℕ) where
     pub counted : k < us .page p .slotCount
     pub what : d ≡ deedNo (deed us p k)
     pub changes : SlotChanges p k
-    pub tells : Tells (us .page p .at k) (slotAfter us p k) d
+    pub tells : Tells (view (pageOf s p) .at k) (view (pageOf (repairedSeg s whole) p) .at k) d
 
   tells-at : (p k : ℕ) → changes (deed us p k) ≡ true → Tells (us .page p .at k) (slotAfter us p k) (deedNo (deed us p k))
   unfolding deed
   tells-at p k c = deed-tells us p k (us .page p .at k) c
+
+  tells-now : (p k : ℕ) → p < length s / 16384 → lost (us .page p) ≡ false → fresh (us .page p) ≡ false → changes (deed us p k) ≡ true
+      → Tells (view (pageOf s p) .at k) (view (pageOf (repairedSeg s whole) p) .at k) (deedNo (deed us p k))
+  tells-now p k l a f c =
+      let w : view (pageOf (repairedSeg s whole) p) .at k ≡ slotAfter us p k =
+      ap (λ (v : View). v .at k) (repaired-view s whole p l ∙ after-is us p a f) ∙ mended-slot us p k in
+      subst (λ (x : Slot). Tells (view (pageOf s p) .at k) x (deedNo (deed us p k))) (sym w)
+      (subst (λ (x : View). Tells (x .at k) (slotAfter us p k) (deedNo (deed us p k))) (standing-page s p) (tells-at p k c))
 
   pub slot-only : (p k d : ℕ) → k < 65535 → In (entry p k d) (entries us v) → SlotTold p k d
   slot-only p k d small h = go (entry-of us v (entry p k d) h)
@@ -423,7 +431,8 @@ module _ (s : List ℕ) (whole : length s % 16384 ≡ 0) (v : List ℕ) where
             counted = m;
             what = ed;
             changes = slot-changes r j l′ (slot-bytes-differ us r (pageOf s r) (sym (standing-page s r)) (long r l′) j a f c);
-            tells = subst (λ (x : ℕ). Tells (us .page r .at j) (slotAfter us r j) x) (sym ed) (tells-at r j c);
+            tells =
+                subst (λ (x : ℕ). Tells (view (pageOf s r) .at j) (view (pageOf (repairedSeg s whole) r) .at j) x) (sym ed) (tells-now r j l′ a f c);
           } in
           subst (λ (x : ℕ). SlotTold x k d) (sym ep) (subst (λ (x : ℕ). SlotTold r x d) (sym ek) t)
 
