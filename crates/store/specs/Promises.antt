@@ -15,3 +15,4 @@ pub mod Marked
 pub mod Examples
 pub mod Repair
 pub mod RepairKept
+pub mod RepairEntries

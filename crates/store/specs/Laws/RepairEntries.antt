@@ -339,10 +339,10 @@ module _ (s : List ℕ) (whole : length s % 16384 ≡ 0) (v : List ℕ) where
   abbrev us : SegView
   us = standing s
 
-  pub SlotChanges : ℕ → ℕ → Type 0
+  unfoldable pub SlotChanges : ℕ → ℕ → Type 0
   SlotChanges p k = cut (pageOf (repairedSeg s whole) p) (12 + 8 * k) 8 ≢ cut (pageOf s p) (12 + 8 * k) 8
 
-  pub HeadChanges : ℕ → Type 0
+  unfoldable pub HeadChanges : ℕ → Type 0
   HeadChanges p = cut (pageOf (repairedSeg s whole) p) 0 12 ≢ cut (pageOf s p) 0 12
 
   long : (p : ℕ) → p < length s / 16384 → length (pageOf s p) ≡ 16384
@@ -565,3 +565,13 @@ entries-ascend u v =
     let w = seg-of u a (u .pages) x in
     let q = none-is (sameInv v (trueOf u)) (entry (u .pages) 65536 6) b y in
     inl (omega (arith, w .below, on-page u (w .page) a (w .entry), ap (λ (z : Entry). z .page) q)))
+
+-- a place is a slot's number, the header's or the inventory's
+pub place-most : (u : SegView) (v : List ℕ) (e : Entry) → In e (entries u v) → e .place ≤ 65536
+place-most u v e h = go (entry-of u v e h)
+  where
+    go : AnyEntry u v e → e .place ≤ 65536
+    go (of-page p l (of-slot a f w)) = omega (arith, ap (λ (x : Entry). x .place) (w .is), w .below, used (u .page p) a f)
+    go (of-page p l (of-head a f q w)) = omega (arith, ap (λ (x : Entry). x .place) w)
+    go (of-page p l (of-lost a w)) = omega (arith, ap (λ (x : Entry). x .place) w)
+    go (of-inv q w) = omega (arith, ap (λ (x : Entry). x .place) w)
