@@ -16,3 +16,5 @@ pub mod Examples
 pub mod Repair
 pub mod RepairKept
 pub mod RepairEntries
+pub mod RepairSeen
+pub mod RepairNamed

@@ -210,23 +210,23 @@ header-part a b j m h e = sym (cut-take a 12 j m h) ∙ ap (λ (l : List ℕ). c
 
 -- a view's numbers, from equal header bytes
 module _ (a b : List ℕ) (e : cut a 0 12 ≡ cut b 0 12) where
-  same-count : view a .slotCount ≡ view b .slotCount
+  pub same-count : view a .slotCount ≡ view b .slotCount
   unfolding view
   same-count = ap be (header-part a b 0 2 (omega arith) e)
 
-  same-first : view a .firstFree ≡ view b .firstFree
+  pub same-first : view a .firstFree ≡ view b .firstFree
   unfolding view
   same-first = ap be (header-part a b 2 2 (omega arith) e)
 
-  same-start : view a .dataStart ≡ view b .dataStart
+  pub same-start : view a .dataStart ≡ view b .dataStart
   unfolding view
   same-start = ap be (header-part a b 4 4 (omega arith) e)
 
-  same-space : view a .freeSpace ≡ view b .freeSpace
+  pub same-space : view a .freeSpace ≡ view b .freeSpace
   unfolding view
   same-space = ap be (header-part a b 8 4 (omega arith) e)
 
-same-entry : (a b : List ℕ) (k : ℕ) → view a .slotCount ≡ view b .slotCount → cut a (12 + 8 * k) 8 ≡ cut b (12 + 8 * k) 8 → view a .at k ≡ view b .at k
+pub same-entry : (a b : List ℕ) (k : ℕ) → view a .slotCount ≡ view b .slotCount → cut a (12 + 8 * k) 8 ≡ cut b (12 + 8 * k) 8 → view a .at k ≡ view b .at k
 unfolding view
 same-entry a b k n e = λ i. cond (ltb k (n i)) (slotOf (be (e i))) Free
 
