@@ -18,3 +18,4 @@ pub mod RepairKept
 pub mod RepairEntries
 pub mod RepairSeen
 pub mod RepairNamed
+pub mod RepairExamples
