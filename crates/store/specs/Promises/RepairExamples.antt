@@ -1,4 +1,4 @@
--- Repair's worked examples, those that cover the request's sentences: 9, 10, 12, 14, 15, 18, 19, 21, 22, 25, 26, 29. One table, by computation.
+-- Repair's worked examples, those that cover the request's sentences: 9, 10, 12 to 15, 18, 19, 21, 22, 25, 26, 29. One table, by computation.
 -- Repair looks at directories and back ids alone, so a page is given by its first 12 + 8 × count bytes, as the calls left them (`left-is`; for
 -- n = 3 see Examples `moved`), and bytes are set by hand. What is shown: the entries' words, and the directories or the inventory afterwards.
 use Prim.Native.Nat.{ℕ}
@@ -85,6 +85,15 @@ e12 v = record {
   want = 0 ∷ 2 ∷ 1 ∷ 0 ∷ 65535 ∷ 4 ∷ header 3 2 16372 16345 ++ (slotBytes (Ordinary 16381 3) ++ (slotBytes (Ordinary 16384 0) ++ freed));
 }
 
+-- 13. A count one too high: the leftover bytes behind the directory are read as a slot, and the upper of two records that overlap is freed
+abbrev e13 : List ℕ → Row
+e13 v = record {
+  got = shown v (put threes 1 (4 ∷ []) ++ slotBytes (Ordinary 16370 9));
+  want =
+      0 ∷ 3 ∷ 1 ∷ 0 ∷ 65535 ∷ 4 ∷ header 4 3 16372 16328
+      ++ (slotBytes (Ordinary 16381 3) ++ (slotBytes (Ordinary 16377 4) ++ (slotBytes (Ordinary 16372 5) ++ freed)));
+}
+
 -- 14. A target under 8 bytes, and one of exactly 8 that nothing names
 abbrev e14 : List ℕ → Row
 e14 v = record {
@@ -114,7 +123,7 @@ e29 v = record {
 }
 
 onOne : List ℕ → List Row
-onOne v = e9 v ∷ e10 v ∷ e12 v ∷ e14 v ∷ e21 v ∷ e25 v ∷ e29 v ∷ []
+onOne v = e9 v ∷ e10 v ∷ e12 v ∷ e13 v ∷ e14 v ∷ e21 v ∷ e25 v ∷ e29 v ∷ []
 
 -- ---- n = 3: "insert 16000, insert 100, insert 12000, write (1,0) 5000"
 
