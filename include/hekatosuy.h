@@ -11,8 +11,8 @@
  * Each function is proved to meet its contract (crates/hekatosuy): for every segment, inventory and argument it answers one of the
  * numbers below and leaves each byte as the contract says. A call that is refused leaves segment and inventory as they were.
  *
- * The pointer before a length points to so many bytes, and no pointer is null, also where the length is 0. What one call is lent to
- * write (segment, inventory and the single numbers) overlaps nothing else that it is lent.
+ * The pointer before a length points to so many bytes (entries: to so many uint64_t), and no pointer is null, also where the length is 0. What one call is lent to
+ * write (segment, inventory, entries and the single numbers) overlaps nothing else that it is lent.
  *
  * A program, whole:
  *
@@ -55,7 +55,7 @@ enum {
 
 /*
  * What a call answers. Where several refusals hold, this is their order: 1, 3, 2, 4 for the id's own page, 5, 6, 4 for a target, 7,
- * 4 for a new page, 8.
+ * 4 for a new page, 8. hk_repair answers 0, 1 or 11.
  */
 enum {
     HK_DONE = 0,      /* the call is carried out */
@@ -66,7 +66,8 @@ enum {
     HK_NONE = 5,      /* the id's slot is at or past the page's slot count, or free */
     HK_FORWARDED = 6, /* write, resize or erase by the id of the place that a record was moved to, and not by its own */
     HK_FULL = 7,      /* the inventory names no page with so much room */
-    HK_STALE = 8      /* the inventory names a page that has not the room: it is not true */
+    HK_STALE = 8,     /* the inventory names a page that has not the room: it is not true */
+    HK_ROOM = 11      /* repair: the list has fewer places than there are changes */
 };
 
 /* A new record with these bytes. Its id is written when the answer is 0, and else left as it was. */
@@ -108,6 +109,42 @@ uint64_t hk_erase_record(uint8_t *segment, size_t segment_length, uint8_t *inven
  */
 uint64_t hk_scan_step(const uint8_t *segment, size_t segment_length, uint64_t *position, uint64_t *found, uint64_t *id,
                       uint64_t *offset, uint64_t *length);
+
+/* What the place of repair's entry is when it is not a slot. */
+enum { HK_AT_HEADER = 65535, HK_AT_INVENTORY = 65536 };
+
+/* What repair did. */
+enum {
+    HK_RECORD_FREED = 1,        /* slot: its record did not lie as it must */
+    HK_REDIRECT_FREED = 2,      /* slot: its redirect had no target pointing back */
+    HK_MADE_ORDINARY = 3,       /* slot: a target without its redirect, kept under its own id */
+    HK_HEADER_WORKED_OUT = 4,   /* header: one or more of its numbers */
+    HK_HEADER_ZEROED = 5,       /* header: the page is lost, and fresh now */
+    HK_INVENTORY_WORKED_OUT = 6 /* inventory */
+};
+
+/*
+ * Keeps what can be kept of a segment and its inventory, whatever their bytes are, and tells what it touched. Afterwards the segment is
+ * sound: no call answers 4 or 8 on it. What could be read before reads the same. A sound one gets no entry and keeps each byte.
+ *
+ * A page whose slot count no page can have, or is 0 without a fresh page's header, is lost: its header becomes zero. On every other page
+ * the slots are gone through upward. A record that leaves its page, reaches into the directory or overlaps a record kept before it is
+ * freed, and so is a target under 8 bytes. A redirect is freed unless its target is kept, on another page, and points back; a target that
+ * no kept redirect names becomes a record of its own, under its own id. Header numbers that are wrong are worked out anew, the inventory
+ * last. No byte of a record is touched or moved.
+ *
+ * An entry is three words of `entries`: page, place, what was done. The place is a slot's number or HK_AT_HEADER; HK_AT_INVENTORY comes
+ * with the number of pages. There is one for each slot, header and inventory that changed and no other, ascending by page and place. With 0
+ * `count` is how many there are, and the words behind them stay. With 11 it is how many there would be, and nothing is changed, nor with 1,
+ * where `count` is 0. `entries_length` counts words: 3 * (2047 * pages + 1) always suffice.
+ *
+ * Lent a list of no words it changes nothing and is a check: 0 exactly if the segment is sound.
+ *
+ * It cannot see a row whose bytes were changed, an entry that is wrong but lies well, or a header that became that of a fresh page: of
+ * that only the inventory's entry hints. It does not tell the old bytes: keep a copy of the segment before.
+ */
+uint64_t hk_repair(uint8_t *segment, size_t segment_length, uint8_t *inventory, size_t inventory_length, uint64_t *entries,
+                   size_t entries_length, uint64_t *count);
 
 #ifdef __cplusplus
 }

@@ -1,5 +1,5 @@
 /*
- * The calls from C: document 01's cases of the segment, refusals of each kind, and the scan. Prints one line a case, and what differs.
+ * The calls from C: document 01's cases of the segment, refusals of each kind, the scan, and repair. Prints one line a case, and what differs.
  */
 #include "hekatosuy.h"
 
@@ -307,6 +307,94 @@ static void wiped_count(void) {
     end("a wiped count");
 }
 
+enum { WORDS = 3 * (2047 * PAGES + 1) };
+
+static uint64_t entries[WORDS];
+static uint8_t old_segment[PAGES * PAGE], old_inventory[PAGE];
+
+static void set_bytes(size_t at, const char *bytes, size_t length) {
+    memcpy(segment + at, bytes, length);
+}
+
+/* Repairs, lent so many words. */
+static void repair(size_t words, uint64_t answer, uint64_t count) {
+    uint64_t told = 77;
+    memcpy(old_segment, segment, sizeof segment);
+    memcpy(old_inventory, inventory, sizeof inventory);
+    for (size_t k = 0; k < WORDS; k++) entries[k] = 77;
+    expect("repair", hk_repair(segment, segment_length, inventory, PAGE, entries, words, &told), answer);
+    expect("repair's count", told, count);
+    for (size_t k = answer == HK_DONE ? 3 * count : 0; k < WORDS; k++) expect("a word behind the entries", entries[k], 77);
+    if (answer == HK_DONE && count != 0) return;
+    expect("repair changed the segment", memcmp(old_segment, segment, sizeof segment) != 0, 0);
+    expect("repair changed the inventory", memcmp(old_inventory, inventory, sizeof inventory) != 0, 0);
+}
+
+static void told(size_t number, uint64_t page, uint64_t place, uint64_t what) {
+    expect("entry's page", entries[3 * number], page);
+    expect("entry's place", entries[3 * number + 1], place);
+    expect("what was done", entries[3 * number + 2], what);
+}
+
+/* "The lower slot is kept; what overlaps only a freed record is kept too." Lent too few words it changes nothing. */
+static void overlapped(void) {
+    begin(1);
+    insert(3, 1, HK_DONE, 0);
+    insert(4, 2, HK_DONE, 1);
+    insert(5, 3, HK_DONE, 2);
+    repair(0, HK_DONE, 0);
+    set_bytes(20, "\0\0\x3F\xFB\0\0\0\4", 8);
+    set_bytes(28, "\0\0\x3F\xF8\0\0\0\5", 8);
+    repair(0, HK_ROOM, 2);
+    repair(5, HK_ROOM, 2);
+    repair(6, HK_DONE, 2);
+    told(0, 0, 1, HK_RECORD_FREED);
+    told(1, 0, HK_AT_HEADER, HK_HEADER_WORKED_OUT);
+    slot(0, 1, 0x4000000000000000);
+    header(0, 3, 1, 16372, 16340);
+    repair(0, HK_DONE, 0);
+    read_refused(1, HK_NONE);
+    end("repair: records that overlap, and a list that is too short");
+}
+
+/* "The target's page is lost": its redirect is freed with it; and the root's page, whose target becomes a record of its own. */
+static void lost_pages(void) {
+    begin_forwarded();
+    segment[2 * PAGE] = segment[2 * PAGE + 1] = 0xFF;
+    repair(WORDS, HK_DONE, 4);
+    told(0, 1, 0, HK_REDIRECT_FREED);
+    told(1, 1, HK_AT_HEADER, HK_HEADER_WORKED_OUT);
+    told(2, 2, HK_AT_HEADER, HK_HEADER_ZEROED);
+    told(3, 3, HK_AT_INVENTORY, HK_INVENTORY_WORKED_OUT);
+    header(1, 2, 0, 4284, 4356);
+    header(2, 0, 0, 0, 0);
+    begin_forwarded();
+    segment[PAGE] = segment[PAGE + 1] = 0;
+    repair(WORDS, HK_DONE, 4);
+    told(0, 1, HK_AT_HEADER, HK_HEADER_ZEROED);
+    told(1, 2, 0, HK_MADE_ORDINARY);
+    told(2, 2, HK_AT_HEADER, HK_HEADER_WORKED_OUT);
+    told(3, 3, HK_AT_INVENTORY, HK_INVENTORY_WORKED_OUT);
+    slot(2, 0, 0x00002C7800001388);
+    read_back(id_of(2, 0), 2 * PAGE + 11384, 5000, 4, 5000);
+    repair(0, HK_DONE, 0);
+    end("repair: a target's page lost, and a root's");
+}
+
+static void repair_refused(void) {
+    begin(2);
+    insert(10, 1, HK_DONE, 0);
+    segment[11]++;
+    segment_length--;
+    repair(0, HK_SIZE, 0);
+    repair(WORDS, HK_SIZE, 0);
+    segment_length = 0;
+    repair(WORDS, HK_DONE, 1);
+    told(0, 0, HK_AT_INVENTORY, HK_INVENTORY_WORKED_OUT);
+    expect("an inventory of no pages", inventory[120], 0);
+    end("repair: sizes, and no pages");
+}
+
 static void widest(void) {
     size_t whole = (size_t)HK_MAX_PAGES * PAGE;
     uint8_t *pages = calloc(HK_MAX_PAGES + 1, PAGE);
@@ -322,6 +410,13 @@ static void widest(void) {
     expect("no id", id, 77);
     expect("the most pages", hk_insert_record(pages, whole, inventory, PAGE, record, 3, &id), HK_DONE);
     expect("the first id", id, 0);
+    expect("the most pages, checked", hk_repair(pages, whole, inventory, PAGE, entries, 0, &id), HK_DONE);
+    pages[whole - PAGE] = 0xFF;
+    expect("the last page damaged", hk_repair(pages, whole, inventory, PAGE, entries, WORDS, &id), HK_DONE);
+    expect("one entry", id, 1);
+    told(0, HK_MAX_PAGES - 1, HK_AT_HEADER, HK_HEADER_ZEROED);
+    expect("one page too many", hk_repair(pages, whole + PAGE, inventory, PAGE, entries, WORDS, &id), HK_SIZE);
+    expect("no entry", id, 0);
     free(pages);
     end("the most pages, and one more");
 }
@@ -349,6 +444,9 @@ int main(void) {
     written_between_steps();
     impossible_count();
     wiped_count();
+    overlapped();
+    lost_pages();
+    repair_refused();
     widest();
     nothing_lent();
     return faults != 0;

@@ -1,8 +1,11 @@
-// A small archive: the rows of a fringe map go in, are listed, one is read back, one is erased, and they are listed again.
+// A small archive: the rows of a fringe map go in, are listed, one is read back, one is erased, and they are listed again. Then a crash
+// damages a page, and repair keeps what can be kept and tells what it touched.
 mod map;
 
+use print::named;
 use print::say;
 use store::PAGE_SIZE;
+use store::Repair;
 
 fn insert_row(segment: &mut [u8], inventory: &mut [u8], y: usize) {
     let mut row = [0u8; 41];
@@ -17,6 +20,34 @@ fn insert_map(segment: &mut [u8], inventory: &mut [u8]) {
         insert_row(segment, inventory, y);
         y = y + 1;
     }
+}
+
+fn repair(segment: &mut [u8], inventory: &mut [u8]) {
+    let mut entries = [0u64; 30];
+    if let Repair::Done { count } = segment_repair::repair(segment, inventory, &mut entries) {
+        named(b"  changes: ", count as u64);
+        say(b"\n");
+        print_entries::list(&entries, count, b"  ");
+    } else {
+        say(b"  refused\n");
+    }
+}
+
+// Slot 5's entry begins at byte 52: its offset, of 4 bytes, then its length.
+fn crash(segment: &mut [u8], inventory: &mut [u8]) {
+    say(
+        b"A crash: one byte of page 0's directory is overwritten, so that the row (0,5) would overlap (0,4).\n",
+    );
+    say(b"No row of that page is handed out now (4: damaged):\n");
+    segment[55] = 0x40;
+    print_rows::read(segment, 2);
+    say(b"Repair keeps what can be kept, and tells what it touched:\n");
+    repair(segment, inventory);
+    say(b"The row (0,2), and the row (0,5), which is gone:\n");
+    print_rows::read(segment, 2);
+    print_rows::read(segment, 5);
+    say(b"A second repair finds nothing to do: the archive is sound.\n");
+    repair(segment, inventory);
 }
 
 fn main() {
@@ -34,4 +65,5 @@ fn main() {
     print_rows::read(&segment, 3);
     say(b"What a scan lists now:\n");
     print_rows::list(&segment);
+    crash(&mut segment, &mut inventory);
 }

@@ -104,7 +104,7 @@ one-shl a h = shl-exact {a = 1} 1 a 64 (omega arith) (omega arith) ∙ one-mul (
 -- ---- one word
 
 module _ (u : List ℕ) (i a b m : ℕ) (mask : Mask m a b) (top : b ≤ 64) (inside : i < length u) where
-  word-clear : Clear u (64 * i + a) (64 * i + b) → bitAnd (getD u i 0) m ≡ 0
+  pub word-clear : Clear u (64 * i + a) (64 * i + b) → bitAnd (getD u i 0) m ≡ 0
   unfolding mark
   word-clear h = no-bits (bitAnd (getD u i 0) m) (bitAnd (getD u i 0) m) (omega arith) (λ j. bit-and j (getD u i 0) m ∙ go j (decLe a j) (decLt j b))
     where
@@ -117,7 +117,7 @@ module _ (u : List ℕ) (i a b m : ℕ) (mask : Mask m a b) (top : b ≤ 64) (in
       go j (yes f) (no g) = ap (min (bit j (getD u i 0))) (mask .outside j (λ _ l. g l)) ∙ min-zero (bit j (getD u i 0))
       go j (no f) g = ap (min (bit j (getD u i 0))) (mask .outside j (λ l _. f l)) ∙ min-zero (bit j (getD u i 0))
 
-  claimed-word : bitAnd (getD u i 0) m ≡ 0 → Claimed u (set u i (bitOr (getD u i 0) m)) (64 * i + a) (64 * i + b)
+  pub claimed-word : bitAnd (getD u i 0) m ≡ 0 → Claimed u (set u i (bitOr (getD u i 0) m)) (64 * i + a) (64 * i + b)
   unfolding mark
   claimed-word h = record { clear = clear; taken = taken; keeps = λ x f. keeps x f (ℕ-discrete (x / 64) i) }
     where

@@ -1,9 +1,12 @@
 -- One bit for each byte of the page, in 256 words.
-use Prim.Native.Nat.{ℕ, zero, suc, _/_, _%_, _≤_, _<_}
+use Prim.Native.Nat.{ℕ, zero, suc, _+_, _/_, _%_, _≤_, _<_}
 use mathlib.Core.Path.{_≡_}
 use mathlib.Core.Bool.{Bool, true}
 use mathlib.Core.List.{List}
 use lib.ListN.{getD}
+use Rattle.store.specs.Slots.{off, len}
+use Rattle.store.specs.Page.{View}
+use Rattle.store.specs.declared.Slot.{Slot}
 use Rattle.page_check.specs.Fit.{Tells}
 
 -- bit j of x
@@ -37,3 +40,12 @@ pub record Claimed (u v : List ℕ) (o e : ℕ) : Type 0 where
 pub record Claims (r : Bool) (A : Type 0) (u v : List ℕ) (o e : ℕ) : Type 0 where
   pub tells : Tells r A
   pub claimed : r ≡ true → Claimed u v o e
+
+-- byte i is of the record of s
+abbrev pub Covers : Slot → ℕ → Type 0
+Covers s i = (off s ≤ i) × (i < off s + len s)
+
+-- the bytes of the records of the slots in P are marked, and no others
+pub record Marked (v : View) (P : ℕ → Type 0) (u : List ℕ) : Type 0 where
+  pub taken : (i j : ℕ) → P j → Covers (v .at j) i → mark u i ≡ 1
+  pub idle : (i : ℕ) → ((j : ℕ) → P j → Covers (v .at j) i → ⊥) → mark u i ≡ 0

@@ -1,13 +1,13 @@
 -- Which records of a page are kept, as the code notes it: bytes on a map, and for each slot a number.
-use Prim.Native.Nat.{ℕ, _+_, _≤_, _<_}
+use Prim.Native.Nat.{ℕ, _≤_, _<_}
 use mathlib.Core.Path.{_≡_}
 use mathlib.Core.Bool.{true, cond}
 use mathlib.Core.List.{List}
 use lib.ListN.{length, getD}
-use Rattle.store.specs.Slots.{off, len, isRecord}
+use Rattle.store.specs.Slots.{isRecord}
 use Rattle.store.specs.Page.{View, view}
 use Rattle.store.specs.Repair.{keptBelow, isIn, keeps}
-use Rattle.page_check.specs.Map.{mark}
+use Rattle.page_check.specs.Map.{Marked}
 
 -- a page of c slots, of which none is past its end
 pub record CountedPage (p : List ℕ) (c : ℕ) : Type 0 where
@@ -15,11 +15,14 @@ pub record CountedPage (p : List ℕ) (c : ℕ) : Type 0 where
   pub counted : c ≡ view p .slotCount
   pub few : c ≤ 2046
 
--- the bytes of the records that are kept below slot k are marked, and no others
+-- slot j is one of those below k whose record is kept
+abbrev pub KeptIn : View → ℕ → ℕ → Type 0
+KeptIn v k j = isIn j (keptBelow v k) ≡ true
+
+-- the bytes of their records are marked, and no others
 pub record KeptMarks (v : View) (k : ℕ) (u : List ℕ) : Type 0 where
   pub words : length u ≡ 256
-  pub taken : (i j : ℕ) → isIn j (keptBelow v k) ≡ true → off (v .at j) ≤ i → i < off (v .at j) + len (v .at j) → mark u i ≡ 1
-  pub idle : (i : ℕ) → ((j : ℕ) → isIn j (keptBelow v k) ≡ true → off (v .at j) ≤ i → i < off (v .at j) + len (v .at j) → ⊥) → mark u i ≡ 0
+  pub marked : Marked v (KeptIn v k) u
 
 -- 1 for a record that is not kept
 abbrev pub judgedNo : View → ℕ → ℕ

@@ -9,10 +9,11 @@ use store::PAGE_SIZE;
 use store::ROOM;
 use store::Slot;
 ghost use mathlib.Core.Path.{_≡_};
-ghost use mathlib.Core.Bool.{not};
-ghost use Prim.Native.Nat.{_-_, _*_, _^_, _≤_, _<_};
+ghost use mathlib.Core.Bool.{cond, not, _&&_};
+ghost use Prim.Native.Nat.{_+_, _-_, _*_, _^_, _≤_, _<_, min};
 ghost use lib.ListN.{length};
-ghost use Rattle.store.specs.Slots.{len};
+ghost use lib.Dec.{eqb, leb};
+ghost use Rattle.store.specs.Slots.{off, len, isFree};
 ghost use Rattle.store.specs.Page.{view};
 ghost use Rattle.store.specs.Repair.{slotDone, mendedBy, sameHead, putSlots, putMended};
 ghost use Rattle.store.specs.Laws.Slots.{Codable};
@@ -58,34 +59,52 @@ fn slot_done(d: u8, s: Slot) -> Slot
     }
 }
 
-// One slot more, the k-th, whose entry becomes s by the deed d.
+// With one slot more, the k-th, whose entry becomes s by the deed d: the first free slot, the lowest offset, how many change, and all of them.
+fn first_with(first: usize, k: usize, s: Slot) -> usize
+    requires { ⌜ k < 2046 ⌝ }
+    ensures { λ r. ⌜ r ≡ cond (eqb first k && not (isFree s)) (k + 1) first ⌝ }
+{
+    if first != k {
+        return first;
+    }
+    if layout::slots::is_free(s) {
+        return first;
+    }
+    k + 1
+}
+
+fn low_with(low: usize, s: Slot) -> usize
+    ensures { λ r. ⌜ r ≡ cond (eqb (len s) 0) low (min (off s) low) ⌝ }
+{
+    if len_of(s) == 0 {
+        return low;
+    }
+    let o = off_of(s);
+    if o < low {
+        return o;
+    }
+    low
+}
+
+fn changes_with(changes: usize, d: u8) -> usize
+    requires { ⌜ changes < 2046 ⌝ }
+    ensures { λ r. ⌜ r ≡ cond (eqb d 0) changes (changes + 1) ⌝ }
+{
+    if d == 0 {
+        return changes;
+    }
+    changes + 1
+}
+
 fn gather_slot(r: Numbers, k: usize, d: u8, s: Slot) -> Numbers
     requires { ⌜ (k < 2046) × (r .changes ≤ k) × (r .total ≤ k * 2 ^ 32) × (len s < 2 ^ 32) ⌝ }
     ensures { λ t. ⌜ t ≡ gathered r k d s ⌝ }
 {
-    let l = len_of(s);
-    let o = off_of(s);
-    let mut first = r.first;
-    if first == k {
-        if !layout::slots::is_free(s) {
-            first = k + 1;
-        }
-    }
-    let mut low = r.low;
-    if l != 0 {
-        if o < low {
-            low = o;
-        }
-    }
-    let mut changes = r.changes;
-    if d != 0 {
-        changes += 1;
-    }
     Numbers {
-        changes,
-        first,
-        low,
-        total: r.total + l,
+        changes: changes_with(r.changes, d),
+        first: first_with(r.first, k, s),
+        low: low_with(r.low, s),
+        total: r.total + len_of(s),
     }
 }
 
@@ -110,21 +129,28 @@ pub fn gather(page: &[u8], n: usize, deeds: &[u8]) -> Numbers
     r
 }
 
-// "Header numbers that break the sound-page rule are worked out anew, data start as the lowest offset of a record of positive length".
+// "data start as the lowest offset of a record of positive length", where it is below the directory's end or above that offset.
+fn start_with(d: usize, dir: usize, low: usize) -> usize
+    ensures { λ r. ⌜ r ≡ cond (leb dir d && leb d low) d low ⌝ }
+{
+    if d < dir {
+        return low;
+    }
+    if low < d {
+        return low;
+    }
+    d
+}
+
+// "Header numbers that break the sound-page rule are worked out anew".
 pub fn header_after(page: &[u8], n: usize, r: Numbers) -> Header
     requires { ⌜ CountedPage (now page) n × (r .total ≤ n * 2 ^ 32) ⌝ }
     ensures { λ h. ⌜ h ≡ headAfter (view (now (page .entry))) r ⌝ }
 {
-    let mut start = layout::header::get_data_start(page);
-    if start < HEADER + ENTRY * n {
-        start = r.low;
-    }
-    if r.low < start {
-        start = r.low;
-    }
+    let d = layout::header::get_data_start(page);
     Header {
         first: r.first,
-        start,
+        start: start_with(d, HEADER + ENTRY * n, r.low),
         space: less(ROOM, ENTRY * n + r.total),
     }
 }

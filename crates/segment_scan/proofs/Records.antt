@@ -1,5 +1,5 @@
 -- A record that the scan answers: how it lies, and its step.
-use Prim.Native.Nat.{ℕ, _+_, _-_, _*_, _≤_, _<_}
+use Prim.Native.Nat.{ℕ, _+_, _-_, _*_, _≤_}
 use mathlib.Core.Path.{_≡_, refl, sym, ap, subst, _∙_}
 use mathlib.Core.Bool.{Bool, true, false, not, _&&_, _||_}
 use mathlib.Core.List.{List}
@@ -15,7 +15,6 @@ use Rattle.store.specs.PageSteps.{initialised}
 use Rattle.store.specs.Segment.{segView, pageOf, partOn}
 use Rattle.store.specs.Scan.{Scanned, without, overPage, recordAt}
 use Rattle.store.specs.Answers.{scannedOf}
-use Rattle.store.specs.Laws.Slots.{Codable}
 use Rattle.store.specs.Laws.SoundPage.{and-both, in-page}
 use Rattle.store.specs.Laws.Cases.{by-test}
 use Rattle.store.specs.Laws.Parts.{ordinary-part, target-part}
@@ -27,12 +26,6 @@ use Rattle.segment_pages.proofs.Seen.{target-head}
 use Rattle.segment_scan.specs.Pages.{liesAt, wellAt, recordOr, isEnd}
 
 -- ---- how a record lies
-
-pub codable-position : (s : Slot) → Codable s → off s + len s < 8589934592
-codable-position (Ordinary o l) c = omega arith
-codable-position Free c = omega arith
-codable-position (Redirect i) c = omega arith
-codable-position (Target o l) c = omega arith
 
 module _ (d o l : ℕ) (s : Slot) (offset : o ≡ off s) (long : l ≡ len s) where
   well-same : wellAt d s ≡ (liesAt d o l && (not (isTarget s) || leb 8 l))

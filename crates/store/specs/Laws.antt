@@ -33,11 +33,14 @@ pub mod Rows
 pub mod Grown
 pub mod Blank
 pub mod RepairPage
+pub mod RepairKept
 pub mod RepairBytes
 pub mod RepairPairs
 pub mod RepairInventory
 pub mod Repair
 pub mod RepairAlone
+pub mod RepairQuiet
+pub mod RepairMixed
 pub mod RepairCall
 pub mod RepairReads
 pub mod RepairEntries

@@ -4,7 +4,7 @@
 //! The stack below the caller is painted before each call; what is no longer painted afterwards was
 //! used. The crate's own frames are counted as well.
 
-use hekatosuy::{SlottedPageSegment, SlottedPages};
+use hekatosuy::{SlottedPageSegment, SlottedPages, Touched};
 use judge::sequence::{any_style, few_pages, Event, Sequence};
 use std::arch::asm;
 use std::hint::black_box;
@@ -36,8 +36,8 @@ fn depth(call: &mut dyn FnMut() -> bool) -> usize {
     top + MARGIN - lowest.unwrap_or(top)
 }
 
-const CALLS: [&str; 7] =
-    ["insert_record", "allocate", "get_record", "write_record", "resize_record", "erase_record", "scan, a step"];
+const CALLS: [&str; 8] =
+    ["insert_record", "allocate", "get_record", "write_record", "resize_record", "erase_record", "scan, a step", "repair"];
 
 struct Lent {
     segment: Vec<u8>,
@@ -68,6 +68,14 @@ impl Lent {
         }
     }
 
+    /// A repair, of a copy.
+    fn repair(&self) -> usize {
+        let (mut segment, mut inventory) = (self.segment.clone(), self.inventory.clone());
+        let mut list = vec![Touched::default(); 2047 * segment.len() / PAGE_SIZE + 1];
+        let mut calls = SlottedPageSegment::new(&mut segment, &mut inventory);
+        depth(&mut || calls.repair(&mut list).is_ok())
+    }
+
     /// The deepest of the first steps.
     fn scan(&self) -> usize {
         let mut scan = SlottedPages::new(&self.segment).scan();
@@ -75,7 +83,7 @@ impl Lent {
     }
 }
 
-fn run(seed: u64, most: &mut [usize; 7]) {
+fn run(seed: u64, most: &mut [usize; 8]) {
     let n = few_pages(seed);
     let mut lent = Lent { segment: vec![0; n * PAGE_SIZE], inventory: vec![0; PAGE_SIZE] };
     let mut sequence = Sequence::new(seed, any_style(seed), n, 100);
@@ -85,14 +93,17 @@ fn run(seed: u64, most: &mut [usize; 7]) {
                 let (kind, depth) = lent.call(call);
                 most[kind] = most[kind].max(depth);
             }
-            Event::Pokes(pokes) => pokes.iter().for_each(|poke| poke.apply(&mut lent.segment, &mut lent.inventory)),
+            Event::Pokes(pokes) => {
+                pokes.iter().for_each(|poke| poke.apply(&mut lent.segment, &mut lent.inventory));
+                most[7] = most[7].max(lent.repair());
+            }
         }
     }
 }
 
 fn main() {
     let measured = std::thread::Builder::new().stack_size(STACK).spawn(|| {
-        let mut most = [0; 7];
+        let mut most = [0; 8];
         (1..=SEQUENCES).for_each(|seed| run(seed, &mut most));
         most
     });

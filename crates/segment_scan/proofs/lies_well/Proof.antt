@@ -2,7 +2,8 @@
 use mathlib.Core.Path.{sym, _∙_}
 use native.Mathlib.Omega.{arith}
 use borrow.Author.Tests.{not-true, not-false}
-use Rattle.segment_scan.proofs.Records.{codable-position, well-no, well-plain, well-target}
+use Rattle.store.specs.Laws.Slots.{codable-position}
+use Rattle.segment_scan.proofs.Records.{well-no, well-plain, well-target}
 use borrow.Author.Needs.{needs}
 use Rattle.segment_scan.proofs.lies_well.Statement.{statement}
 use Rattle.segment_scan.proofs.lies_well.Tie as tie

@@ -16,10 +16,9 @@ use Rattle.store.specs.PageSteps.{putHead, nextFree}
 use Rattle.store.specs.Inventory.{Truth}
 use Rattle.store.specs.Segment.{SegView, segView, pageOf, sizeOk, invOk}
 use Rattle.store.specs.SoundSegment.{slotOn, Paired, classes, SoundSegment}
-use Rattle.store.specs.Repair.{standing, lost, lies, keeps, holds, named, deedBy, deed, changes, slotDone, slotAfter, lowest, startAfter, spaceAfter}
+use Rattle.store.specs.Repair.{standing, lost, lies, keeps, holds, named, deedBy, deed, changes, slotAfter, lowest, startAfter, spaceAfter}
 use Rattle.store.specs.Repair.{mended, segAfter, sameHead, putSlots, putMended, pageBytes, segBytes, trueOf, sameInv, invAfter, Entry, entry, deedNo}
 use Rattle.store.specs.Repair.{slotEntries, headEntries, pageEntries, segEntries, invEntries, entries, words, Repaired, repairStep, mendedBy}
-use Rattle.store.specs.declared.Deed.{Deed}
 use Rattle.store.specs.declared.Deed.the-variants.{Stays, RecordFreed, RedirectFreed, MadeOrdinary}
 use Rattle.store.specs.Laws.Cases.{by-test, never, or-in, or-out}
 use Rattle.store.specs.Laws.Numbers.{put-nil, put-own}
@@ -28,6 +27,7 @@ use Rattle.store.specs.Laws.SoundPage.{and-in, sound-none, fresh-none, s
 use Rattle.store.specs.Laws.Segments.{length-page}
 use Rattle.store.specs.Laws.SoundSegment.{Sized, sized}
 use Rattle.store.specs.Laws.RepairPage.{in-all, lowest-low}
+use Rattle.store.specs.Laws.RepairBytes.{same-slot}
 use Rattle.store.specs.Laws.RepairPairs.{holds-in, KeptRedirect, named-in}
 use Rattle.store.specs.Laws.RepairInventory.{classesTo, true-length, true-same}
 use Rattle.store.specs.Laws.Repair.{seen-slot, seen-bytes, seen-pages, standing-pages, standing-page}
@@ -75,7 +75,7 @@ module _ (v : View) (h : Sound v) where
       go (no l) = let e = ap isRecord (h .past j (omega arith)) in let z : _≡_ {A = ℕ} 0 1 = cc in absurd (omega arith)
 
   -- its numbers are those that are worked out
-  first-same : nextFree (v .slotCount) (v .at) 0 ≡ v .firstFree
+  pub first-same : nextFree (v .slotCount) (v .at) 0 ≡ v .firstFree
   first-same = go (decLt (nextFree (v .slotCount) (v .at) 0) (v .firstFree)) (decLt (v .firstFree) (nextFree (v .slotCount) (v .at) 0))
     where
       go : Dec (nextFree (v .slotCount) (v .at) 0 < v .firstFree) → Dec (v .firstFree < nextFree (v .slotCount) (v .at) 0)
@@ -90,7 +90,7 @@ module _ (v : View) (h : Sound v) where
           let z : _≡_ {A = ℕ} 0 1 = cc in absurd (omega arith)
       go (no l) (no m) = omega arith
 
-  start-same : startAfter (v .slotCount) (v .dataStart) (v .at) ≡ v .dataStart
+  pub start-same : startAfter (v .slotCount) (v .dataStart) (v .at) ≡ v .dataStart
   start-same =
       rw (
         le-leb (12 + 8 * v .slotCount) (v .dataStart) (h .dir),
@@ -98,7 +98,7 @@ module _ (v : View) (h : Sound v) where
             (lowest-low (v .slotCount) (v .at) (v .dataStart) (h .start≤) (λ j l s. h .low j s)),
       )
 
-  space-same : spaceAfter (v .slotCount) (v .at) ≡ v .freeSpace
+  pub space-same : spaceAfter (v .slotCount) (v .at) ≡ v .freeSpace
   space-same = omega (arith, h .sums)
 
 -- ---- a page whose slots all stay
@@ -120,7 +120,7 @@ module _ (u : SegView) (p : ℕ) where
       ap (λ (b : Bool). slotEntries (deed u p) p n ++ cond b (entry p n (deedNo (deed u p n)) ∷ []) []) (h n (omega arith))
       ∙ ap (λ (es : List Entry). es ++ []) (none-told n (λ k l. h k (omega arith)))
 
-  abbrev Quiet : Type 0
+  abbrev pub Quiet : Type 0
   Quiet = ((k : ℕ) → k < u .page p .slotCount → changes (deed u p k) ≡ false) × (sameHead (u .page p) (mended u p) ≡ true)
 
   pub quiet-bytes : (q : List ℕ) → lost (u .page p) ≡ false → (fresh (u .page p) ≡ false → Quiet) → pageBytes u p q ≡ q
@@ -183,6 +183,31 @@ module _ (u : SegView) (p : ℕ) where
           → (lost (u .page p) ≡ false) × (fresh (u .page p) ≡ false → Quiet)
       go true l e = let z : _≡_ {A = ℕ} 0 1 = cc in absurd (omega arith)
       go false l e = (l, used (fresh (u .page p)) refl e)
+
+-- a sound page of which no slot changes keeps its header
+module _ (u : SegView) (p : ℕ) (w : Sound (u .page p)) (h : (k : ℕ) → k < u .page p .slotCount → changes (deed u p k) ≡ false) where
+  pub same-at : slotAfter u p ≡ u .page p .at
+  same-at = λ i k. each k (decLt k (u .page p .slotCount)) i
+    where
+      each : (k : ℕ) → Dec (k < u .page p .slotCount) → slotAfter u p k ≡ u .page p .at k
+      each k (yes m) = same-slot (deed u p k) (u .page p .at k) (h k m)
+      each k (no m) = past-same u p k (w .past k (omega arith))
+
+  pub quiet-by : Quiet u p
+  unfolding mendedBy
+  quiet-by =
+      let e = same-at in
+      let c : ℕ = u .page p .slotCount in (
+        h,
+        and-in (eqb (u .page p .firstFree) (nextFree c (slotAfter u p) 0))
+            (eqb (u .page p .dataStart) (startAfter c (u .page p .dataStart) (slotAfter u p)) && eqb (u .page p .freeSpace) (spaceAfter c (slotAfter u p)))
+            (eq-eqb (u .page p .firstFree) (nextFree c (slotAfter u p) 0) (sym (ap (λ (g : ℕ → Slot). nextFree c g 0) e ∙ first-same (u .page p) w)))
+            (and-in (eqb (u .page p .dataStart) (startAfter c (u .page p .dataStart) (slotAfter u p)))
+            (eqb (u .page p .freeSpace) (spaceAfter c (slotAfter u p)))
+            (eq-eqb (u .page p .dataStart) (startAfter c (u .page p .dataStart) (slotAfter u p))
+            (sym (ap (λ (g : ℕ → Slot). startAfter c (u .page p .dataStart) g) e ∙ start-same (u .page p) w)))
+            (eq-eqb (u .page p .freeSpace) (spaceAfter c (slotAfter u p)) (sym (ap (λ (g : ℕ → Slot). spaceAfter c g) e ∙ space-same (u .page p) w)))),
+      )
 
 -- ---- all pages
 
@@ -307,29 +332,8 @@ module _ (s v : List ℕ) (h : SoundSegment s v) where
           ap (λ (b : Bool). cond b (cond (named u (idOf p k)) Stays MadeOrdinary) RecordFreed) (all-kept (u .page p) w k (ap isRecord e))
           ∙ ap (λ (b : Bool). cond b Stays MadeOrdinary) q
 
-  same-at : (p : ℕ) → p < length s / 16384 → fresh (u .page p) ≡ false → slotAfter u p ≡ u .page p .at
-  same-at p l f = λ i k. each k (decLt k (u .page p .slotCount)) i
-    where
-      each : (k : ℕ) → Dec (k < u .page p .slotCount) → slotAfter u p k ≡ u .page p .at k
-      each k (yes m) = ap (λ (d : Deed). slotDone d (u .page p .at k)) (all-stay p k l f m)
-      each k (no m) = past-same u p k (in-use p l f .past k (omega arith))
-
   quiet : (p : ℕ) → p < length s / 16384 → fresh (u .page p) ≡ false → Quiet u p
-  unfolding mendedBy
-  quiet p l f =
-      let w = in-use p l f in
-      let e = same-at p l f in
-      let c : ℕ = u .page p .slotCount in (
-        λ k m. ap changes (all-stay p k l f m),
-        and-in (eqb (u .page p .firstFree) (nextFree c (slotAfter u p) 0))
-            (eqb (u .page p .dataStart) (startAfter c (u .page p .dataStart) (slotAfter u p)) && eqb (u .page p .freeSpace) (spaceAfter c (slotAfter u p)))
-            (eq-eqb (u .page p .firstFree) (nextFree c (slotAfter u p) 0) (sym (ap (λ (g : ℕ → Slot). nextFree c g 0) e ∙ first-same (u .page p) w)))
-            (and-in (eqb (u .page p .dataStart) (startAfter c (u .page p .dataStart) (slotAfter u p)))
-            (eqb (u .page p .freeSpace) (spaceAfter c (slotAfter u p)))
-            (eq-eqb (u .page p .dataStart) (startAfter c (u .page p .dataStart) (slotAfter u p))
-            (sym (ap (λ (g : ℕ → Slot). startAfter c (u .page p .dataStart) g) e ∙ start-same (u .page p) w)))
-            (eq-eqb (u .page p .freeSpace) (spaceAfter c (slotAfter u p)) (sym (ap (λ (g : ℕ → Slot). spaceAfter c g) e ∙ space-same (u .page p) w)))),
-      )
+  quiet p l f = quiet-by u p (in-use p l f) (λ k m. ap changes (all-stay p k l f m))
 
   pub alone-bytes : segBytes u (length s / 16384) s ≡ s
   alone-bytes = all-bytes u (length s / 16384) s (omega (arith, z .whole)) (λ p l. quiet-bytes u p (pageOf s p) (not-lost p l) (quiet p l))

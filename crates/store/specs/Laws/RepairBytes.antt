@@ -151,7 +151,7 @@ shown-page q whole =
       lens = λ j h. length-take (len (slotAt q j)) (drop (off (slotAt q j)) q) ∙ omega (arith, length-drop (off (slotAt q j)) q);
     }
 
-same-slot : (d : Deed) (x : Slot) → changes d ≡ false → slotDone d x ≡ x
+pub same-slot : (d : Deed) (x : Slot) → changes d ≡ false → slotDone d x ≡ x
 same-slot Stays x e = refl
 same-slot RecordFreed x e = let z : _≡_ {A = ℕ} 0 1 = cc in absurd (omega arith)
 same-slot RedirectFreed x e = let z : _≡_ {A = ℕ} 0 1 = cc in absurd (omega arith)

@@ -81,7 +81,7 @@ true-is w n few (suc p) l =
 
 -- ---- the same inventory
 
-same-is : (xs ys : List ℕ) → sameBytes xs ys ≡ true → xs ≡ ys
+pub same-is : (xs ys : List ℕ) → sameBytes xs ys ≡ true → xs ≡ ys
 same-is [] [] e = refl
 same-is [] (y ∷ ys) e = let z : _≡_ {A = ℕ} 0 1 = cc in absurd (omega arith)
 same-is (x ∷ xs) [] e = let z : _≡_ {A = ℕ} 0 1 = cc in absurd (omega arith)

@@ -62,7 +62,7 @@ page-most u p = go (lost (u .page p)) refl (fresh (u .page p)) refl
         let a = length-append (slotEntries (deed u p) p (u .page p .slotCount)) (headEntries (deed u p) (u .page p) p) in
         omega (arith, slots-most u p (u .page p .slotCount), head (sameHead (u .page p) (mended u p)) (entry p 65535 4), used (u .page p) l f)
 
-seg-most : (u : SegView) (n : ℕ) → length (segEntries u n) ≤ 2047 * n
+pub seg-most : (u : SegView) (n : ℕ) → length (segEntries u n) ≤ 2047 * n
 unfolding segEntries
 seg-most u zero = omega arith
 seg-most u (suc n) = let a = length-append (segEntries u n) (pageEntries u n) in omega (arith, seg-most u n, page-most u n)

@@ -50,7 +50,7 @@ in-cons j k ks e = go (or-true (eqb j k) (isIn j ks) e)
     go (inl a) = inl (eqb-true j k a)
     go (inr b) = inr b
 
-clear-at : (v : View) (k : ℕ) (js : List ℕ) → clear v k js ≡ true → (j : ℕ) → isIn j js ≡ true → apart v j k ≡ true
+pub clear-at : (v : View) (k : ℕ) (js : List ℕ) → clear v k js ≡ true → (j : ℕ) → isIn j js ≡ true → apart v j k ≡ true
 clear-at v k [] c j e = let z : _≡_ {A = ℕ} 0 1 = cc in absurd (omega arith)
 clear-at v k (i ∷ js) c j e = go (clear-at v k js) (and-both (apart v i k) (clear v k js) c) (in-cons j i js e)
   where
@@ -59,7 +59,7 @@ clear-at v k (i ∷ js) c j e = go (clear-at v k js) (and-both (apart v i k) (cl
     go ih b (inl q) = ap (λ (x : ℕ). apart v x k) q ∙ b .0
     go ih b (inr q) = ih (b .1) j q
 
-clear-in : (v : View) (k : ℕ) (js : List ℕ) → ((j : ℕ) → isIn j js ≡ true → apart v j k ≡ true) → clear v k js ≡ true
+pub clear-in : (v : View) (k : ℕ) (js : List ℕ) → ((j : ℕ) → isIn j js ≡ true → apart v j k ≡ true) → clear v k js ≡ true
 clear-in v k [] h = refl
 clear-in v k (i ∷ js) h =
     and-in (apart v i k) (clear v k js) (h i (or-in (eqb i i) (isIn i js) (eq-eqb i i refl))) (clear-in v k js (λ j e. h j (or-out (eqb j i) (isIn j js) e)))
@@ -72,7 +72,7 @@ module _ (v : View) (k : ℕ) where
   abbrev pub Turn : ℕ → Type 0
   Turn x = ((x ≡ k) × (isRecord (v .at k) ≡ true) × (lies v k ≡ true) × (clear v k (keptBelow v k) ≡ true)) ⊎ (isIn x (keptBelow v k) ≡ true)
 
-  one-more : keptBelow v (suc k) ≡ cond good (k ∷ keptBelow v k) (keptBelow v k)
+  pub one-more : keptBelow v (suc k) ≡ cond good (k ∷ keptBelow v k) (keptBelow v k)
   unfolding keptBelow
   one-more = refl
 

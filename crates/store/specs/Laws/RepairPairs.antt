@@ -245,7 +245,7 @@ module _ (u : SegView) (shown : (p : ℕ) → p < u .pages → Shown (u .page p)
       named-is u t (ap (named u) (sym (id-is t)) ∙ r .2)
 
   -- the slot of a redirect lies below the count
-  counted : (i t : ℕ) → KeptRedirect u i t → slotNo i < u .page (pageNo i) .slotCount
+  pub counted : (i t : ℕ) → KeptRedirect u i t → slotNo i < u .page (pageNo i) .slotCount
   counted i t k = go (decLt (slotNo i) (u .page (pageNo i) .slotCount))
     where
       go : Dec (slotNo i < u .page (pageNo i) .slotCount) → slotNo i < u .page (pageNo i) .slotCount

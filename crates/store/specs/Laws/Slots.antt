@@ -3,7 +3,7 @@ use Prim.Native.Nat.{ℕ, _+_, _*_, _/_, _%_, _^_, _<_}
 use mathlib.Core.Path.{_≡_, refl, ap, _∙_}
 use native.Mathlib.Omega.{arith}
 use Rattle.store.specs.Numbers.{be}
-use Rattle.store.specs.Slots.{kindNo, lowNo, slotWord, slotBytes, ofKind, slotOf}
+use Rattle.store.specs.Slots.{kindNo, lowNo, slotWord, slotBytes, ofKind, slotOf, off, len}
 use Rattle.store.specs.Laws.Numbers.{be-toBE}
 use Rattle.store.specs.declared.Slot.{Slot}
 use Rattle.store.specs.declared.Slot.the-variants.{Ordinary, Free, Redirect, Target}
@@ -14,6 +14,12 @@ Codable (Ordinary o l) = (o < 2 ^ 30) × (l < 2 ^ 32)
 Codable Free = Unit {0}
 Codable (Redirect i) = i < 2 ^ 62
 Codable (Target o l) = (o < 2 ^ 30) × (l < 2 ^ 32)
+
+pub codable-position : (s : Slot) → Codable s → off s + len s < 8589934592
+codable-position (Ordinary o l) c = omega arith
+codable-position Free c = omega arith
+codable-position (Redirect i) c = omega arith
+codable-position (Target o l) c = omega arith
 
 -- once over the kind
 kind-low : (k w : ℕ) → w < 2 ^ 62 → ((k * 2 ^ 62 + w) / 2 ^ 62 ≡ k) × ((k * 2 ^ 62 + w) % 2 ^ 62 ≡ w)

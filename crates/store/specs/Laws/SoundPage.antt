@@ -114,6 +114,37 @@ two-apart v i j n e a b = go (decLt (off (v .at j)) (off (v .at i) + len (v .at 
         inr (leb-true (off (v .at j) + len (v .at j)) (off (v .at i))
         (rw (ne-eqb i j n, ne-eqb (len (v .at i)) 0 ni, ne-eqb (len (v .at j)) 0 nj, lt-leb (off (v .at i) + len (v .at i)) (off (v .at j)) l) at e))
 
+-- two that lie apart pass it
+pub apart-test : (v : View) (i j : ℕ) → (i ≢ j → Apart (v .at i) (v .at j)) → apart v i j ≡ true
+apart-test v i j f = go (ℕ-discrete i j) (decLt 0 (len (v .at i))) (decLt 0 (len (v .at j)))
+  where
+    c1 : Bool
+    c1 = eqb i j
+
+    c2 : Bool
+    c2 = eqb (len (v .at i)) 0
+
+    c3 : Bool
+    c3 = eqb (len (v .at j)) 0
+
+    c4 : Bool
+    c4 = leb (off (v .at i) + len (v .at i)) (off (v .at j))
+
+    c5 : Bool
+    c5 = leb (off (v .at j) + len (v .at j)) (off (v .at i))
+
+    side : (off (v .at i) + len (v .at i) ≤ off (v .at j)) ⊎ (off (v .at j) + len (v .at j) ≤ off (v .at i)) → (c1 || c2 || c3 || c4 || c5) ≡ true
+    side (inl h) = or-in (c1 || c2 || c3 || c4) c5 (or-out (c1 || c2 || c3) c4 (le-leb (off (v .at i) + len (v .at i)) (off (v .at j)) h))
+    side (inr h) = or-out (c1 || c2 || c3 || c4) c5 (le-leb (off (v .at j) + len (v .at j)) (off (v .at i)) h)
+
+    go : Dec (i ≡ j) → Dec (0 < len (v .at i)) → Dec (0 < len (v .at j)) → (c1 || c2 || c3 || c4 || c5) ≡ true
+    go (yes e) a b = or-in (c1 || c2 || c3 || c4) c5 (or-in (c1 || c2 || c3) c4 (or-in (c1 || c2) c3 (or-in c1 c2 (eq-eqb i j e))))
+    go (no n) (no a) b = or-in (c1 || c2 || c3 || c4) c5
+        (or-in (c1 || c2 || c3) c4 (or-in (c1 || c2) c3 (or-out c1 c2 (let z : len (v .at i) ≡ 0 = omega arith in eq-eqb (len (v .at i)) 0 z))))
+    go (no n) (yes a) (no b) = or-in (c1 || c2 || c3 || c4) c5
+        (or-in (c1 || c2 || c3) c4 (or-out (c1 || c2) c3 (let z : len (v .at j) ≡ 0 = omega arith in eq-eqb (len (v .at j)) 0 z)))
+    go (no n) (yes a) (yes b) = side (f n a b)
+
 -- what the test of a page without slots says
 used-by : (v : View) → usedOrInitial v ≡ true → (0 < v .slotCount) ⊎ (v .dataStart ≡ 16384)
 used-by v = go (leb 1 (v .slotCount)) refl
@@ -280,34 +311,7 @@ module _ (v : View) (s : Sound v) where
       kind false e = refl
 
   pub apart-in : (i j : ℕ) → apart v i j ≡ true
-  apart-in i j = go (ℕ-discrete i j) (decLt 0 (len (v .at i))) (decLt 0 (len (v .at j)))
-    where
-      c1 : Bool
-      c1 = eqb i j
-
-      c2 : Bool
-      c2 = eqb (len (v .at i)) 0
-
-      c3 : Bool
-      c3 = eqb (len (v .at j)) 0
-
-      c4 : Bool
-      c4 = leb (off (v .at i) + len (v .at i)) (off (v .at j))
-
-      c5 : Bool
-      c5 = leb (off (v .at j) + len (v .at j)) (off (v .at i))
-
-      side : (off (v .at i) + len (v .at i) ≤ off (v .at j)) ⊎ (off (v .at j) + len (v .at j) ≤ off (v .at i)) → (c1 || c2 || c3 || c4 || c5) ≡ true
-      side (inl h) = or-in (c1 || c2 || c3 || c4) c5 (or-out (c1 || c2 || c3) c4 (le-leb (off (v .at i) + len (v .at i)) (off (v .at j)) h))
-      side (inr h) = or-out (c1 || c2 || c3 || c4) c5 (le-leb (off (v .at j) + len (v .at j)) (off (v .at i)) h)
-
-      go : Dec (i ≡ j) → Dec (0 < len (v .at i)) → Dec (0 < len (v .at j)) → (c1 || c2 || c3 || c4 || c5) ≡ true
-      go (yes e) a b = or-in (c1 || c2 || c3 || c4) c5 (or-in (c1 || c2 || c3) c4 (or-in (c1 || c2) c3 (or-in c1 c2 (eq-eqb i j e))))
-      go (no n) (no a) b = or-in (c1 || c2 || c3 || c4) c5
-          (or-in (c1 || c2 || c3) c4 (or-in (c1 || c2) c3 (or-out c1 c2 (let z : len (v .at i) ≡ 0 = omega arith in eq-eqb (len (v .at i)) 0 z))))
-      go (no n) (yes a) (no b) = or-in (c1 || c2 || c3 || c4) c5
-          (or-in (c1 || c2 || c3) c4 (or-out (c1 || c2) c3 (let z : len (v .at j) ≡ 0 = omega arith in eq-eqb (len (v .at j)) 0 z)))
-      go (no n) (yes a) (yes b) = side (s .apart i j n a b)
+  apart-in i j = apart-test v i j (s .apart i j)
 
   used-in : (0 < v .slotCount) ⊎ (v .dataStart ≡ 16384) → usedOrInitial v ≡ true
   used-in (inl h) = or-in (leb 1 (v .slotCount)) (eqb (v .dataStart) 16384) (le-leb 1 (v .slotCount) h)

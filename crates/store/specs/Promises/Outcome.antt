@@ -7,7 +7,8 @@ use mathlib.Core.List.{List, [], _∷_}
 use lib.ListN.{getD}
 use Rattle.store.specs.Segment.{Result, Located}
 use Rattle.store.specs.Scan.{Scanned}
-use Rattle.store.specs.Answers.{outcome, located, scannedOf, Placed, givenPlace, NamedPage, namedPage}
+use Rattle.store.specs.Answers.{outcome, located, scannedOf, repaired, Placed, givenPlace, NamedPage, namedPage}
+use Rattle.store.specs.Repair.{Repaired}
 use Rattle.store.specs.declared.Place.{Place}
 use Rattle.store.specs.declared.Place.the-variants as place
 use Rattle.store.specs.declared.Named.{Named}
@@ -18,6 +19,8 @@ use Rattle.store.specs.declared.Reading.{Reading}
 use Rattle.store.specs.declared.Reading.the-variants as reading
 use Rattle.store.specs.declared.Step.{Step}
 use Rattle.store.specs.declared.Step.the-variants as scan
+use Rattle.store.specs.declared.Repair.{Repair}
+use Rattle.store.specs.declared.Repair.the-variants as repair
 
 -- what can be undone tells two apart
 undone : {A B : Type 0} (f : A → B) (back : B → A) → ((x : A) → back (f x) ≡ x) → (x y : A) → f x ≡ f y → x ≡ y
@@ -101,3 +104,22 @@ named-single = undone namedPage answer back
     back : (r : Named) → answer (namedPage r) ≡ r
     back (named.At p) = refl
     back named.Full = refl
+
+-- ---- repair
+
+module _ (r r′ : Repair) (s s′ v v′ l l′ : List ℕ) where
+  pub repaired-single : repaired r s v l ≡ repaired r′ s′ v′ l′ → (r ≡ r′) × (s ≡ s′) × (v ≡ v′) × (l ≡ l′)
+  repaired-single e = (
+    sym (back r s v l) ∙ ap answer e ∙ back r′ s′ v′ l′,
+    ap (λ (o : Repaired). o .seg) e,
+    ap (λ (o : Repaired). o .inv) e,
+    ap (λ (o : Repaired). o .list) e,
+  )
+    where
+      answer : Repaired → Repair
+      answer o = getD (repair.Done (o .count) ∷ repair.Size ∷ []) (o .answer) (repair.Room (o .count))
+
+      back : (a : Repair) (t w m : List ℕ) → answer (repaired a t w m) ≡ a
+      back (repair.Done n) t w m = refl
+      back repair.Size t w m = refl
+      back (repair.Room n) t w m = refl

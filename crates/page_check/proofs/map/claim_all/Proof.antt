@@ -10,9 +10,10 @@ use borrow.Author.Tests.{not-true, not-false}
 use Rattle.store.specs.Numbers.{cut, be}
 use Rattle.store.specs.Page.{view}
 use Rattle.page_check.specs.Fit.{Found, Runs, RecordsFit, Total}
+use Rattle.page_check.specs.Map.{Marked}
 use Rattle.page_check.proofs.SlotLaws.{found-at, tells-no, tells-yes, not-both, refuted}
 use Rattle.page_check.proofs.FitLaws.{records-none, records-more, total-none, total-more}
-use Rattle.page_check.proofs.MarkLaws.{Marked, marked-none, marked-more, apart-before, clear-apart}
+use Rattle.page_check.proofs.MarkLaws.{marked-none, below-next, marked-more, apart-before, clear-apart}
 use Rattle.page_check.proofs.map.claim_all.Statement.{statement}
 use Rattle.page_check.proofs.map.claim_all.Tie as tie
 
@@ -23,7 +24,7 @@ record Mapped (page : List ℕ) (n f d : ℕ) (used₀ used : List ℕ) (t k o :
   same : length used ≡ length used₀
   fit : RecordsFit (view page) k f d
   adds : Total (view page) k t
-  marked : Marked (view page) k used
+  marked : Marked (view page) (λ j. j < k) used
   half : o ≡ be (cut page (12 + 8 * k) 4)
   small : o < 4294967296
 
@@ -74,7 +75,7 @@ loop-holds c = record {
   same = refl;
   fit = records-none _ _ _;
   adds = total-none _;
-  marked = marked-none _ _ (c .before .before .before .pre .2);
+  marked = marked-none _ _ _ (c .before .before .before .pre .2) (λ j h. omega arith);
   half = c .get-u32 .ensures .is;
   small = omega (arith, c .get-u32 .ensures .small);
 }
@@ -119,7 +120,7 @@ returns-2 c =
     record {
       tells = tells-no (λ h. not-both (answer .claim-record .ensures .tells .back (
         λ p. omega (arith, r .start p, h .above (at .k) (omega arith) (omega (arith, r .size))),
-        clear-apart _ _ _ _ _ _ (at .inv .marked) r (λ j g. h .apart j (at .k) g (omega arith)),
+        clear-apart _ _ _ _ _ _ _ (at .inv .marked) r (λ j g. h .apart j (at .k) g (omega arith)),
       )) (not-true _ (c .if2 .taken)));
       adds = refuted;
     }
@@ -160,9 +161,10 @@ loop-again c =
       same = omega arith;
       fit = records-more _ _ _ _ (so-far .fit) (found slot .tells .yes (not-false _ (allowed .if1 .left)))
           (λ p. omega (arith, lies .0 (omega (arith, r .size)), r .start (omega (arith, r .size))))
-          (apart-before _ _ _ _ _ _ (so-far .marked) r (lies .1));
+          (apart-before _ _ _ _ _ _ _ (so-far .marked) r (lies .1));
       adds = total-more _ _ _ _ (so-far .adds) (r .size) (omega (arith, r .down));
-      marked = marked-more _ _ _ _ _ _ (so-far .marked) r _ (answer .claim-record .ensures .claimed e);
+      marked = marked-more _ _ _ _ _ _ _ (so-far .marked) r _ (λ j. below-next j _) (λ j h. omega arith) (omega arith) _
+          (answer .claim-record .ensures .claimed e);
       half = c .get-u323 .ensures .is;
       small = omega (arith, c .get-u323 .ensures .small);
     }

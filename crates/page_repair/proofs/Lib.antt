@@ -1,0 +1,3 @@
+pub mod BitLaws
+pub mod KeepLaws
+pub mod MendLaws
