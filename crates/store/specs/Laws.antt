@@ -44,4 +44,5 @@ pub mod RepairMixed
 pub mod RepairCall
 pub mod RepairReads
 pub mod RepairEntries
+pub mod RepairList
 pub mod RepairSeen

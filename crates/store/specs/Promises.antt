@@ -15,3 +15,7 @@ pub mod Marked
 pub mod Examples
 pub mod Repair
 pub mod RepairKept
+pub mod RepairEntries
+pub mod RepairSeen
+pub mod RepairNamed
+pub mod RepairExamples

@@ -1,18 +1,25 @@
--- What is said of repair: which entries there are and what they tell (Promises/RepairEntries), and what it looks at (Promises/RepairSeen).
-use Prim.Native.Nat.{ℕ, _+_, _-_, _*_, _/_, _≤_, _<_}
+-- What is said of repair: where it writes (Promises/RepairKept), which entries there are and what they tell (Promises/RepairEntries), what it
+-- looks at (Promises/RepairSeen).
+use Prim.Native.Nat.{ℕ, _+_, _-_, _*_, _/_, _<_}
 use mathlib.Core.Path.{_≡_}
-use mathlib.Core.Bool.{true, false}
+use mathlib.Core.Bool.{true, false, cond}
 use mathlib.Core.List.{List, [], _∷_}
 use mathlib.Core.Logic.{_⊎_}
 use lib.ListN.{length}
 use Rattle.store.specs.Numbers.{cut}
 use Rattle.store.specs.Slots.{isRecord, isTarget}
-use Rattle.store.specs.Page.{view}
-use Rattle.store.specs.Segment.{SegView, pageOf}
+use Rattle.store.specs.Page.{View, view}
+use Rattle.store.specs.Segment.{pageOf}
 use Rattle.store.specs.SoundSegment.{slotOn, backId}
 use Rattle.store.specs.Repair.{standing, lost, kept, Entry}
 use Rattle.store.specs.declared.Slot.{Slot}
 use Rattle.store.specs.declared.Slot.the-variants.{Ordinary, Free, Redirect, Target}
+
+-- ---- bytes
+
+-- "headers and directories": where they end on a page; a lost page has only its header
+abbrev pub directory : View → ℕ
+directory v = cond (lost v) 12 (12 + 8 * v .slotCount)
 
 -- ---- entries
 
@@ -44,14 +51,3 @@ pub record LooksSame (s t : List ℕ) : Type 0 where
   pub slots : (p : ℕ) → p < length s / 16384 → lost (view (pageOf s p)) ≡ false → (k : ℕ) → k < view (pageOf s p) .slotCount
       → cut (pageOf s p) (12 + 8 * k) 8 ≡ cut (pageOf t p) (12 + 8 * k) 8
   pub backs : (i : ℕ) → kept (standing s) i ≡ true → isTarget (slotOn (standing s) i) ≡ true → backId (standing s) i ≡ backId (standing t) i
-
--- the same of what is seen of the pages
-pub record SameSeen (a b : SegView) : Type 0 where
-  pub pages : a .pages ≡ b .pages
-  pub counts : (p : ℕ) → p < a .pages → a .page p .slotCount ≡ b .page p .slotCount
-  pub firsts : (p : ℕ) → p < a .pages → a .page p .firstFree ≡ b .page p .firstFree
-  pub starts : (p : ℕ) → p < a .pages → a .page p .dataStart ≡ b .page p .dataStart
-  pub spaces : (p : ℕ) → p < a .pages → a .page p .freeSpace ≡ b .page p .freeSpace
-  pub slots : (p : ℕ) → p < a .pages → lost (a .page p) ≡ false → (k : ℕ) → a .page p .at k ≡ b .page p .at k
-  pub backs : (t : ℕ) → kept a t ≡ true → isTarget (slotOn a t) ≡ true → backId a t ≡ backId b t
-  pub past : (p : ℕ) → p < a .pages → (k : ℕ) → a .page p .slotCount ≤ k → a .page p .at k ≡ Free

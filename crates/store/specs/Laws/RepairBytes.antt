@@ -17,6 +17,7 @@ use Rattle.store.specs.PageSteps.{headBytes, putHead}
 use Rattle.store.specs.Segment.{SegView, pageOf}
 use Rattle.store.specs.Repair.{standing, lost, deed, changes, slotDone, bytesDone, slotAfter, bytesAfter, slotBy, mended}
 use Rattle.store.specs.Repair.{emptied, pageAfter, sameHead, putSlots, putMended, pageBytes, segBytes, mendedBy}
+use Rattle.store.specs.RepairTold.{directory}
 use Rattle.store.specs.declared.Deed.the-variants.{Stays, RecordFreed, RedirectFreed, MadeOrdinary}
 use Rattle.store.specs.Laws.Cases.{by-test}
 use Rattle.store.specs.Laws.Numbers.{length-put, cut-apart, cut-same, cut-in, cut-cut, cut-drop}
@@ -116,10 +117,6 @@ module _ (u : SegView) (p : ℕ) where
       (λ e. by-test (λ (x : List ℕ). length x ≡ length q) (fresh (u .page p)) q (putMended (deed u p) (u .page p) q) (λ f. refl) (λ f. mended-length q))
 
 -- ---- "No byte outside headers and directories changes": of one page
-
--- where the directory ends; a lost page has only its header
-abbrev pub directory : View → ℕ
-directory v = cond (lost v) 12 (12 + 8 * v .slotCount)
 
 pub page-past-directory : (u : SegView) (p : ℕ) (q : List ℕ) (j m : ℕ) → directory (u .page p) ≤ j → cut (pageBytes u p q) j m ≡ cut q j m
 unfolding pageBytes

@@ -19,14 +19,14 @@ use Rattle.store.specs.Segment.{SegView, pageOf}
 use Rattle.store.specs.Repair.{standing, lost, keeps, holds, named, deedBy, deed, changes, slotDone, slotAfter, mended, emptied}
 use Rattle.store.specs.Repair.{pageAfter, sameHead, putSlots, putMended, pageBytes, sameBytes, sameInv, trueOf, invAfter, Entry, entry}
 use Rattle.store.specs.Repair.{deedNo, slotEntries, headEntries, pageEntries, segEntries, invEntries, entries, mendedBy}
-use Rattle.store.specs.RepairTold.{In, Before, Ascending, Tells, freed-record, freed-redirect, made-ordinary}
+use Rattle.store.specs.RepairTold.{directory, In, Before, Ascending, Tells, freed-record, freed-redirect, made-ordinary}
 use Rattle.store.specs.declared.Deed.{Deed}
 use Rattle.store.specs.declared.Deed.the-variants.{Stays, RecordFreed, RedirectFreed, MadeOrdinary}
 use Rattle.store.specs.Laws.Cases.{by-test}
 use Rattle.store.specs.Laws.Numbers.{cut-take}
 use Rattle.store.specs.Laws.SoundPage.{and-in, all-in, fresh-none}
 use Rattle.store.specs.Laws.RepairPage.{used}
-use Rattle.store.specs.Laws.RepairBytes.{slots-frame, directory, page-past-directory, page-slot-same, page-seen, repairedSeg, repaired-page}
+use Rattle.store.specs.Laws.RepairBytes.{slots-frame, page-past-directory, page-slot-same, page-seen, repairedSeg, repaired-page, repaired-view}
 use Rattle.store.specs.Laws.RepairInventory.{same-own}
 use Rattle.store.specs.Laws.Segments.{length-page}
 use Rattle.store.specs.Laws.Repair.{standing-pages, standing-page}
@@ -210,23 +210,23 @@ header-part a b j m h e = sym (cut-take a 12 j m h) ∙ ap (λ (l : List ℕ). c
 
 -- a view's numbers, from equal header bytes
 module _ (a b : List ℕ) (e : cut a 0 12 ≡ cut b 0 12) where
-  same-count : view a .slotCount ≡ view b .slotCount
+  pub same-count : view a .slotCount ≡ view b .slotCount
   unfolding view
   same-count = ap be (header-part a b 0 2 (omega arith) e)
 
-  same-first : view a .firstFree ≡ view b .firstFree
+  pub same-first : view a .firstFree ≡ view b .firstFree
   unfolding view
   same-first = ap be (header-part a b 2 2 (omega arith) e)
 
-  same-start : view a .dataStart ≡ view b .dataStart
+  pub same-start : view a .dataStart ≡ view b .dataStart
   unfolding view
   same-start = ap be (header-part a b 4 4 (omega arith) e)
 
-  same-space : view a .freeSpace ≡ view b .freeSpace
+  pub same-space : view a .freeSpace ≡ view b .freeSpace
   unfolding view
   same-space = ap be (header-part a b 8 4 (omega arith) e)
 
-same-entry : (a b : List ℕ) (k : ℕ) → view a .slotCount ≡ view b .slotCount → cut a (12 + 8 * k) 8 ≡ cut b (12 + 8 * k) 8 → view a .at k ≡ view b .at k
+pub same-entry : (a b : List ℕ) (k : ℕ) → view a .slotCount ≡ view b .slotCount → cut a (12 + 8 * k) 8 ≡ cut b (12 + 8 * k) 8 → view a .at k ≡ view b .at k
 unfolding view
 same-entry a b k n e = λ i. cond (ltb k (n i)) (slotOf (be (e i))) Free
 
@@ -339,10 +339,10 @@ module _ (s : List ℕ) (whole : length s % 16384 ≡ 0) (v : List ℕ) where
   abbrev us : SegView
   us = standing s
 
-  pub SlotChanges : ℕ → ℕ → Type 0
+  unfoldable pub SlotChanges : ℕ → ℕ → Type 0
   SlotChanges p k = cut (pageOf (repairedSeg s whole) p) (12 + 8 * k) 8 ≢ cut (pageOf s p) (12 + 8 * k) 8
 
-  pub HeadChanges : ℕ → Type 0
+  unfoldable pub HeadChanges : ℕ → Type 0
   HeadChanges p = cut (pageOf (repairedSeg s whole) p) 0 12 ≢ cut (pageOf s p) 0 12
 
   long : (p : ℕ) → p < length s / 16384 → length (pageOf s p) ≡ 16384
@@ -405,11 +405,19 @@ module _ (s : List ℕ) (whole : length s % 16384 ≡ 0) (v : List ℕ) where
     pub counted : k < us .page p .slotCount
     pub what : d ≡ deedNo (deed us p k)
     pub changes : SlotChanges p k
-    pub tells : Tells (us .page p .at k) (slotAfter us p k) d
+    pub tells : Tells (view (pageOf s p) .at k) (view (pageOf (repairedSeg s whole) p) .at k) d
 
   tells-at : (p k : ℕ) → changes (deed us p k) ≡ true → Tells (us .page p .at k) (slotAfter us p k) (deedNo (deed us p k))
   unfolding deed
   tells-at p k c = deed-tells us p k (us .page p .at k) c
+
+  tells-now : (p k : ℕ) → p < length s / 16384 → lost (us .page p) ≡ false → fresh (us .page p) ≡ false → changes (deed us p k) ≡ true
+      → Tells (view (pageOf s p) .at k) (view (pageOf (repairedSeg s whole) p) .at k) (deedNo (deed us p k))
+  tells-now p k l a f c =
+      let w : view (pageOf (repairedSeg s whole) p) .at k ≡ slotAfter us p k =
+      ap (λ (v : View). v .at k) (repaired-view s whole p l ∙ after-is us p a f) ∙ mended-slot us p k in
+      subst (λ (x : Slot). Tells (view (pageOf s p) .at k) x (deedNo (deed us p k))) (sym w)
+      (subst (λ (x : View). Tells (x .at k) (slotAfter us p k) (deedNo (deed us p k))) (standing-page s p) (tells-at p k c))
 
   pub slot-only : (p k d : ℕ) → k < 65535 → In (entry p k d) (entries us v) → SlotTold p k d
   slot-only p k d small h = go (entry-of us v (entry p k d) h)
@@ -423,7 +431,8 @@ module _ (s : List ℕ) (whole : length s % 16384 ≡ 0) (v : List ℕ) where
             counted = m;
             what = ed;
             changes = slot-changes r j l′ (slot-bytes-differ us r (pageOf s r) (sym (standing-page s r)) (long r l′) j a f c);
-            tells = subst (λ (x : ℕ). Tells (us .page r .at j) (slotAfter us r j) x) (sym ed) (tells-at r j c);
+            tells =
+                subst (λ (x : ℕ). Tells (view (pageOf s r) .at j) (view (pageOf (repairedSeg s whole) r) .at j) x) (sym ed) (tells-now r j l′ a f c);
           } in
           subst (λ (x : ℕ). SlotTold x k d) (sym ep) (subst (λ (x : ℕ). SlotTold r x d) (sym ek) t)
 
@@ -556,3 +565,13 @@ entries-ascend u v =
     let w = seg-of u a (u .pages) x in
     let q = none-is (sameInv v (trueOf u)) (entry (u .pages) 65536 6) b y in
     inl (omega (arith, w .below, on-page u (w .page) a (w .entry), ap (λ (z : Entry). z .page) q)))
+
+-- a place is a slot's number, the header's or the inventory's
+pub place-most : (u : SegView) (v : List ℕ) (e : Entry) → In e (entries u v) → e .place ≤ 65536
+place-most u v e h = go (entry-of u v e h)
+  where
+    go : AnyEntry u v e → e .place ≤ 65536
+    go (of-page p l (of-slot a f w)) = omega (arith, ap (λ (x : Entry). x .place) (w .is), w .below, used (u .page p) a f)
+    go (of-page p l (of-head a f q w)) = omega (arith, ap (λ (x : Entry). x .place) w)
+    go (of-page p l (of-lost a w)) = omega (arith, ap (λ (x : Entry). x .place) w)
+    go (of-inv q w) = omega (arith, ap (λ (x : Entry). x .place) w)

@@ -256,7 +256,7 @@ module _ (u : SegView) (p : ℕ) (h : Shown (u .page p)) (k : ℕ) where
         within = λ z. (q, omega arith, omega arith, omega arith);
         target = λ z. let z : _≡_ {A = ℕ} 0 1 = cc in absurd (omega arith);
         codable = (omega (arith, m .high), omega (arith, m .high));
-        past = not-past q (Ordinary (o + 8) (l - 8));
+        past = not-past q _;
         lens = length-drop 8 (u .page p .bytes k) ∙ omega (arith, h .lens k (m .high));
       }))
       (λ q. freed [] refl)

@@ -38,12 +38,11 @@ pub record Holds (u : SegView) (i t : ℕ) : Type 0 where
 pub holds-is : (u : SegView) (i t : ℕ) → holds u i t ≡ true → Holds u i t
 unfolding holds kept
 holds-is u i t e =
-    let a = and-both (ltb (pageNo t) (u .pages) && (not (lost (u .page (pageNo t))) && keeps (u .page (pageNo t)) (slotNo t)))
-    (isTarget (slotOn u t) && (not (eqb (pageNo t) (pageNo i)) && eqb (backId u t) i)) e in
+    let a = and-both (kept u t) _ e in
     let b = and-both (ltb (pageNo t) (u .pages)) (not (lost (u .page (pageNo t))) && keeps (u .page (pageNo t)) (slotNo t)) (a .0) in
     let c = and-both (not (lost (u .page (pageNo t)))) (keeps (u .page (pageNo t)) (slotNo t)) (b .1) in
-    let d = and-both (isTarget (slotOn u t)) (not (eqb (pageNo t) (pageNo i)) && eqb (backId u t) i) (a .1) in
-    let f = and-both (not (eqb (pageNo t) (pageNo i))) (eqb (backId u t) i) (d .1) in
+    let d = and-both (isTarget (slotOn u t)) _ (a .1) in
+    let f = and-both _ _ (d .1) in
     record {
       below = ltb-true (pageNo t) (u .pages) (b .0);
       whole = not-true (lost (u .page (pageNo t))) (c .0);

@@ -1,30 +1,45 @@
--- Nothing unseen is looked at: what repair tells and writes is a function of the number of pages, the inventory, the headers, the slots of pages that are
--- not lost, and the first 8 bytes of kept targets.
-use Prim.Native.Nat.{ℕ, zero, suc, _+_, _*_, _≤_, _<_}
+-- Nothing unseen is looked at: what repair tells and writes is a function of the number of pages, the inventory, the headers, the slots of pages
+-- that are not lost, and the first 8 bytes of kept targets.
+use Prim.Native.Nat.{ℕ, zero, suc, _+_, _*_, _/_, _%_, _≤_, _<_}
 use mathlib.Core.Path.{_≡_, refl, sym, ap, _∙_}
 use mathlib.Core.Bool.{Bool, true, false, cond, not, _&&_, _||_}
 use mathlib.Core.List.{List, [], _∷_, _++_}
 use native.Mathlib.Omega.{arith}
 use native.Mathlib.Decide.{decLt}
+use lib.ListN.{length}
 use lib.Dec.{eqb, ltb, leb}
 use borrow.Author.Tests.{ltb-true, lt-ltb, not-true}
 use Rattle.store.specs.Numbers.{put, zeros, toBE, idOf, pageNo, slotNo}
 use Rattle.store.specs.Slots.{slotBytes, off, len, isRecord, isTarget}
-use Rattle.store.specs.Page.{View, fresh}
+use Rattle.store.specs.Page.{View, view, fresh}
 use Rattle.store.specs.PageSteps.{nextFree}
 use Rattle.store.specs.Inventory.{update}
-use Rattle.store.specs.Segment.{SegView}
+use Rattle.store.specs.Segment.{SegView, pageOf, sizeOk, invOk}
 use Rattle.store.specs.SoundSegment.{slotOn, backId}
+use Rattle.store.specs.Repair.{standing, Repaired, repairStep}
 use Rattle.store.specs.Repair.{lost, lies, clear, keptBelow, isIn, keeps, kept, holds, redirectsTo, named, deedBy, deed, changes, slotDone, slotAfter}
 use Rattle.store.specs.Repair.{startAfter, spaceAfter, mended, emptied, pageAfter, segAfter, sameHead, putSlots, putMended, pageBytes, trueInv, trueOf}
 use Rattle.store.specs.Repair.{sameInv, invAfter, entry, deedNo, slotEntries, headEntries, pageEntries, segEntries, entries, mendedBy}
-use Rattle.store.specs.RepairTold.{SameSeen}
+use Rattle.store.specs.RepairTold.{LooksSame}
 use Rattle.store.specs.declared.Deed.the-variants.{Stays, RecordFreed, RedirectFreed, MadeOrdinary}
 use Rattle.store.specs.Laws.RepairPage.{used}
-use Rattle.store.specs.Laws.SoundPage.{and-both, and-in}
+use Rattle.store.specs.Laws.SoundPage.{and-both, and-in, past-free}
+use Rattle.store.specs.Laws.RepairEntries.{same-count, same-first, same-start, same-space, same-entry}
+use Rattle.store.specs.Laws.RepairCall.{wrongSize, noPlace, carriedOut}
 use Rattle.store.specs.Laws.Cases.{not-in}
 use Rattle.store.specs.declared.Slot.{Slot}
 use Rattle.store.specs.declared.Slot.the-variants.{Ordinary, Free, Redirect, Target}
+
+-- what is looked at, of what is seen of the pages
+pub record SameSeen (a b : SegView) : Type 0 where
+  pub pages : a .pages ≡ b .pages
+  pub counts : (p : ℕ) → p < a .pages → a .page p .slotCount ≡ b .page p .slotCount
+  pub firsts : (p : ℕ) → p < a .pages → a .page p .firstFree ≡ b .page p .firstFree
+  pub starts : (p : ℕ) → p < a .pages → a .page p .dataStart ≡ b .page p .dataStart
+  pub spaces : (p : ℕ) → p < a .pages → a .page p .freeSpace ≡ b .page p .freeSpace
+  pub slots : (p : ℕ) → p < a .pages → lost (a .page p) ≡ false → (k : ℕ) → a .page p .at k ≡ b .page p .at k
+  pub backs : (t : ℕ) → kept a t ≡ true → isTarget (slotOn a t) ≡ true → backId a t ≡ backId b t
+  pub past : (p : ℕ) → p < a .pages → (k : ℕ) → a .page p .slotCount ≤ k → a .page p .at k ≡ Free
 
 kept-in : (a : SegView) (t : ℕ) → pageNo t < a .pages → lost (a .page (pageNo t)) ≡ false → keeps (a .page (pageNo t)) (slotNo t) ≡ true → kept a t ≡ true
 unfolding kept
@@ -325,3 +340,48 @@ module _ (a b : SegView) (h : SameSeen a b) where
   pub all-told : (v : List ℕ) → entries a v ≡ entries b v
   unfolding entries
   all-told v = λ i. (seg-told (a .pages) (omega arith) ∙ ap (segEntries b) (h .pages)) i ++ cond (sameInv v (true-all i)) [] (entry (h .pages i) 65536 6 ∷ [])
+
+-- ---- of two segments
+
+-- from the bytes to what is seen of them
+pub looks-seen : (s t : List ℕ) → LooksSame s t → SameSeen (standing s) (standing t)
+unfolding standing
+looks-seen s t h =
+    record {
+      pages = ap (λ (n : ℕ). n / 16384) (h .lengths);
+      counts = λ p l. same-count (pageOf s p) (pageOf t p) (h .headers p l);
+      firsts = λ p l. same-first (pageOf s p) (pageOf t p) (h .headers p l);
+      starts = λ p l. same-start (pageOf s p) (pageOf t p) (h .headers p l);
+      spaces = λ p l. same-space (pageOf s p) (pageOf t p) (h .headers p l);
+      slots = λ p l n k. slot p l n k (decLt k (view (pageOf s p) .slotCount));
+      backs = h .backs;
+      past = λ p l k m. past-free (pageOf s p) k m;
+    }
+  where
+    slot : (p : ℕ) → p < length s / 16384 → lost (view (pageOf s p)) ≡ false → (k : ℕ) → Dec (k < view (pageOf s p) .slotCount)
+        → view (pageOf s p) .at k ≡ view (pageOf t p) .at k
+    slot p l n k (yes m) = same-entry (pageOf s p) (pageOf t p) k (same-count (pageOf s p) (pageOf t p) (h .headers p l)) (h .slots p l n k m)
+    slot p l n k (no m) =
+        let c = same-count (pageOf s p) (pageOf t p) (h .headers p l) in
+        past-free (pageOf s p) k (omega arith) ∙ sym (past-free (pageOf t p) k (omega arith))
+
+-- a field of the outcome, by the two tests
+by-field : {A : Type 0} (f : Repaired → A) (b c : Bool) (x y z x′ y′ z′ : Repaired) → f x ≡ f x′ → f y ≡ f y′ → f z ≡ f z′
+    → f (cond b x (cond c y z)) ≡ f (cond b x′ (cond c y′ z′))
+by-field f true c x y z x′ y′ z′ p q r = p
+by-field f false true x y z x′ y′ z′ p q r = q
+by-field f false false x y z x′ y′ z′ p q r = r
+
+pub field-same : (s t v l : List ℕ) → LooksSame s t → {A : Type 0} (f : Repaired → A) → f (wrongSize s v l) ≡ f (wrongSize t v l)
+    → f (noPlace s v l) ≡ f (noPlace t v l) → f (carriedOut s v l) ≡ f (carriedOut t v l) → f (repairStep s v l) ≡ f (repairStep t v l)
+unfolding repairStep
+field-same s t v l h f p q r =
+    by-field f (not (sizeOk s && invOk v)) (ltb (length l / 3) (length (entries (standing s) v))) (wrongSize s v l) (noPlace s v l) (carriedOut s v l)
+    (wrongSize t v l) (noPlace t v l) (carriedOut t v l) p q r
+    ∙ (λ i. f (cond (not (sizes i && invOk v)) (wrongSize t v l) (cond (ltb (length l / 3) (length (same i))) (noPlace t v l) (carriedOut t v l))))
+  where
+    sizes : sizeOk s ≡ sizeOk t
+    sizes = ap (λ (n : ℕ). eqb (n % 16384) 0 && leb (n / 16384) 32527) (h .lengths)
+
+    same : entries (standing s) v ≡ entries (standing t) v
+    same = all-told (standing s) (standing t) (looks-seen s t h) v

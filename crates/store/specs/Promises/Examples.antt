@@ -17,7 +17,7 @@ use Rattle.store.specs.declared.Slot.the-variants.{Ordinary, Free, Redir
 -- ---- one page
 
 -- n bytes into a page, and slot k erased: what is seen afterwards
-into : ℕ → View → View
+unfoldable pub into : ℕ → View → View
 into n v = go (allocate v n)
   where
     go : Alloc → View

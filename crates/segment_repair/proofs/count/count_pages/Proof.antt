@@ -5,7 +5,7 @@ use mathlib.Core.Logic.{⊎-elim}
 use native.Mathlib.Omega.{arith}
 use lib.ListN.{length, length-replicate}
 use Rattle.store.specs.Repair.{standing, segEntries, segAfter, trueInv}
-use Rattle.store.specs.Promises.RepairKept.{seg-most, page-most}
+use Rattle.store.specs.Laws.RepairList.{seg-most, page-most}
 use Rattle.store.specs.Laws.RepairInventory.{true-length}
 use Rattle.segment_repair.proofs.CountLaws.{entries-none, entries-more, true-none, true-skips, true-more, true-all}
 use Rattle.segment_repair.proofs.count.count_pages.Statement.{statement}
