@@ -5,6 +5,8 @@
 //! inside them: that is proved of the archive's functions for every length and all bytes. None of
 //! them keeps a pointer, and none reads what it was not lent.
 
+use crate::Touched;
+
 extern "C" {
     fn hk_insert_record(
         segment: *mut u8,
@@ -56,6 +58,15 @@ extern "C" {
         id: *mut u64,
         offset: *mut u64,
         length: *mut u64,
+    ) -> u64;
+    fn hk_repair(
+        segment: *mut u8,
+        segment_len: usize,
+        inventory: *mut u8,
+        inventory_len: usize,
+        entries: *mut u64,
+        entries_len: usize,
+        count: *mut u64,
     ) -> u64;
 }
 
@@ -148,4 +159,21 @@ pub(crate) fn scan_step(segment: &[u8], scanned: &mut u64) -> Step {
         )
     };
     step
+}
+
+/// The answer, and how many entries there are or, where it is 11, would be. An entry is three words.
+pub(crate) fn repair(segment: &mut [u8], inventory: &mut [u8], list: &mut [Touched]) -> (u64, u64) {
+    let mut count = 0;
+    let answer = unsafe {
+        hk_repair(
+            segment.as_mut_ptr(),
+            segment.len(),
+            inventory.as_mut_ptr(),
+            inventory.len(),
+            list.as_mut_ptr().cast(),
+            3 * list.len(),
+            &mut count,
+        )
+    };
+    (answer, count)
 }

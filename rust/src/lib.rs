@@ -33,6 +33,9 @@
 //! A store grows by being lent with more pages of zeros at its end and the same inventory;
 //! `examples/store_in_file.rs` keeps one in a file.
 //!
+//! After a crash, [`SlottedPageSegment::repair`] makes a store sound again, keeps what can be kept and
+//! tells what it touched; `examples/repair.rs` does so to a store in a file.
+//!
 //! # For callers of the published Rust
 //!
 //! The calls have the names that they have in OxidSQL, from which the store was carried over, with
@@ -62,11 +65,13 @@ mod refusal;
 mod rid;
 mod scan;
 mod segment;
+mod touched;
 
 pub use refusal::Refusal;
 pub use rid::Rid;
 pub use scan::SlottedPageScan;
 pub use segment::{SlottedPageSegment, SlottedPages};
+pub use touched::{At, Change, RepairRefusal, Touched};
 
 /// The bytes of a page, and of the inventory.
 pub const PAGE_SIZE: usize = 16384;

@@ -1,7 +1,7 @@
 //! The calls.
 
 use crate::archive::{self, Place};
-use crate::{Refusal, Rid, SlottedPageScan, MAX_RECORD_SIZE, PAGE_SIZE};
+use crate::{Refusal, RepairRefusal, Rid, SlottedPageScan, Touched, MAX_RECORD_SIZE, PAGE_SIZE};
 use std::fmt;
 
 /// The part of the segment that is a record.
@@ -141,6 +141,73 @@ impl<'a> SlottedPageSegment<'a> {
     /// All records with their ids; see [`SlottedPages::scan`].
     pub fn scan(&self) -> SlottedPageScan<'_> {
         self.pages().scan()
+    }
+
+    /// Makes the segment and its inventory sound, whatever their bytes, and keeps what can be kept. Gives the part of
+    /// `list` that it has filled, an entry for each slot, header and inventory that it changed; the rest of the list is as
+    /// it was. A sound segment gets no entry and keeps each byte.
+    ///
+    /// What could be read can still be read, under the same id and in the same place. No record's bytes are changed: a
+    /// record that is freed still lies there, and so does one on a page whose header became zeros. Who wants the old
+    /// slots keeps the old bytes; the entries tell where to look.
+    ///
+    /// Not seen by a repair: a slot that is wrong but lies well, a record changed in its bytes, and a page whose header
+    /// became that of a fresh one.
+    ///
+    /// Where the list is too short nothing is changed, and [`RepairRefusal::Room`] tells how many entries are needed, also
+    /// for an empty list; 2,047 a page and one more always suffice.
+    ///
+    /// ```
+    /// use hekatosuy::{At, Change, RepairRefusal, SlottedPageSegment, Touched, PAGE_SIZE};
+    ///
+    /// let (mut pages, mut inventory) = (vec![0; PAGE_SIZE], vec![0; PAGE_SIZE]);
+    /// let mut segment = SlottedPageSegment::new(&mut pages, &mut inventory);
+    /// let first = segment.insert_record(b"mirror 7, row 1")?;
+    /// let second = segment.insert_record(b"mirror 7, row 2")?;
+    ///
+    /// pages[12] = 0x3F; // the first slot's record is said to lie past the page
+    /// let mut segment = SlottedPageSegment::new(&mut pages, &mut inventory);
+    /// assert_eq!(segment.repair(&mut []), Err(RepairRefusal::Room { needed: 2 }));
+    /// let mut list = [Touched::default(); 20];
+    /// let told = segment.repair(&mut list)?;
+    /// assert_eq!(told.len(), 2);
+    /// assert_eq!((told[0].tid(), told[0].change()), (Some(first), Change::RecordFreed));
+    /// assert_eq!(told[0].to_string(), "page 0, slot 0: record freed, it did not lie as it must");
+    /// assert_eq!((told[1].at(), told[1].change()), (At::Header, Change::HeaderWorkedOut));
+    /// assert_eq!(segment.get_record(second)?, b"mirror 7, row 2");
+    /// assert!(segment.is_sound());
+    /// # Ok::<(), Box<dyn std::error::Error>>(())
+    /// ```
+    pub fn repair<'l>(&mut self, list: &'l mut [Touched]) -> Result<&'l [Touched], RepairRefusal> {
+        let count = RepairRefusal::of_answer(archive::repair(self.segment, self.inventory, list))?;
+        Ok(&list[..count])
+    }
+
+    /// As [`repair`](SlottedPageSegment::repair), with a list that is as long as it has to be.
+    ///
+    /// ```
+    /// # use hekatosuy::{SlottedPageSegment, PAGE_SIZE};
+    /// let (mut pages, mut inventory) = (vec![0xA5; PAGE_SIZE], vec![0; PAGE_SIZE]);
+    /// for touched in SlottedPageSegment::new(&mut pages, &mut inventory).repair_all()? {
+    ///     println!("{touched}"); // page 0: header zeroed, its records are lost
+    /// }
+    /// # Ok::<(), hekatosuy::RepairRefusal>(())
+    /// ```
+    pub fn repair_all(&mut self) -> Result<Vec<Touched>, RepairRefusal> {
+        let needed = match self.repair(&mut []) {
+            Err(RepairRefusal::Room { needed }) => needed,
+            other => return other.map(<[Touched]>::to_vec),
+        };
+        let mut list = vec![Touched::default(); needed];
+        self.repair(&mut list)?;
+        Ok(list)
+    }
+
+    /// Whether the segment is sound and the inventory tells the truth about it: then a repair would change nothing, and
+    /// no call is refused by [`Refusal::Damaged`] or [`Refusal::Stale`]. One of a wrong size is not. Nothing is changed;
+    /// it takes `&mut self` because the archive's call is a repair, with an empty list.
+    pub fn is_sound(&mut self) -> bool {
+        self.repair(&mut []).is_ok()
     }
 }
 

@@ -184,11 +184,15 @@ claim-more u v w o e i a b m r mask top inside p q at s t = record {
     claimed x = rw (t .1 x, ← at) (claimed-join u v (set v i (bitOr (getD v i 0) m)) o (64 * i + a) (64 * i + b) p (omega arith) s
         (claimed-word v i a b m mask top inside (t .0 .yes x)))
 
-pub blank : Blank (replicate 256 0)
+-- words of zeros have no mark
+pub blank-words : (n : ℕ) → Blank (replicate n 0)
 unfolding mark
-blank i = go (decLt (i / 64) 256)
+blank-words n i = go (decLt (i / 64) n)
   where
-    go : Dec (i / 64 < 256) → bit (i % 64) (getD (replicate {A = ℕ} 256 0) (i / 64) 0) ≡ 0
-    go (yes h) = ap (bit (i % 64)) (getD-replicate {A = ℕ} 256 (i / 64) 0 0 h) ∙ bit-zero (i % 64)
-    go (no h) = ap (bit (i % 64)) (List·getD-eq-default (replicate {A = ℕ} 256 0) 0 {n = i / 64} (omega (arith, length-replicate {A = ℕ} 256 0)))
+    go : Dec (i / 64 < n) → bit (i % 64) (getD (replicate {A = ℕ} n 0) (i / 64) 0) ≡ 0
+    go (yes h) = ap (bit (i % 64)) (getD-replicate {A = ℕ} n (i / 64) 0 0 h) ∙ bit-zero (i % 64)
+    go (no h) = ap (bit (i % 64)) (List·getD-eq-default (replicate {A = ℕ} n 0) 0 {n = i / 64} (omega (arith, length-replicate {A = ℕ} n 0)))
         ∙ bit-zero (i % 64)
+
+pub blank : Blank (replicate 256 0)
+blank = blank-words 256

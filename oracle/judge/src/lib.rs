@@ -6,11 +6,15 @@ pub mod numbers;
 pub mod poke;
 pub mod populate;
 pub mod random;
+#[path = "../../../rust/tests/repair_examples/mod.rs"]
+pub mod repair_examples;
+pub mod repairs;
 pub mod sequence;
 pub mod show;
 pub mod soundness;
 pub mod trace;
 pub mod trial;
 pub mod widest;
+pub mod wreck;
 
 pub use store::*;

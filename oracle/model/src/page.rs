@@ -3,7 +3,7 @@
 use crate::notes::{Notes, Step};
 
 pub const PAGE: usize = 16384;
-const HEADER: usize = 12;
+pub const HEADER: usize = 12;
 
 #[derive(Clone, Copy, PartialEq, Eq, Debug)]
 pub enum Kind {

@@ -3,6 +3,18 @@
 use hekatosuy::{Refusal, Rid, SlottedPageSegment, SlottedPages};
 use store::{Answer, Found, Store, DONE};
 
+extern "C" {
+    fn hk_repair(
+        segment: *mut u8,
+        segment_len: usize,
+        inventory: *mut u8,
+        inventory_len: usize,
+        entries: *mut u64,
+        entries_len: usize,
+        count: *mut u64,
+    ) -> u64;
+}
+
 /// Bytes of any length, lent anew for each call.
 pub struct Ours {
     segment: Vec<u8>,
@@ -22,7 +34,25 @@ impl Ours {
         Ours { segment: segment.to_vec(), inventory: inventory.to_vec() }
     }
 
-    fn lend(&mut self) -> SlottedPageSegment<'_> {
+    /// Answer and count of a repair with a list of any number of words; the crate lends three for each entry.
+    pub fn repair(&mut self, list: &mut [u64]) -> (u64, u64) {
+        let mut count = u64::MAX;
+        let answer = unsafe {
+            hk_repair(
+                self.segment.as_mut_ptr(),
+                self.segment.len(),
+                self.inventory.as_mut_ptr(),
+                self.inventory.len(),
+                list.as_mut_ptr(),
+                list.len(),
+                &mut count,
+            )
+        };
+        (answer, count)
+    }
+
+    /// The crate's calls over the same bytes.
+    pub fn lend(&mut self) -> SlottedPageSegment<'_> {
         SlottedPageSegment::new(&mut self.segment, &mut self.inventory)
     }
 
