@@ -21,7 +21,7 @@ use Rattle.store.specs.Laws.RepairBytes.{seg-length}
 use Rattle.store.specs.Laws.RepairAlone.{left-alone}
 use Rattle.store.specs.Laws.RepairCall.{carriedOut}
 use Rattle.store.specs.Promises.Repair.{none-sound, count-is}
-use Rattle.store.specs.Promises.RepairKept.{entries-most}
+use Rattle.store.specs.Laws.RepairList.{entries-most}
 use Rattle.store.specs.declared.Repair.the-variants.{Size, Done, Room}
 use Rattle.segment_repair.proofs.TellLaws.{put-more}
 
