@@ -15,7 +15,6 @@ use Rattle.store.specs.Repair.{
   standing,
   lost,
   deed,
-  deedNo,
   slotEntries,
   sameHead,
   mendedBy,
@@ -34,16 +33,15 @@ use Rattle.store.specs.Laws.RepairMixed.{mixed-length, mixed-sound, mixed-next,
 use Rattle.store.specs.Laws.Numbers.{lent, put-own, put-nil}
 use Rattle.store.specs.Laws.Segments.{length-page, lent-part}
 use Rattle.store.specs.Laws.Repair.{standing-page}
-use Rattle.store.specs.Laws.RepairBytes.{page-length, shown-page}
-use Rattle.store.specs.Laws.RepairPage.{Shown, after}
+use Rattle.store.specs.Laws.RepairBytes.{page-length}
 use Rattle.store.specs.Laws.RepairQuiet.{lost-many, lost-none, lost-bytes, lost-entries, fresh-bytes, fresh-entries, used-bytes, used-entries}
 use Rattle.store.specs.declared.Deed.{Deed}
-use Rattle.store.specs.declared.Deed.the-variants.{Stays, RecordFreed, RedirectFreed, MadeOrdinary}
 use Rattle.layout.specs.Run.{headOf}
 use Rattle.page_repair.specs.Kept.{CountedPage}
-use Rattle.page_repair.specs.Mended.{deedOf, deedsOf, CodableBy}
+use Rattle.page_repair.specs.Mended.{deedsOf, CodableBy}
 use Rattle.segment_judge.specs.Words.{Known, UsedPageOn, Deeds}
 use Rattle.segment_repair.specs.Words.{Written}
+use Rattle.segment_repair.proofs.CountLaws.{deeds-are, codable-deeds}
 use Rattle.segment_repair.proofs.TellLaws.{put-more}
 
 -- page p as the code lends it
@@ -115,15 +113,6 @@ fresh-is s p q e r b f g = ap (λ (t : List ℕ). fresh (view t)) (sym e) ∙ sy
 
 -- ---- a page in use
 
-deed-back : (d : Deed) → deedOf (deedNo d) ≡ d
-deed-back Stays = refl
-deed-back RecordFreed = refl
-deed-back RedirectFreed = refl
-deed-back MadeOrdinary = refl
-
-deeds-are : (d : ℕ → Deed) (ds : List ℕ) → Deeds d ds → deedsOf ds ≡ d
-deeds-are d ds h = λ i k. (ap deedOf (h .each k) ∙ deed-back (d k)) i
-
 abbrev pub headSame : (ℕ → Deed) → View → Bool
 headSame d v = sameHead v (mendedBy d v)
 
@@ -156,10 +145,7 @@ module _ (s : List ℕ) (p n : ℕ) (h : UsedPageOn s p n) (ds : List ℕ) (js :
       }
 
   pub lent-codable : CodableBy (deedsOf ds) (view (lentPart s p))
-  lent-codable =
-      subst (λ (d : ℕ → Deed). CodableBy d (view (lentPart s p))) (sym same-deeds)
-      (subst (λ (v : View). CodableBy (deed (standing s) p) v) (sym lent-view)
-      (λ k. after (standing s) p (subst Shown (sym (standing-page s p)) (shown-page (pageOf s p) (length-page s p (h .within)))) k .codable))
+  lent-codable = codable-deeds h js (lent-part s p)
 
   written-seg : (out : List ℕ) → out ≡ putMended (deedsOf ds) (view (lentPart s p)) (lentPart s p)
       → backPart s p out ≡ put s (p * 16384) (pageBytes (standing s) p (pageOf s p))
