@@ -73,7 +73,7 @@ redirectsTo t Free = false
 redirectsTo t (Redirect i) = eqb i t
 redirectsTo t (Target o l) = false
 
--- t is named by a kept redirect: only the one at its back id can be that (`Laws/RepairPairs.named-is`, `named-in`)
+-- t is named by a kept redirect: only the one at its back id can be that (Promises/RepairNamed)
 unfoldable pub named : SegView → ℕ → Bool
 named u t =
     ltb (pageNo (backId u t)) (u .pages)

@@ -19,6 +19,7 @@ use Rattle.store.specs.Repair.{standing, lost, mended, emptied, pageAfte
 use Rattle.store.specs.Laws.Cases.{by-test, or-in}
 use Rattle.store.specs.Laws.SoundPage.{past-free, sound-test, fresh-none}
 use Rattle.store.specs.Laws.Segments.{length-page}
+use Rattle.store.specs.Laws.SoundSegment.{seen-pages}
 use Rattle.store.specs.Laws.RepairPage.{used, Shown, mended-sound}
 use Rattle.store.specs.Laws.RepairBytes.{shown-page, repairedSeg, repaired-length, repaired-view}
 use Rattle.store.specs.Laws.RepairPairs.{after-paired}
@@ -50,10 +51,6 @@ module _ (s : List ℕ) where
   pub seen-bytes : (i : ℕ) → bytesOn (segView s) i ≡ bytesOn (standing s) i
   unfolding segView standing
   seen-bytes i = opened-bytes (pageOf s (pageNo i)) (slotNo i)
-
-  pub seen-pages : segView s .pages ≡ standing s .pages
-  unfolding segView standing
-  seen-pages = refl
 
   pub standing-pages : standing s .pages ≡ length s / 16384
   unfolding standing
@@ -123,7 +120,7 @@ module _ (s : List ℕ) (whole : length s % 16384 ≡ 0) where
   after-pages : segView (repairedSeg s whole) .pages ≡ segAfter (standing s) .pages
   unfolding segAfter
   after-pages =
-      seen-pages (repairedSeg s whole) ∙ standing-pages (repairedSeg s whole) ∙ ap (λ (n : ℕ). n / 16384) (repaired-length s whole) ∙ sym (standing-pages s)
+      seen-pages (repairedSeg s whole) ∙ ap (λ (n : ℕ). n / 16384) (repaired-length s whole) ∙ sym (standing-pages s)
 
   pub planned-pages : segAfter (standing s) .pages ≡ length s / 16384
   unfolding segAfter

@@ -24,13 +24,14 @@ use Rattle.store.specs.Laws.Cases.{by-test, never, or-in, or-out}
 use Rattle.store.specs.Laws.Numbers.{put-nil, put-own}
 use Rattle.store.specs.Laws.Views.{Sound, next-taken, next-free}
 use Rattle.store.specs.Laws.SoundPage.{and-in, sound-none, fresh-none, sound-page, apart-in}
+use Rattle.store.specs.Laws.Calls.{target-taken}
 use Rattle.store.specs.Laws.Segments.{length-page}
-use Rattle.store.specs.Laws.SoundSegment.{Sized, sized}
+use Rattle.store.specs.Laws.SoundSegment.{Sized, sized, seen-pages}
 use Rattle.store.specs.Laws.RepairPage.{in-all, lowest-low}
 use Rattle.store.specs.Laws.RepairBytes.{same-slot}
 use Rattle.store.specs.Laws.RepairPairs.{holds-in, KeptRedirect, named-in}
 use Rattle.store.specs.Laws.RepairInventory.{classesTo, true-length, true-same}
-use Rattle.store.specs.Laws.Repair.{seen-slot, seen-bytes, seen-pages, standing-pages, standing-page}
+use Rattle.store.specs.Laws.Repair.{seen-slot, seen-bytes, standing-pages, standing-page}
 use Rattle.store.specs.Laws.Repair.{paired-same, shown, true-planned, classes-after, after-sound}
 use Rattle.store.specs.declared.Slot.{Slot}
 use Rattle.store.specs.declared.Slot.the-variants.{Ordinary, Free, Redirect, Target}
@@ -262,7 +263,7 @@ module _ (s v : List ℕ) (h : SoundSegment s v) where
   pages-are = standing-pages s
 
   paired : Paired u
-  paired = paired-same u (segView s) (sym (seen-pages s)) (λ i l. sym (seen-slot s i)) (λ i l. sym (seen-bytes s i)) (h .pairs)
+  paired = paired-same u (segView s) (standing-pages s ∙ sym (seen-pages s)) (λ i l. sym (seen-slot s i)) (λ i l. sym (seen-bytes s i)) (h .pairs)
 
   -- a page with a slot that is not free is in use
   taken : (i : ℕ) → pageNo i < u .pages → isFree (slotOn u i) ≡ false → fresh (u .page (pageNo i)) ≡ false
@@ -275,12 +276,6 @@ module _ (s v : List ℕ) (h : SoundSegment s v) where
           let w : _≡_ {A = ℕ} 0 1 = cc in absurd (omega arith)
       go false f = f
 
-  free-not : (x : Slot) → isTarget x ≡ true → isFree x ≡ false
-  free-not (Ordinary o l) e = refl
-  free-not Free e = let w : _≡_ {A = ℕ} 0 1 = cc in absurd (omega arith)
-  free-not (Redirect i) e = refl
-  free-not (Target o l) e = refl
-
   all-hold : (i t : ℕ) → pageNo i < u .pages → slotOn u i ≡ Redirect t → KeptRedirect u i t
   all-hold i t l e =
       let r = paired .redirects i t l e in
@@ -292,7 +287,8 @@ module _ (s v : List ℕ) (h : SoundSegment s v) where
           below = r .below;
           whole = not-lost (pageNo t) (omega (arith, pages-are, r .below));
           keeps =
-              all-kept (u .page (pageNo t)) (in-use (pageNo t) (omega (arith, pages-are, r .below)) (taken t (r .below) (free-not (slotOn u t) (r .target))))
+              all-kept (u .page (pageNo t)) (in-use (pageNo t) (omega (arith, pages-are, r .below))
+              (taken t (r .below) (target-taken (slotOn u t) (r .target))))
               (slotNo t) (record-by (slotOn u t) (r .target));
           target = r .target;
           other = r .other;

@@ -18,7 +18,7 @@ use Rattle.store.specs.Inventory.{entryAt}
 use Rattle.store.specs.Segment.{SegView, pageOf}
 use Rattle.store.specs.Repair.{standing, lost, keeps, holds, named, deedBy, deed, changes, slotDone, slotAfter, mended, emptied}
 use Rattle.store.specs.Repair.{pageAfter, sameHead, putSlots, putMended, pageBytes, sameBytes, sameInv, trueOf, invAfter, Entry, entry}
-use Rattle.store.specs.Repair.{deedNo, slotEntries, headEntries, pageEntries, segEntries, invEntries, entries, mendedBy}
+use Rattle.store.specs.Repair.{deedNo, slotEntries, headEntries, pageEntries, segEntries, invEntries, entries}
 use Rattle.store.specs.RepairTold.{directory, In, Before, Ascending, Tells, freed-record, freed-redirect, made-ordinary}
 use Rattle.store.specs.declared.Deed.{Deed}
 use Rattle.store.specs.declared.Deed.the-variants.{Stays, RecordFreed, RedirectFreed, MadeOrdinary}
@@ -27,6 +27,8 @@ use Rattle.store.specs.Laws.Numbers.{cut-take}
 use Rattle.store.specs.Laws.SoundPage.{and-in, all-in, fresh-none}
 use Rattle.store.specs.Laws.RepairPage.{used}
 use Rattle.store.specs.Laws.RepairBytes.{slots-frame, page-past-directory, page-slot-same, page-seen, repairedSeg, repaired-page, repaired-view}
+use Rattle.store.specs.Laws.RepairPairs.{mended-at}
+use Rattle.store.specs.Laws.RepairQuiet.{lost-after, mended-count}
 use Rattle.store.specs.Laws.RepairInventory.{same-own}
 use Rattle.store.specs.Laws.Segments.{length-page}
 use Rattle.store.specs.Laws.Repair.{standing-pages, standing-page}
@@ -237,18 +239,6 @@ after-is : (u : SegView) (p : ℕ) → lost (u .page p) ≡ false → fresh (u .
 unfolding pageAfter
 after-is u p l f = λ i. cond (l i) emptied (cond (f i) (u .page p) (mended u p))
 
-lost-is : (u : SegView) (p : ℕ) → lost (u .page p) ≡ true → pageAfter u p ≡ emptied
-unfolding pageAfter
-lost-is u p l = λ i. cond (l i) emptied (cond (fresh (u .page p)) (u .page p) (mended u p))
-
-mended-count : (u : SegView) (p : ℕ) → mended u p .slotCount ≡ u .page p .slotCount
-unfolding mendedBy
-mended-count u p = refl
-
-mended-slot : (u : SegView) (p k : ℕ) → mended u p .at k ≡ slotAfter u p k
-unfolding mendedBy
-mended-slot u p k = refl
-
 module _ (u : SegView) (p : ℕ) (q : List ℕ) (is : view q ≡ u .page p) (whole : length q ≡ 16384) where
   mended-view : lost (u .page p) ≡ false → fresh (u .page p) ≡ false → view (pageBytes u p q) ≡ mended u p
   mended-view l f = page-seen u p q is whole ∙ after-is u p l f
@@ -259,7 +249,7 @@ module _ (u : SegView) (p : ℕ) (q : List ℕ) (is : view q ≡ u .page p) (who
       let m = mended-view l f in
       let n : view (pageBytes u p q) .slotCount ≡ view q .slotCount =
       ap (λ (v : View). v .slotCount) m ∙ mended-count u p ∙ sym (ap (λ (v : View). v .slotCount) is) in
-      slot-differs u p k c (sym (mended-slot u p k) ∙ sym (ap (λ (v : View). v .at k) m) ∙ same-entry (pageBytes u p q) q k n e ∙ ap (λ (v : View). v .at k) is)
+      slot-differs u p k c (sym (mended-at u p k) ∙ sym (ap (λ (v : View). v .at k) m) ∙ same-entry (pageBytes u p q) q k n e ∙ ap (λ (v : View). v .at k) is)
 
   pub head-bytes-differ : lost (u .page p) ≡ false → fresh (u .page p) ≡ false → sameHead (u .page p) (mended u p) ≡ false
       → cut (pageBytes u p q) 0 12 ≢ cut q 0 12
@@ -280,7 +270,7 @@ module _ (u : SegView) (p : ℕ) (q : List ℕ) (is : view q ≡ u .page p) (who
 
   pub lost-bytes-differ : lost (u .page p) ≡ true → cut (pageBytes u p q) 0 12 ≢ cut q 0 12
   lost-bytes-differ l e =
-      let m : view (pageBytes u p q) ≡ emptied = page-seen u p q is whole ∙ lost-is u p l in
+      let m : view (pageBytes u p q) ≡ emptied = page-seen u p q is whole ∙ lost-after u p l in
       let a : u .page p .slotCount ≡ 0 =
       sym (ap (λ (v : View). v .slotCount) is) ∙ sym (same-count (pageBytes u p q) q e) ∙ ap (λ (v : View). v .slotCount) m in
       let b : u .page p .firstFree ≡ 0 =
@@ -415,7 +405,7 @@ module _ (s : List ℕ) (whole : length s % 16384 ≡ 0) (v : List ℕ) where
       → Tells (view (pageOf s p) .at k) (view (pageOf (repairedSeg s whole) p) .at k) (deedNo (deed us p k))
   tells-now p k l a f c =
       let w : view (pageOf (repairedSeg s whole) p) .at k ≡ slotAfter us p k =
-      ap (λ (v : View). v .at k) (repaired-view s whole p l ∙ after-is us p a f) ∙ mended-slot us p k in
+      ap (λ (v : View). v .at k) (repaired-view s whole p l ∙ after-is us p a f) ∙ mended-at us p k in
       subst (λ (x : Slot). Tells (view (pageOf s p) .at k) x (deedNo (deed us p k))) (sym w)
       (subst (λ (x : View). Tells (x .at k) (slotAfter us p k) (deedNo (deed us p k))) (standing-page s p) (tells-at p k c))
 

@@ -23,7 +23,7 @@ use Rattle.store.specs.declared.Deed.the-variants.{Stays, RecordFreed, R
 use Rattle.store.specs.Laws.Cases.{by-test, not-in, or-in, or-out, or-true, or-false}
 use Rattle.store.specs.Laws.Slots.{Codable}
 use Rattle.store.specs.Laws.Edits.{Apart}
-use Rattle.store.specs.Laws.Views.{Sound, is-free, sum-ext, next-low, next-taken, next-free}
+use Rattle.store.specs.Laws.Views.{apart-flip, Sound, is-free, sum-ext, next-low, next-taken, next-free}
 use Rattle.store.specs.Laws.SoundPage.{and-both, and-in, or-right, two-apart}
 use Rattle.store.specs.declared.Slot.{Slot}
 use Rattle.store.specs.declared.Slot.the-variants.{Ordinary, Free, Redirect, Target}
@@ -106,13 +106,6 @@ in-good v (suc k) j e = go (in-good v k j) (turn v k j e)
     go ih (inl q) = (omega (arith, q .0), ap (λ (x : ℕ). isRecord (v .at x)) (q .0) ∙ q .1, ap (lies v) (q .0) ∙ q .2)
     go ih (inr q) = let h = ih q in (omega (arith, h .0), h .1, h .2)
 
-flip : (c d : Slot) → Apart c d → Apart d c
-flip c d h p q = turned (h q p)
-  where
-    turned : (off c + len c ≤ off d) ⊎ (off d + len d ≤ off c) → (off d + len d ≤ off c) ⊎ (off c + len c ≤ off d)
-    turned (inl y) = inr y
-    turned (inr y) = inl y
-
 pub in-apart : (v : View) (k i j : ℕ) → i ≢ j → isIn i (keptBelow v k) ≡ true → isIn j (keptBelow v k) ≡ true → Apart (v .at i) (v .at j)
 in-apart v zero i j n a b = absurd (none-in v i a)
 in-apart v (suc k) i j n a b = go (in-apart v k i j n) (turn v k i a) (turn v k j b)
@@ -121,7 +114,7 @@ in-apart v (suc k) i j n a b = go (in-apart v k i j n) (turn v k i a) (turn v k 
     go ih (inl x) (inl y) = absurd (n (x .0 ∙ sym (y .0)))
     go ih (inl x) (inr y) =
         let h = two-apart v j k (λ e. n (x .0 ∙ sym e)) (clear-at v k (keptBelow v k) (x .3) j y) in
-        rw (x .0) (flip (v .at j) (v .at k) h)
+        rw (x .0) (apart-flip (v .at j) (v .at k) h)
     go ih (inr x) (inl y) =
         let h = two-apart v i k (λ e. n (e ∙ sym (y .0))) (clear-at v k (keptBelow v k) (y .3) i x) in
         rw (y .0) h

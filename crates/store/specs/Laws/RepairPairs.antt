@@ -21,6 +21,7 @@ use Rattle.store.specs.declared.Deed.the-variants.{Stays, RecordFreed, R
 use Rattle.store.specs.Laws.Cases.{by-test, not-in}
 use Rattle.store.specs.Laws.SoundPage.{and-both, and-in, fresh-none}
 use Rattle.store.specs.Laws.Calls.{target-taken}
+use Rattle.store.specs.Laws.Stays.{id-of}
 use Rattle.store.specs.Laws.RepairPage.{keeps-is, Shown, after}
 use Rattle.store.specs.declared.Slot.{Slot}
 use Rattle.store.specs.declared.Slot.the-variants.{Ordinary, Free, Redirect, Target}
@@ -151,9 +152,6 @@ redirect-stays u p k x t e q = rw (e, q)
 
 -- ---- of an id
 
-pub id-is : (i : ℕ) → idOf (pageNo i) (slotNo i) ≡ i
-id-is i = omega arith
-
 -- a page that is not lost and has a slot is in use
 pub after-used : (u : SegView) (p k : ℕ) → lost (u .page p) ≡ false → k < u .page p .slotCount → pageAfter u p ≡ mended u p
 unfolding pageAfter
@@ -218,12 +216,12 @@ module _ (u : SegView) where
   -- both ends of a kept redirect stay
   pub redirect-kept : (i t : ℕ) → KeptRedirect u i t → deed u (pageNo i) (slotNo i) ≡ Stays
   unfolding deed
-  redirect-kept i t k = redirect-stays u (pageNo i) (slotNo i) (slotOn u i) t (k .is) (ap (λ (x : ℕ). holds u x t) (id-is i) ∙ holds-in u i t (k .holds))
+  redirect-kept i t k = redirect-stays u (pageNo i) (slotNo i) (slotOn u i) t (k .is) (ap (λ (x : ℕ). holds u x t) (id-of i) ∙ holds-in u i t (k .holds))
 
   pub target-kept : (i t : ℕ) → KeptRedirect u i t → deed u (pageNo t) (slotNo t) ≡ Stays
   unfolding deed
   target-kept i t k =
-      target-stays u (pageNo t) (slotNo t) (slotOn u t) (k .holds .target) (k .holds .keeps) (ap (named u) (id-is t) ∙ named-in u i t k)
+      target-stays u (pageNo t) (slotNo t) (slotOn u t) (k .holds .target) (k .holds .keeps) (ap (named u) (id-of t) ∙ named-in u i t k)
 
 module _ (u : SegView) (shown : (p : ℕ) → p < u .pages → Shown (u .page p)) where
   after-page : (i : ℕ) → segAfter u .page (pageNo i) .at (slotNo i) ≡ pageAfter u (pageNo i) .at (slotNo i)
@@ -235,14 +233,14 @@ module _ (u : SegView) (shown : (p : ℕ) → p < u .pages → Shown (u .page p)
   left-redirect i t l e =
       let w = taken-used u (pageNo i) (slotNo i) (shown (pageNo i) l) (ap isFree (sym (after-page i) ∙ e)) in
       let r = redirect-after u (pageNo i) (slotNo i) (slotOn u i) t (sym (slot-now u i (w .0) (w .1)) ∙ e) in
-      record { below = l; whole = w .0; is = r .0; holds = holds-is u i t (ap (λ (x : ℕ). holds u x t) (sym (id-is i)) ∙ r .1) }
+      record { below = l; whole = w .0; is = r .0; holds = holds-is u i t (ap (λ (x : ℕ). holds u x t) (sym (id-of i)) ∙ r .1) }
 
   pub left-target : (t : ℕ) → pageNo t < u .pages → isTarget (slotOn (segAfter u) t) ≡ true → KeptRedirect u (backId u t) t
   left-target t l e =
       let w = taken-used u (pageNo t) (slotNo t) (shown (pageNo t) l)
       (target-taken (pageAfter u (pageNo t) .at (slotNo t)) (ap isTarget (sym (after-page t)) ∙ e)) in
       let r = target-after u (pageNo t) (slotNo t) (slotOn u t) (ap isTarget (sym (slot-now u t (w .0) (w .1))) ∙ e) in
-      named-is u t (ap (named u) (sym (id-is t)) ∙ r .2)
+      named-is u t (ap (named u) (sym (id-of t)) ∙ r .2)
 
   -- the slot of a redirect lies below the count
   pub counted : (i t : ℕ) → KeptRedirect u i t → slotNo i < u .page (pageNo i) .slotCount

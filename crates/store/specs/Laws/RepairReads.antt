@@ -17,6 +17,7 @@ use Rattle.store.specs.SoundSegment.{slotOn, bytesOn}
 use Rattle.store.specs.Repair.{standing, lost, keeps, holds, named, deedBy, deed, slotDone, bytesDone, segAfter, invAfter}
 use Rattle.store.specs.declared.Deed.{Deed}
 use Rattle.store.specs.declared.Deed.the-variants.{Stays, RecordFreed, MadeOrdinary}
+use Rattle.store.specs.Laws.Compactify.{record-taken}
 use Rattle.store.specs.Laws.Slots.{tag}
 use Rattle.store.specs.Laws.Views.{Sound}
 use Rattle.store.specs.Laws.SoundPage.{and-both, fresh-none, past-free, sound-page}
@@ -24,11 +25,11 @@ use Rattle.store.specs.Laws.Segments.{length-page}
 use Rattle.store.specs.Laws.Roots.{by-root}
 use Rattle.store.specs.Laws.Calls.{target-taken}
 use Rattle.store.specs.Laws.Pairs.{look, tagOn}
-use Rattle.store.specs.Laws.SoundSegment.{sound-closed}
+use Rattle.store.specs.Laws.SoundSegment.{sound-closed, seen-pages}
 use Rattle.store.specs.Laws.Rows.{read-look}
 use Rattle.store.specs.Laws.RepairBytes.{repairedSeg, repaired-length}
 use Rattle.store.specs.Laws.RepairPairs.{KeptRedirect, after-used, mended-bytes, slot-stays, bytes-stay, slot-now, redirect-kept, target-kept}
-use Rattle.store.specs.Laws.Repair.{seen-slot, seen-bytes, seen-pages, standing-pages, opened-standing, after-page, after-sound}
+use Rattle.store.specs.Laws.Repair.{seen-slot, seen-bytes, standing-pages, opened-standing, after-page, after-sound}
 use Rattle.store.specs.Laws.RepairAlone.{sound-not-lost, all-kept, record-by}
 use Rattle.store.specs.declared.Slot.{Slot}
 use Rattle.store.specs.declared.Slot.the-variants.{Ordinary, Free, Redirect, Target}
@@ -73,12 +74,6 @@ in-use q k whole e t = go (fresh (view q)) refl
     go : (b : Bool) → fresh (view q) ≡ b → (lost (view q) ≡ false) × (k < view q .slotCount) × Sound (view q)
     go true f = absurd (free (omega (arith, fresh-none (view q) f)))
     go false f = (sound-not-lost q whole e, below (decLt k (view q .slotCount)), sound-page q whole f e)
-
-record-taken : (x : Slot) → isRecord x ≡ true → isFree x ≡ false
-record-taken (Ordinary o l) e = refl
-record-taken Free e = let z : _≡_ {A = ℕ} 0 1 = cc in absurd (omega arith)
-record-taken (Redirect i) e = refl
-record-taken (Target o l) e = refl
 
 -- ---- afterwards
 
@@ -187,7 +182,7 @@ module _ (s : List ℕ) (whole : length s % 16384 ≡ 0) where
         let b2 = and-both (ltb (pageNo t) (segView s .pages) && not (eqb (pageNo t) (pageNo i))) (sound w) (b3 .0) in
         let b1 = and-both (ltb (pageNo t) (segView s .pages)) (not (eqb (pageNo t) (pageNo i))) (b2 .0) in
         let lt : pageNo t < segView s .pages = ltb-true (pageNo t) (segView s .pages) (b1 .0) in
-        let under : pageNo t < length s / 16384 = omega (arith, seen-pages s, standing-pages s) in
+        let under : pageNo t < length s / 16384 = omega (arith, seen-pages s) in
         let target : isTarget (slotOn u t) ≡ true = ap isTarget (sym (seen-slot s t)) ∙ b3 .1 in
         let y = used-page t under (b2 .1) (target-taken (slotOn u t) target) in
         let x = used-page i below (r .sound) (ap isFree g) in

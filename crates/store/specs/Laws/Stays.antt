@@ -91,7 +91,7 @@ counted v s k f = go (decLt k (v .slotCount))
         let e : isFree (v .at k) ≡ true = ap isFree (s .past k (omega arith)) in
         let z : _≡_ {A = ℕ} 0 1 = cc in absurd (omega arith)
 
-id-of : (i : ℕ) → idOf (pageNo i) (slotNo i) ≡ i
+pub id-of : (i : ℕ) → idOf (pageNo i) (slotNo i) ≡ i
 id-of i = omega arith
 
 pub page-of : (p k : ℕ) → k < 65536 → pageNo (idOf p k) ≡ p

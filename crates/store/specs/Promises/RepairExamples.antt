@@ -226,6 +226,6 @@ on-none-is = refl
 pub rows : List Row
 rows = onOne (counted 16336) ++ (onThree pairs ++ (e26 (zeros 16384) ∷ []))
 
-pub repaired : map (λ r. r .got) rows ≡ map (λ r. r .want) rows
+pub worked : map (λ r. r .got) rows ≡ map (λ r. r .want) rows
 unfolding rows onOne onThree
-repaired = λ i. on-one-is i ++ (on-three-is i ++ (on-none-is i ∷ []))
+worked = λ i. on-one-is i ++ (on-three-is i ++ (on-none-is i ∷ []))
