@@ -1,20 +1,21 @@
 -- A page written: what the bytes become, and which entries are told.
 use Prim.Native.Nat.{ℕ, zero, suc, _+_, _-_, _*_, _/_, _%_, _≤_, _<_}
 use mathlib.Core.Path.{_≡_, refl, sym, ap, subst, _∙_}
-use mathlib.Core.Bool.{Bool, true, false, cond}
+use mathlib.Core.Bool.{Bool, true, false, cond, not}
 use mathlib.Core.List.{List, [], _∷_, _++_, append-nil}
 use mathlib.Core.Logic.{⊎-elim}
 use native.Mathlib.Omega.{arith}
 use native.Mathlib.Nat.{zero-add}
 use lib.ListN.{length, length-append}
 use borrow.Rule.Slice.PartMut.{putMid}
-use Rattle.store.specs.Numbers.{cut, put, zeros}
-use Rattle.store.specs.Page.{View, view, fresh}
+use Rattle.store.specs.Numbers.{cut, put, zeros, all}
+use Rattle.store.specs.Page.{View, view, fresh, sound}
 use Rattle.store.specs.Segment.{SegView, pageOf}
 use Rattle.store.specs.Repair.{
   standing,
   lost,
   deed,
+  changes,
   slotEntries,
   sameHead,
   mendedBy,
@@ -34,7 +35,8 @@ use Rattle.store.specs.Laws.Numbers.{lent, put-own, put-nil}
 use Rattle.store.specs.Laws.Segments.{length-page, lent-part}
 use Rattle.store.specs.Laws.Repair.{standing-page}
 use Rattle.store.specs.Laws.RepairBytes.{page-length}
-use Rattle.store.specs.Laws.RepairQuiet.{lost-many, lost-none, lost-bytes, lost-entries, fresh-bytes, fresh-entries, used-bytes, used-entries}
+use Rattle.store.specs.Laws.RepairQuiet.{lost-many, lost-none, lost-bytes, lost-entries, fresh-bytes, fresh-entries, used-bytes, used-entries, quiet-page}
+use Rattle.store.specs.Laws.RepairQuiet.{quiet-written}
 use Rattle.store.specs.declared.Deed.{Deed}
 use Rattle.layout.specs.Run.{headOf}
 use Rattle.page_repair.specs.Kept.{CountedPage}
@@ -93,6 +95,21 @@ module _ (s : List ℕ) (p : ℕ) (fits : Within s p) where
       let es = fresh-entries (standing s) p g in
       record {
         seg = sym (ap (put s (p * 16384)) (fresh-bytes (standing s) p g (pageOf s p)) ∙ put-own s (p * 16384) 16384 fits);
+        list = sym (ap (λ (x : List Entry). put l (3 * at) (words x)) es ∙ put-nil l (3 * at));
+        told = omega (arith, ap length es);
+      }
+
+  -- ---- a page in use that is sound, and of which no slot changes
+
+  pub written-quiet : (n : ℕ) → UsedPageOn s p n → sound (view (pageOf s p)) ≡ true → all n (λ k. not (changes (deed (standing s) p k))) ≡ true
+      → (l : List ℕ) (at : ℕ) → Written s s l l p at at
+  unfolding standing
+  written-quiet n h e q l at =
+      let some : 0 < view (pageOf s p) .slotCount = omega (arith, h .is, h .some) in
+      let none = subst (λ (k : ℕ). all k (λ j. not (changes (deed (standing s) p j))) ≡ true) (h .is) q in
+      let es = quiet-page s p fits e some none .0 in
+      record {
+        seg = sym (ap (put s (p * 16384)) (quiet-written s p fits e some none (pageOf s p)) ∙ put-own s (p * 16384) 16384 fits);
         list = sym (ap (λ (x : List Entry). put l (3 * at) (words x)) es ∙ put-nil l (3 * at));
         told = omega (arith, ap length es);
       }

@@ -15,8 +15,8 @@ ghost use Rattle.store.specs.Laws.Lent.{Within};
 ghost use Rattle.segment_judge.specs.Words.{Known, UsedPageOn};
 ghost use Rattle.segment_repair.specs.Words.{Written};
 
-// A page in use, of n slots; answers the number of the next entry.
-fn write_used(
+// A page in use, of n slots, gone through in full; answers the number of the next entry.
+fn write_mended(
     segment: &mut [u8],
     sound: &[usize],
     p: usize,
@@ -36,6 +36,27 @@ fn write_used(
     }
     tell::tell(entries, next, p, tell::AT_HEADER, tell::HEADER_WORKED_OUT);
     next + 1
+}
+
+// The same; one that is sound, and of which no slot changes, stays as it is.
+fn write_used(
+    segment: &mut [u8],
+    sound: &[usize],
+    p: usize,
+    n: usize,
+    entries: &mut [u64],
+    at: usize,
+) -> usize
+    requires { ⌜ Known (now segment) (now sound) × UsedPageOn (now segment) p n ⌝ }
+    requires { ⌜ 3 * (at + length (pageEntries (standing (now segment)) p)) ≤ length (now entries) ⌝ }
+    ensures { λ r. ⌜ Written (now (segment .entry)) (now (segment .exit)) (now (entries .entry)) (now (entries .exit)) p at r ⌝ }
+{
+    if page_repair::marks::is_marked(sound, p) {
+        if segment_judge::all_stay(segment, sound, p, n) {
+            return at;
+        }
+    }
+    write_mended(segment, sound, p, n, entries, at)
 }
 
 // "gets a zero header".

@@ -19,7 +19,7 @@ use Rattle.store.specs.Laws.Views.{Sound}
 use Rattle.store.specs.Laws.SoundPage.{all-at, fresh-none, used-not-fresh, past-free, sound-page}
 use Rattle.store.specs.Laws.Segments.{length-page}
 use Rattle.store.specs.Laws.Repair.{standing-page}
-use Rattle.store.specs.Laws.RepairAlone.{space-same, same-at, quiet-by, quiet-entries, sound-not-lost}
+use Rattle.store.specs.Laws.RepairAlone.{space-same, same-at, quiet-by, quiet-bytes, quiet-entries, sound-not-lost}
 
 -- ---- when a page is lost
 
@@ -143,14 +143,23 @@ module _ (s : List ℕ) (p : ℕ) (h : p * 16384 + 16384 ≤ length s) (e : soun
   unfolding mendedBy
   mended-free g w = ap (λ (x : ℕ → Slot). spaceAfter (standing s .page p .slotCount) x) g ∙ space-same (standing s .page p) w
 
-  pub quiet-page : 0 < standing s .page p .slotCount → all (standing s .page p .slotCount) (λ k. not (changes (deed (standing s) p k))) ≡ true
-      → (pageEntries (standing s) p ≡ []) × (pageAfter (standing s) p .freeSpace ≡ standing s .page p .freeSpace) × (fresh (pageAfter (standing s) p) ≡ false)
-  quiet-page some q =
-      let u = standing s in
-      let w = seen-sound (not-fresh (u .page p) some) in
-      let each : (k : ℕ) → k < u .page p .slotCount → changes (deed u p k) ≡ false =
-      λ k m. not-true (changes (deed u p k)) (all-at (u .page p .slotCount) (λ j. not (changes (deed u p j))) q k m) in (
-        quiet-entries u p sound-kept (λ f. quiet-by u p w each),
-        ap (λ (v : View). v .freeSpace) (used-after u p some (w .few)) ∙ mended-free (same-at u p w each) w,
-        used-fresh u p some (w .few),
-      )
+  module _ (some : 0 < standing s .page p .slotCount)
+      (q : all (standing s .page p .slotCount) (λ k. not (changes (deed (standing s) p k))) ≡ true) where
+    in-use : Sound (standing s .page p)
+    in-use = seen-sound (not-fresh (standing s .page p) some)
+
+    none-changes : (k : ℕ) → k < standing s .page p .slotCount → changes (deed (standing s) p k) ≡ false
+    none-changes k m =
+        not-true (changes (deed (standing s) p k))
+        (all-at (standing s .page p .slotCount) (λ j. not (changes (deed (standing s) p j))) q k m)
+
+    pub quiet-page : (pageEntries (standing s) p ≡ []) × (pageAfter (standing s) p .freeSpace ≡ standing s .page p .freeSpace)
+        × (fresh (pageAfter (standing s) p) ≡ false)
+    quiet-page = (
+      quiet-entries (standing s) p sound-kept (λ f. quiet-by (standing s) p in-use none-changes),
+      ap (λ (v : View). v .freeSpace) (used-after (standing s) p some (in-use .few)) ∙ mended-free (same-at (standing s) p in-use none-changes) in-use,
+      used-fresh (standing s) p some (in-use .few),
+    )
+
+    pub quiet-written : (r : List ℕ) → pageBytes (standing s) p r ≡ r
+    quiet-written r = quiet-bytes (standing s) p r sound-kept (λ f. quiet-by (standing s) p in-use none-changes)
