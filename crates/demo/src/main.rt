@@ -34,12 +34,18 @@ fn repair(segment: &mut [u8], inventory: &mut [u8]) {
 }
 
 // Slot 5's entry begins at byte 52: its offset, of 4 bytes, then its length.
+fn damage(segment: &mut [u8]) {
+    if 55 < segment.len() {
+        segment[55] = 0x40;
+    }
+}
+
 fn crash(segment: &mut [u8], inventory: &mut [u8]) {
     say(
         b"A crash: one byte of page 0's directory is overwritten, so that the row (0,5) would overlap (0,4).\n",
     );
     say(b"No row of that page is handed out now (4: damaged):\n");
-    segment[55] = 0x40;
+    damage(segment);
     print_rows::read(segment, 2);
     say(b"Repair keeps what can be kept, and tells what it touched:\n");
     repair(segment, inventory);

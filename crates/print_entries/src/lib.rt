@@ -2,11 +2,8 @@
 use print::end_line;
 use print::named;
 use print::say;
-
-// An entry's place where it is not a slot.
-const AT_HEADER: u64 = 65535;
-
-const AT_INVENTORY: u64 = 65536;
+use store::AT_HEADER;
+use store::AT_INVENTORY;
 
 fn done(what: u64) {
     match what {

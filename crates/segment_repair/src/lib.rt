@@ -4,6 +4,7 @@ mod count;
 mod tell;
 mod write;
 
+use store::AT_INVENTORY;
 use store::PAGE_SIZE;
 use store::Repair;
 ghost use mathlib.Core.Path.{_≡_};
@@ -38,13 +39,7 @@ pub fn repair(segment: &mut [u8], inventory: &mut [u8], entries: &mut [u64]) -> 
     let at = crate::write::write_pages(segment, &sound, entries);
     if !same {
         let n = segment.len() / PAGE_SIZE;
-        tell::tell(
-            entries,
-            at,
-            n,
-            tell::AT_INVENTORY,
-            tell::INVENTORY_WORKED_OUT,
-        );
+        tell::tell(entries, at, n, AT_INVENTORY, tell::INVENTORY_WORKED_OUT);
         layout_runs::copy_in(inventory, 0, &after);
     }
     Repair::Done { count }

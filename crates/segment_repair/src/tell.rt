@@ -8,11 +8,7 @@ ghost use Rattle.store.specs.Repair.{slotEntries, words};
 ghost use Rattle.page_repair.specs.Mended.{deedsOf};
 ghost use Rattle.segment_judge.specs.Words.{Deeds};
 
-// An entry's place where it is not a slot, and what was done there.
-pub const AT_HEADER: u64 = 65535;
-
-pub const AT_INVENTORY: u64 = 65536;
-
+// What was done to a header or to the inventory.
 pub const HEADER_WORKED_OUT: u64 = 4;
 
 pub const HEADER_ZEROED: u64 = 5;

@@ -1,6 +1,7 @@
 // The changes written, page by page upward, each with its entry.
 use crate::tell;
 use segment_pages::page_of;
+use store::AT_HEADER;
 use store::MOST_SLOTS;
 use store::PAGE_SIZE;
 ghost use mathlib.Core.Path.{_≡_};
@@ -34,7 +35,7 @@ fn write_mended(
     if !page_repair::mend::mend(&mut segment[p * 16384..(p + 1) * 16384], n, &deeds) {
         return next;
     }
-    tell::tell(entries, next, p, tell::AT_HEADER, tell::HEADER_WORKED_OUT);
+    tell::tell(entries, next, p, AT_HEADER, tell::HEADER_WORKED_OUT);
     next + 1
 }
 
@@ -66,7 +67,7 @@ fn write_lost(segment: &mut [u8], p: usize, entries: &mut [u64], at: usize) -> u
     ensures { λ r. ⌜ Written (now (segment .entry)) (now (segment .exit)) (now (entries .entry)) (now (entries .exit)) p at r ⌝ }
 {
     layout::header::set_header(&mut segment[p * 16384..(p + 1) * 16384], 0, 0, 0, 0);
-    tell::tell(entries, at, p, tell::AT_HEADER, tell::HEADER_ZEROED);
+    tell::tell(entries, at, p, AT_HEADER, tell::HEADER_ZEROED);
     at + 1
 }
 

@@ -21,6 +21,11 @@ pub const BACK: usize = 8;
 
 pub const ROOM: usize = PAGE_SIZE - HEADER;
 
+// The place of a repair's entry where it is not a slot.
+pub const AT_HEADER: u64 = 65535;
+
+pub const AT_INVENTORY: u64 = 65536;
+
 pub enum Slot {
     Ordinary { offset: usize, length: usize },
     Free,
