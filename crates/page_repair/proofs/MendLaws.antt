@@ -180,19 +180,29 @@ module _ (d : ℕ → Deed) (v : View) (k : ℕ) (p : List ℕ) {q : List ℕ} (
 
 -- ---- the page mended: the header is that of what was gathered, of all slots
 
+-- its numbers from what is gathered of all slots
+module _ (d : ℕ → Deed) (v : View) (r : Numbers) (g : Gathered d v (v .slotCount) r) where
+  pub first-after : headAfter v r .first ≡ mendedBy d v .firstFree
+  unfolding mendedBy
+  first-after = g .first
+
+  pub start-after : headAfter v r .start ≡ mendedBy d v .dataStart
+  unfolding mendedBy
+  start-after = ap (λ (m : ℕ). cond (leb (12 + 8 * v .slotCount) (v .dataStart) && leb (v .dataStart) m) (v .dataStart) m) (g .low)
+
+  pub space-after : headAfter v r .space ≡ mendedBy d v .freeSpace
+  unfolding mendedBy
+  space-after = ap (λ (m : ℕ). 16372 - (8 * v .slotCount + m)) (g .total)
+
+  pub says-same : saysHead v (headAfter v r) ≡ sameHead v (mendedBy d v)
+  says-same = λ i. eqb (v .firstFree) (first-after i) && (eqb (v .dataStart) (start-after i) && eqb (v .freeSpace) (space-after i))
+
 module _ (d : ℕ → Deed) (v : View) (p : List ℕ) {n : ℕ} {r : Numbers} {h : Header} {q : List ℕ} {b : Bool} (count : n ≡ v .slotCount) (all : Gathered d v n r)
     (is : h ≡ headAfter v r) (says : b ≡ saysHead v h) (slots : q ≡ putSlots d v n p) where
   head-mended : h ≡ record { first = mendedBy d v .firstFree; start = mendedBy d v .dataStart; space = mendedBy d v .freeSpace }
-  unfolding mendedBy
   head-mended =
       let g = subst (λ (m : ℕ). Gathered d v m r) count all in
-      is
-      ∙ (λ i.
-      record {
-        first = g .first i;
-        start = cond (leb (12 + 8 * v .slotCount) (v .dataStart) && leb (v .dataStart) (g .low i)) (v .dataStart) (g .low i);
-        space = 16372 - (8 * v .slotCount + g .total i);
-      })
+      is ∙ (λ i. record { first = first-after d v r g i; start = start-after d v r g i; space = space-after d v r g i })
 
   says-mended : b ≡ sameHead v (mendedBy d v)
   says-mended = says ∙ ap (saysHead v) head-mended

@@ -1,17 +1,16 @@
 -- What is counted of a page, by what the page is, and of one page more.
-use Prim.Native.Nat.{ℕ, _+_, _-_, _*_, _/_, _≤_, _<_}
+use Prim.Native.Nat.{ℕ, _+_, _/_, _≤_, _<_}
 use mathlib.Core.Path.{_≡_, refl, sym, ap, _∙_, subst}
-use mathlib.Core.Bool.{Bool, true, false, cond, not, _&&_}
+use mathlib.Core.Bool.{Bool, true, false, cond, not}
 use mathlib.Core.List.{List, [], _∷_}
 use native.Mathlib.Omega.{arith}
 use native.Mathlib.Numerals.{add-one}
 use lib.ListN.{length, length-append}
-use lib.Dec.{eqb, leb}
 use Rattle.store.specs.Numbers.{all, zeros}
 use Rattle.store.specs.Page.{View, view, fresh, sound}
 use Rattle.store.specs.Inventory.{update}
 use Rattle.store.specs.Segment.{SegView, pageOf}
-use Rattle.store.specs.Repair.{standing, lost, deed, deedNo, changes, mendedBy, mended, pageAfter, segAfter, sameHead, trueInv, trueOf}
+use Rattle.store.specs.Repair.{standing, lost, deed, deedNo, changes, mended, pageAfter, segAfter, sameHead, trueInv, trueOf}
 use Rattle.store.specs.Repair.{entry, slotEntries, headEntries, pageEntries, segEntries}
 use Rattle.store.specs.declared.Deed.{Deed}
 use Rattle.store.specs.declared.Deed.the-variants.{Stays, RecordFreed, RedirectFreed, MadeOrdinary}
@@ -21,6 +20,7 @@ use Rattle.store.specs.Laws.RepairBytes.{shown-page}
 use Rattle.store.specs.Laws.RepairQuiet.{lost-many, lost-none, lost-fresh, lost-entries, fresh-fresh, fresh-entries, used-after, used-fresh, used-space}
 use Rattle.store.specs.Laws.RepairQuiet.{used-entries, quiet-page}
 use Rattle.page_repair.specs.Mended.{deedOf, deedsOf, CodableBy, Gathered, headAfter, saysHead}
+use Rattle.page_repair.proofs.MendLaws.{space-after, says-same}
 use Rattle.segment_judge.specs.Words.{UsedPageOn, Deeds}
 use Rattle.segment_repair.specs.Words.{CountedAs}
 use Rattle.segment_repair.specs.declared.count.Counted.{Counted}
@@ -106,23 +106,7 @@ codable-deeds {s} {p} w {ds} h {q} e =
     own : CodableBy (deed (standing s) p) (view (pageOf s p))
     own k = after (standing s) p (shown-page (pageOf s p) (length-page s p (w .within))) k .codable
 
--- ---- the header's numbers from what is gathered
-
-module _ (d : ℕ → Deed) (v : View) (r : Numbers) (g : Gathered d v (v .slotCount) r) where
-  pub first-after : headAfter v r .first ≡ mendedBy d v .firstFree
-  unfolding mendedBy
-  first-after = g .first
-
-  pub start-after : headAfter v r .start ≡ mendedBy d v .dataStart
-  unfolding mendedBy
-  start-after = ap (λ (m : ℕ). cond (leb (12 + 8 * v .slotCount) (v .dataStart) && leb (v .dataStart) m) (v .dataStart) m) (g .low)
-
-  pub space-after : headAfter v r .space ≡ mendedBy d v .freeSpace
-  unfolding mendedBy
-  space-after = ap (λ (m : ℕ). 16372 - (8 * v .slotCount + m)) (g .total)
-
-  pub says-same : saysHead v (headAfter v r) ≡ sameHead v (mendedBy d v)
-  says-same = λ i. eqb (v .firstFree) (first-after i) && (eqb (v .dataStart) (start-after i) && eqb (v .freeSpace) (space-after i))
+-- ---- a page gone through in full
 
 module _ (u : SegView) (p : ℕ) (some : 0 < u .page p .slotCount) (few : u .page p .slotCount ≤ 2046) (r : Numbers)
     (g : Gathered (deed u p) (u .page p) (u .page p .slotCount) r) where

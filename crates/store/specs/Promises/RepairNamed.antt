@@ -11,17 +11,17 @@ use Rattle.store.specs.declared.Slot.the-variants.{Redirect}
 use Rattle.store.specs.Laws.RepairPairs.{holds-is, holds-in, named-is, named-in}
 
 -- a kept redirect names t: that of id `by`, on a page below n that is not lost
-pub record NamedBy (u : SegView) (t : ℕ) : Type 0 where
+pub record NamedKept (u : SegView) (t : ℕ) : Type 0 where
   pub by : ℕ
   pub below : pageNo by < u .pages
   pub whole : lost (u .page (pageNo by)) ≡ false
   pub names : slotOn u by ≡ Redirect t
   pub kept : holds u by t ≡ true
 
-pub named-only : (u : SegView) (t : ℕ) → named u t ≡ true → NamedBy u t
+pub named-only : (u : SegView) (t : ℕ) → named u t ≡ true → NamedKept u t
 named-only u t e =
     let k = named-is u t e in
     record { by = backId u t; below = k .below; whole = k .whole; names = k .is; kept = holds-in u (backId u t) t (k .holds) }
 
-pub named-if : (u : SegView) (t : ℕ) → NamedBy u t → named u t ≡ true
+pub named-if : (u : SegView) (t : ℕ) → NamedKept u t → named u t ≡ true
 named-if u t k = named-in u (k .by) t (record { below = k .below; whole = k .whole; is = k .names; holds = holds-is u (k .by) t (k .kept) })
