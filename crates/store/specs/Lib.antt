@@ -6,6 +6,7 @@ pub mod Inventory
 pub mod Refusals
 pub mod Segment
 pub mod Calls
+pub mod ManyRows
 pub mod Scan
 pub mod SoundSegment
 pub mod Repair
