@@ -4,7 +4,6 @@ use mathlib.Core.Path.{_≡_, refl, sym, subst, _∙_}
 use mathlib.Core.List.{List}
 use Prim.Native.Nat.{ℕ, _+_, _-_, _*_}
 use native.Mathlib.Omega.{arith}
-use borrow.Author.Tests.{not-true, not-false}
 use borrow.Rule.Slice.PartMut.{putMid}
 use Rattle.store.specs.Numbers.{put, fit}
 use Rattle.store.specs.PageSteps.{filled, Alloc, allocate}
@@ -17,17 +16,14 @@ use Rattle.slotted_page.specs.Words.{pageAfter, placeOf, filledAt, Inside}
 use Rattle.slotted_page.proofs.FillLaws.{given-is}
 use Rattle.segment_steps.proofs.After.{sizes-room, Took, took-length, left-own, left-room, GotAt, got-at, got-none, small-id, no-room-same}
 use Rattle.segment_steps.proofs.Written.{bare-whole, none-written, bytes-written}
-use Rattle.segment_insert.proofs.Placed.{on-damaged, on-stale, took-place, on-done}
+use Rattle.segment_insert.proofs.Placed.{on-stale, took-place, on-done}
 use borrow.Author.Needs.{needs}
 use Rattle.segment_insert.proofs.insert_sound_at.Statement.{statement}
 use Rattle.segment_insert.proofs.insert_sound_at.Tie as tie
 
--- the places: the entry, the page that passed the test, the place that it answered, and the bytes there
-abbrev entry : tie.After-page-sound → tie.Start
-entry c = c .before .before .before .before .before
-
+-- the places: the entry, the place that the page answered, and the bytes there
 abbrev start : tie.After-allocate-on → tie.Start
-start c = entry (c .before .before .before)
+start c = c .before .before .before .before .before
 
 abbrev allocated : tie.After-known-told → tie.After-allocate-on
 allocated c = c .before .before .before .before .before
@@ -41,12 +37,9 @@ written c = c .before .before .before .before
 abbrev finished : tie.After-slice-known5 → tie.After-update-on-arg2
 finished c = c .before .before .before
 
--- what the test of the page told, and the place that the page answered
-sound-here : (c : tie.Else1) → let a = entry (c .before) .args in SoundOn (now (a .segment)) (a .p)
-sound-here c = record { whole = entry (c .before) .pre .1 .0; sound = sym (c .before .page-sound .ensures) ∙ not-false _ (c .if1 .left) }
-
+-- the page is sound, and the place that it answered
 sound-then : (c : tie.After-allocate-on) → let a = start c .args in SoundOn (now (a .segment)) (a .p)
-sound-then c = sound-here (c .before .before)
+sound-then c = start c .pre .1 .0
 
 abbrev planned : tie.After-allocate-on → Alloc
 planned c = let a = start c .args in allocate (segView (now (a .segment)) .page (a .p)) (a .size)
@@ -91,15 +84,6 @@ took c =
 
 returns : tie.Need-returns
 returns c =
-    let a = entry (c .before) .args in
-    on-damaged (now (a .segment)) (now (a .inventory)) (now (a .bytes)) (a .size) (a .p)
-    (sym (c .before .page-sound .ensures) ∙ not-true _ (c .if1 .taken))
-
-allocate-on-requires : tie.Need-allocate-on-requires
-allocate-on-requires c κs = (sound-here (c .before), entry (c .before .before) .pre .1 .1)
-
-returns-2 : tie.Need-returns-2
-returns-2 c =
     let x = c .before .before .before .before in
     let a = start x .args in
     let s = now (a .segment) in
@@ -132,13 +116,13 @@ update-on-requires c κs =
     let l = took-length s (stepped y) (left y) (took y) in (
       sizes-room s v (left y) v (z .pre .0) l refl,
       (
-        omega (arith, l, z .pre .1 .0),
+        omega (arith, l, z .pre .1 .0 .whole),
         left-room (left y) (z .args .p) (stepped y .plan .after) (left-own s (stepped y) (left y) (took y)),
       ),
     )
 
-add-t16 : tie.Need-add-t16
-add-t16 c =
+add-t12 : tie.Need-add-t12
+add-t12 c =
     let x = placed-at (written (finished c)) in
     let z = start (allocated x) in
     omega (
@@ -146,8 +130,8 @@ add-t16 c =
       small-id (now (z .args .segment)) (z .args .p) (sound-then (allocated x)) (z .args .size) _ (way x .to) (way x .is) (z .pre .0 .few),
     )
 
-returns-3 : tie.Need-returns-3
-returns-3 c =
+returns-2 : tie.Need-returns-2
+returns-2 c =
     let y = written (finished c) in
     let x = placed-at y in
     let a = start (allocated x) .args in
@@ -156,6 +140,6 @@ returns-3 c =
 
 pub insert-sound-at-spec : {M : Type 1} → statement M
 insert-sound-at-spec =
-    tie.close (tie.spec (λ c κs. search needs) (λ c. search needs) returns allocate-on-requires (λ c. search needs) (λ c. search needs)
-    (λ c. search needs) returns-2 (λ c. search needs) (λ c. search needs) (λ c. search needs) (λ c. search needs) (λ c. search needs)
-    (λ c. search needs) fit-in-requires update-on-requires (λ c. search needs) add-t16 (λ c. search needs) (λ c. search needs) returns-3)
+    tie.close (tie.spec (λ c κs. search needs) (λ c. search needs) (λ c. search needs) (λ c. search needs) returns (λ c. search needs) (λ c. search needs)
+    (λ c. search needs) (λ c. search needs) (λ c. search needs) (λ c. search needs) fit-in-requires update-on-requires (λ c. search needs) add-t12
+    (λ c. search needs) (λ c. search needs) returns-2)
