@@ -34,9 +34,4 @@ impl fmt::Display for Stopped {
     }
 }
 
-/// Its source is the refusal.
-impl Error for Stopped {
-    fn source(&self) -> Option<&(dyn Error + 'static)> {
-        Some(&self.refusal)
-    }
-}
+impl Error for Stopped {}

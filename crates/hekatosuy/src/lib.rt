@@ -1,4 +1,4 @@
-// The store for C: the six calls of a segment, the scan and repair, with the documents' numbers for answers. include/hekatosuy.h declares them.
+// The store for C: the calls of a segment, the scan and repair, with the documents' numbers for answers. include/hekatosuy.h declares them.
 //
 // A slice is a pointer and a length. What a call hands back beside its number it writes through a pointer to one u64.
 use segment_scan::OVER_PAGE;
