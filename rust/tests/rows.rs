@@ -339,6 +339,5 @@ fn a_stop_in_words() {
     );
     assert_eq!(words(0, Refusal::Size), format!("no row went in: {}", Refusal::Size));
     let stopped = Stopped { rows: 2, refusal: Refusal::Full };
-    assert_eq!(stopped.source().and_then(|why| why.downcast_ref()), Some(&Refusal::Full));
     assert_eq!(format!("{stopped:?}"), "Stopped { rows: 2, refusal: Full }");
 }
