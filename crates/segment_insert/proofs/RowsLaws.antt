@@ -10,7 +10,7 @@ use lib.Seq.{drop-cons, drop-drop}
 use lib.Dec.{eqb, ltb}
 use borrow.Author.Tests.{eq-eqb, ne-eqb, le-leb, lt-leb}
 use Rattle.store.specs.Page.{sound}
-use Rattle.store.specs.Numbers.{put, zeros}
+use Rattle.store.specs.Numbers.{put}
 use Rattle.store.specs.PageSteps.{Alloc, noRoom, got, allocate}
 use Rattle.store.specs.Inventory.{foundIn}
 use Rattle.store.specs.Segment.{SegView, segView, Out, Result, Found, nowhere, found, taken, findOn, find, inserted, insertPlan}
@@ -118,15 +118,6 @@ rows-next bs ls at k h =
     let e : k + 1 ≡ suc k = omega arith in
     let m : at + l - at ≡ l = omega arith in
     rw (e, m) (ap (rowsOf (drop at bs)) (drop-cons ls k 0 h) ∙ ap (λ (q : List ℕ). take l (drop at bs) ∷ rowsOf q (drop (suc k) ls)) (drop-drop l at bs))
-
--- no page is known at first
-get-zeros : (n j : ℕ) → getD (zeros n) j 0 ≡ 0
-get-zeros zero j = refl
-get-zeros (suc n) zero = refl
-get-zeros (suc n) (suc j) = get-zeros n j
-
-pub none-known : (s : List ℕ) → KnownSound s (zeros 16)
-none-known s = record { long = refl; sound = λ j p e. absurd (omega (arith, e, get-zeros 16 j)) }
 
 -- k rows have gone in, from the segment s₀, the inventory v₀ and the places is₀; the next stands at `at`
 pub record RowsLeft (s₀ v₀ bs ls is₀ s v is ks : List ℕ) (at k : ℕ) : Type 0 where

@@ -14,7 +14,8 @@ use Rattle.store.specs.Segment.{insertStep}
 use Rattle.store.specs.Answers.{answerNo, outcome}
 use Rattle.store.specs.declared.Answer.{Answer}
 use Rattle.store.specs.declared.Answer.the-variants.{Done, Size, NoPage, Long, Damaged, NoRecord, Forwarded, Full, Stale}
-use Rattle.segment_insert.proofs.RowsLaws.{total-next, none-known, row, RowsLeft, left-all, left-none, left-stop, left-next}
+use Rattle.segment_insert.proofs.KnownLaws.{none-known}
+use Rattle.segment_insert.proofs.RowsLaws.{total-next, row, RowsLeft, left-all, left-none, left-stop, left-next}
 use Rattle.segment_insert.proofs.rows.insert_rows.Statement.{statement}
 use Rattle.segment_insert.proofs.rows.insert_rows.Tie as tie
 
