@@ -54,14 +54,18 @@ impl Refusal {
 
     /// The refusal of a number, if there is one.
     pub const fn from_number(number: u64) -> Option<Refusal> {
-        let mut k = 0;
-        while k < Refusal::ALL.len() {
-            if Refusal::ALL[k].number() == number {
-                return Some(Refusal::ALL[k]);
-            }
-            k += 1;
-        }
-        None
+        Some(match number {
+            1 => Refusal::Size,
+            2 => Refusal::NoPage,
+            3 => Refusal::Long,
+            4 => Refusal::Damaged,
+            5 => Refusal::None,
+            6 => Refusal::Forwarded,
+            7 => Refusal::Full,
+            8 => Refusal::Stale,
+            10 => Refusal::List,
+            _ => return None,
+        })
     }
 
     /// The name in the table of answers.
