@@ -19,3 +19,4 @@ pub mod RepairEntries
 pub mod RepairSeen
 pub mod RepairNamed
 pub mod RepairExamples
+pub mod ManyRows

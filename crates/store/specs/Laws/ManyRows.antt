@@ -18,6 +18,7 @@ use Rattle.store.specs.Refusals.{DONE, LONG, DAMAGED, FULL, STALE}
 use Rattle.store.specs.Segment.{SegView, segView, sizeOk, invOk, Out, Result, result, refuse, Found, nowhere, found, taken, findOn, needFor, find}
 use Rattle.store.specs.Segment.{inserted, insertPlan, insertStep}
 use Rattle.store.specs.ManyRows.{Rows, noRow, andRow, insertAll, rowsOf, total}
+use Rattle.store.specs.ManyRowsTold.{ofRow, carriedOut, joined, inserts, StoppedAt, OneAtATime}
 use Rattle.store.specs.Laws.Numbers.{cut-drop}
 use Rattle.store.specs.Laws.Cases.{by-test}
 use Rattle.store.specs.declared.Named.{Named}
@@ -74,10 +75,6 @@ counted (b ∷ rows) s v =
 
 -- ---- a list cut in two
 
--- what the first part and then the rest did
-abbrev pub joined : Rows → Rows → Rows
-joined a b = record { answer = b .answer; inserted = a .inserted + b .inserted; ids = a .ids ++ b .ids; seg = b .seg; inv = b .inv }
-
 and-joined : (i : ℕ) (a b : Rows) → andRow i (joined a b) ≡ joined (andRow i a) b
 and-joined i a b = let m : a .inserted + b .inserted + 1 ≡ a .inserted + 1 + b .inserted = omega arith in rw m
 
@@ -101,10 +98,6 @@ cut-refused (b ∷ xs) ys s v =
 
 -- ---- the rows told alone
 
--- what is left, where it is carried out
-abbrev pub carriedOut : Rows → Rows
-carriedOut r = record { answer = DONE; inserted = r .inserted; ids = r .ids; seg = r .seg; inv = r .inv }
-
 pub told-alone : (rows : List (List ℕ)) (s v : List ℕ) → insertAll s v (take (insertAll s v rows .inserted) rows) ≡ carriedOut (insertAll s v rows)
 told-alone [] s v = rw (no-row s v, take-nil) (no-row s v)
 told-alone (b ∷ rows) s v =
@@ -117,10 +110,6 @@ told-alone (b ∷ rows) s v =
     (λ n. no-row s v)
 
 -- the row at which it stopped, on what is left
-pub record StoppedAt (rows : List (List ℕ)) (r : Rows) : Type 0 where
-  pub before : r .inserted < length rows
-  pub own : insertStep (r .seg) (r .inv) (getD rows (r .inserted) []) .answer ≡ r .answer
-
 pub stopped-at : (rows : List (List ℕ)) (s v : List ℕ) → insertAll s v rows .answer ≢ 0 → StoppedAt rows (insertAll s v rows)
 stopped-at [] s v = rw (no-row s v) (λ n. absurd (n refl))
 stopped-at (b ∷ rows) s v =
@@ -132,6 +121,28 @@ stopped-at (b ∷ rows) s v =
     let x = stopped-at rows (t .seg) (t .inv) n in
     record { before = omega (arith, x .before); own = ap (λ (k : ℕ). insertStep (r .seg) (r .inv) (getD (b ∷ rows) k []) .answer) m ∙ x .own })
     (λ m n. record { before = omega arith; own = refl })
+
+-- ---- as so many calls
+
+pub as-calls : (rows : List (List ℕ)) (s v : List ℕ) → OneAtATime s v rows (insertAll s v rows)
+as-calls [] s v =
+    subst (OneAtATime s v []) (sym (no-row s v)) (record { done = tt; ids = refl; seg = refl; inv = refl; stops = λ n. absurd (n refl) })
+as-calls (b ∷ rows) s v =
+    by-row s v b rows (λ (r : Rows). (r .answer ≢ 0 → StoppedAt (b ∷ rows) r) → OneAtATime s v (b ∷ rows) r)
+    (λ e x.
+    let t : Result = insertStep s v b in
+    let r : Rows = insertAll (t .seg) (t .inv) rows in
+    let m : r .inserted + 1 ≡ suc (r .inserted) = omega arith in
+    let k = as-calls rows (t .seg) (t .inv) in
+    record {
+      done = rw m (e, k .done);
+      ids = rw m (ap (λ (is : List ℕ). t .id ∷ is) (k .ids));
+      seg = rw m (k .seg);
+      inv = rw m (k .inv);
+      stops = x;
+    })
+    (λ n x. record { done = tt; ids = refl; seg = refl; inv = refl; stops = x })
+    (stopped-at (b ∷ rows) s v)
 
 -- ---- rows cut out of their bytes
 
@@ -174,10 +185,6 @@ row-at zero (l ∷ ls) bs h = refl
 row-at (suc k) (l ∷ ls) bs h = row-at k ls (drop l bs) (omega arith) ∙ ap (take (getD ls k 0)) (drop-drop (total (take k ls)) l bs)
 
 -- ---- a row's own answers: with right sizes, insert gives no 1
-
--- "then each row's own": 0, or one of 3, 7, 4, 8
-abbrev pub ofRow : ℕ → Bool
-ofRow a = eqb a DONE || eqb a LONG || eqb a FULL || eqb a DAMAGED || eqb a STALE
 
 abbrev OfFound : Found → Type 0
 OfFound (nowhere a) = ofRow a ≡ true
