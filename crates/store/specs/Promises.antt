@@ -20,3 +20,5 @@ pub mod RepairSeen
 pub mod RepairNamed
 pub mod RepairExamples
 pub mod ManyRows
+pub mod ManyRowsSound
+pub mod ManyRowsAlike

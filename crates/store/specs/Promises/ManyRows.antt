@@ -142,12 +142,12 @@ module _ (s v bs ls is : List ℕ) where
   unfolding insertRowsStep
   list-refused e f = rw (e, f, put-nil)
 
-  rows-placed : (sizeOk s && invOk v) ≡ true → listOk bs ls is ≡ true → insertRowsStep s v bs ls is ≡ placed is (insertAll s v (rowsOf bs ls))
+  pub rows-placed : (sizeOk s && invOk v) ≡ true → listOk bs ls is ≡ true → insertRowsStep s v bs ls is ≡ placed is (insertAll s v (rowsOf bs ls))
   unfolding insertRowsStep
   rows-placed e f = rw (e, f)
 
   -- what holds of it, from each of the three
-  by-call : (P : Rows → Type 0) → ((sizeOk s && invOk v) ≡ false → P (unchanged SIZE is s v))
+  pub by-call : (P : Rows → Type 0) → ((sizeOk s && invOk v) ≡ false → P (unchanged SIZE is s v))
       → ((sizeOk s && invOk v) ≡ true → listOk bs ls is ≡ false → P (unchanged LIST is s v))
       → ((sizeOk s && invOk v) ≡ true → listOk bs ls is ≡ true → P (placed is (insertAll s v (rowsOf bs ls)))) → P (insertRowsStep s v bs ls is)
   by-call P f g h = go (sizeOk s && invOk v) (listOk bs ls is) refl refl
@@ -163,13 +163,13 @@ module _ (s v bs ls is : List ℕ) where
       omega (arith, counted (rowsOf bs ls) s v .few, length-rows ls bs, leb-true (length ls) (length is) (a .1))
 
   -- "the fold of `insertStep` over the rows": answer, rows told, ids, segment and inventory
-  pub call-rows : (sizeOk s && invOk v) ≡ true → listOk bs ls is ≡ true → given (insertRowsStep s v bs ls is) ≡ insertAll s v (rowsOf bs ls)
-  call-rows d e =
+  pub call-fold : (sizeOk s && invOk v) ≡ true → listOk bs ls is ≡ true → given (insertRowsStep s v bs ls is) ≡ insertAll s v (rowsOf bs ls)
+  call-fold d e =
       ap given (rows-placed d e)
       ∙ given-placed is (insertAll s v (rowsOf bs ls)) (counted (rowsOf bs ls) s v .as-many) (few-places e)
 
   pub call-as-calls : (sizeOk s && invOk v) ≡ true → listOk bs ls is ≡ true → OneAtATime s v (rowsOf bs ls) (given (insertRowsStep s v bs ls is))
-  call-as-calls d e = subst (OneAtATime s v (rowsOf bs ls)) (sym (call-rows d e)) (as-calls (rowsOf bs ls) s v)
+  call-as-calls d e = subst (OneAtATime s v (rowsOf bs ls)) (sym (call-fold d e)) (as-calls (rowsOf bs ls) s v)
 
   -- "`inserted` ≤ rows"
   pub call-few : insertRowsStep s v bs ls is .inserted ≤ length ls
