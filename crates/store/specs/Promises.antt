@@ -22,3 +22,4 @@ pub mod RepairExamples
 pub mod ManyRows
 pub mod ManyRowsSound
 pub mod ManyRowsAlike
+pub mod ManyRowsExamples
