@@ -1,7 +1,7 @@
 -- Many rows, one at a time: what the fold does with its next row, and what follows by going along the list. For all bytes, damaged ones too.
 use Prim.Native.Nat.{ℕ, zero, suc, _+_, _-_, _≤_, _<_}
 use mathlib.Core.Path.{_≡_, refl, sym, ap, _∙_, subst}
-use mathlib.Core.Bool.{Bool, true, false, not, _&&_, _||_}
+use mathlib.Core.Bool.{true, false, not, _&&_}
 use mathlib.Core.List.{List, [], _∷_, _++_}
 use mathlib.Core.Logic.{_≢_}
 use native.Mathlib.Omega.{arith}
@@ -14,11 +14,11 @@ use Rattle.store.specs.Numbers.{cut}
 use Rattle.store.specs.Page.{sound}
 use Rattle.store.specs.PageSteps.{Alloc, noRoom, got, allocate}
 use Rattle.store.specs.Inventory.{foundIn}
-use Rattle.store.specs.Refusals.{DONE, LONG, DAMAGED, FULL, STALE}
+use Rattle.store.specs.Refusals.{DONE, LONG, DAMAGED}
 use Rattle.store.specs.Segment.{SegView, segView, sizeOk, invOk, Out, Result, result, refuse, Found, nowhere, found, taken, findOn, needFor, find}
 use Rattle.store.specs.Segment.{inserted, insertPlan, insertStep}
 use Rattle.store.specs.ManyRows.{Rows, noRow, andRow, insertAll, rowsOf, total}
-use Rattle.store.specs.ManyRowsTold.{ofRow, carriedOut, joined, inserts, StoppedAt, OneAtATime}
+use Rattle.store.specs.ManyRowsTold.{ofRow, carriedOut, joined, StoppedAt, OneAtATime}
 use Rattle.store.specs.Laws.Numbers.{cut-drop}
 use Rattle.store.specs.Laws.Cases.{by-test}
 use Rattle.store.specs.declared.Named.{Named}

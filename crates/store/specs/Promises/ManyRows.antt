@@ -2,24 +2,24 @@
 -- `insertAll`; then the call, `insertRowsStep`, which tests sizes and list, cuts the rows out of their bytes and puts the ids to their places.
 use Prim.Native.Nat.{ℕ, _+_, _/_, _%_, _≤_, _<_}
 use mathlib.Core.Path.{_≡_, refl, sym, ap, _∙_, subst}
-use mathlib.Core.Bool.{Bool, true, false, cond, not, _&&_}
+use mathlib.Core.Bool.{Bool, true, false, cond, _&&_}
 use mathlib.Core.List.{List, [], _∷_, _++_}
 use mathlib.Core.Logic.{_↔_, _≢_, _⊎_, inl, inr}
 use native.Mathlib.Omega.{arith}
 use lib.ListN.{length, getD, take, drop, length-append, take-append-drop}
 use lib.Dec.{eqb, leb}
 use lib.Seq.{take-length, length-take-le}
-use borrow.Author.Tests.{eqb-true, leb-true, eq-eqb, le-leb, ne-eqb, not-false}
+use borrow.Author.Tests.{eqb-true, leb-true, eq-eqb, le-leb, ne-eqb}
 use Rattle.store.specs.Numbers.{cut, put}
 use Rattle.store.specs.Refusals.{DONE, SIZE, LIST}
 use Rattle.store.specs.Segment.{Result, insertStep, sizeOk, invOk}
 use Rattle.store.specs.Calls.{insert}
-use Rattle.store.specs.ManyRows.{Rows, noRow, andRow, insertAll, rowsOf, total, listOk, placed, insertRowsStep}
-use Rattle.store.specs.ManyRowsTold.{ofRow, unchanged, given, alone, carriedOut, joined, StoppedAt, OneAtATime}
-use Rattle.store.specs.Laws.Cases.{by-test, never}
+use Rattle.store.specs.ManyRows.{Rows, andRow, insertAll, rowsOf, total, listOk, placed, insertRowsStep}
+use Rattle.store.specs.ManyRowsTold.{ofRow, unchanged, given, alone, carriedOut, joined, OneAtATime}
+use Rattle.store.specs.Laws.Cases.{never}
 use Rattle.store.specs.Laws.Numbers.{length-put, drop-put, cut-same, put-nil}
 use Rattle.store.specs.Laws.SoundPage.{and-both, and-in}
-use Rattle.store.specs.Laws.ManyRows.{by-row, no-row, counted, cut-joined, cut-refused, told-alone, stopped-at, as-calls, insert-own}
+use Rattle.store.specs.Laws.ManyRows.{by-row, no-row, counted, cut-joined, cut-refused, told-alone, as-calls, insert-own}
 use Rattle.store.specs.Laws.ManyRows.{length-rows, total-join, total-take, rows-join, rows-take, row-at}
 use Rattle.store.specs.Promises.Refused.{refused-keeps, length-kept, inventory-kept, sizes-kept}
 
@@ -182,23 +182,23 @@ module _ (s v bs ls is : List ℕ) where
       (r .answer ≡ DONE) ↔ (((sizeOk s && invOk v) ≡ true) × (listOk bs ls is ≡ true) × (r .inserted ≡ length ls))
   call-done = (
     by-call (λ (r : Rows). r .answer ≡ DONE → ((sizeOk s && invOk v) ≡ true) × (listOk bs ls is ≡ true) × (r .inserted ≡ length ls))
-    (λ d z. absurd (omega arith)) (λ d e z. absurd (omega arith)) (λ d e z. (d, e, counted (rowsOf bs ls) s v .whole z ∙ length-rows ls bs)),
+        (λ d z. absurd (omega arith)) (λ d e z. absurd (omega arith)) (λ d e z. (d, e, counted (rowsOf bs ls) s v .whole z ∙ length-rows ls bs)),
     by-call (λ (r : Rows). ((sizeOk s && invOk v) ≡ true) × (listOk bs ls is ≡ true) × (r .inserted ≡ length ls) → r .answer ≡ DONE)
-    (λ d z. never (z .0) d) (λ d e z. never (z .1) e) (λ d e z. counted (rowsOf bs ls) s v .done (z .2 ∙ sym (length-rows ls bs))),
+        (λ d z. never (z .0) d) (λ d e z. never (z .1) e) (λ d e z. counted (rowsOf bs ls) s v .done (z .2 ∙ sym (length-rows ls bs))),
   )
 
   -- "1 for segment and inventory; then 10"
   pub call-size : (insertRowsStep s v bs ls is .answer ≡ SIZE) ↔ ((sizeOk s && invOk v) ≡ false)
   call-size = (
     by-call (λ (r : Rows). r .answer ≡ SIZE → (sizeOk s && invOk v) ≡ false) (λ d z. d) (λ d e z. absurd (omega arith))
-    (λ d e z. never (rows-own (rowsOf bs ls) s v d) (ap ofRow z)),
+        (λ d e z. never (rows-own (rowsOf bs ls) s v d) (ap ofRow z)),
     λ d. ap (λ (r : Rows). r .answer) (size-refused d),
   )
 
   pub call-list : (insertRowsStep s v bs ls is .answer ≡ LIST) ↔ (((sizeOk s && invOk v) ≡ true) × (listOk bs ls is ≡ false))
   call-list = (
     by-call (λ (r : Rows). r .answer ≡ LIST → ((sizeOk s && invOk v) ≡ true) × (listOk bs ls is ≡ false)) (λ d z. absurd (omega arith)) (λ d e z. (d, e))
-    (λ d e z. never (rows-own (rowsOf bs ls) s v d) (ap ofRow z)),
+        (λ d e z. never (rows-own (rowsOf bs ls) s v d) (ap ofRow z)),
     λ x. ap (λ (r : Rows). r .answer) (list-refused (x .0) (x .1)),
   )
 

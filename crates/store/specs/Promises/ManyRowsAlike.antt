@@ -4,7 +4,7 @@ use Prim.Native.Nat.{ℕ, _+_, _/_, _%_}
 use mathlib.Core.Path.{_≡_, refl, sym, ap, _∙_, subst}
 use mathlib.Core.Bool.{Bool, true, false, _&&_}
 use mathlib.Core.List.{List, [], _∷_}
-use mathlib.Core.Logic.{_⊎_, inl, inr, _≢_}
+use mathlib.Core.Logic.{_⊎_, inl, inr}
 use lib.ListN.{length}
 use lib.Dec.{eqb, leb}
 use Rattle.store.specs.Numbers.{put}
@@ -12,8 +12,8 @@ use Rattle.store.specs.Segment.{Result, insertStep, sizeOk, invOk}
 use Rattle.store.specs.Calls.{insert}
 use Rattle.store.specs.Alike.{Alike, AlikeByKind, AlikeToRead, Same}
 use Rattle.store.specs.SoundSegment.{SoundSegment}
-use Rattle.store.specs.ManyRows.{Rows, andRow, noRow, placed, insertAll, rowsOf, listOk, insertRowsStep}
-use Rattle.store.specs.ManyRowsTold.{unchanged, SameRows}
+use Rattle.store.specs.ManyRows.{Rows, insertAll, rowsOf, listOk, insertRowsStep}
+use Rattle.store.specs.ManyRowsTold.{SameRows}
 use Rattle.store.specs.Laws.Cases.{eq-or-ne}
 use Rattle.store.specs.Laws.ManyRows.{no-row, row-in, row-refused}
 use Rattle.store.specs.Promises.Sound.{call-right}
@@ -24,7 +24,7 @@ use Rattle.store.specs.Promises.ManyRows.{size-refused, list-refused, ro
 -- ---- once over the sense in which they are alike: it may ask something of the inventory
 
 module _ (like : List ℕ → List ℕ → List ℕ → Type 0)
-  (next : (b s t v : List ℕ) → like v s t → Same (like (insertStep s v b .inv)) (insertStep s v b) (insertStep t v b)) where
+    (next : (b s t v : List ℕ) → like v s t → Same (like (insertStep s v b .inv)) (insertStep s v b) (insertStep t v b)) where
   same-rows : (rows : List (List ℕ)) (s t v w : List ℕ) → like v s t → v ≡ w
       → SameRows (like (insertAll s v rows .inv)) (insertAll s v rows) (insertAll t w rows)
   same-rows [] s t v w x e = rw (no-row s v, no-row t w) (record { answer = refl; inserted = refl; ids = refl; inv = e; seg = x })

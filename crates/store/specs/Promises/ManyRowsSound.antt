@@ -6,13 +6,13 @@ use mathlib.Core.Bool.{Bool, true, false, _&&_}
 use mathlib.Core.List.{List, [], _∷_}
 use mathlib.Core.Logic.{_≢_}
 use native.Mathlib.Omega.{arith}
-use lib.ListN.{length, take}
+use lib.ListN.{length}
 use Rattle.store.specs.Numbers.{pageNo}
 use Rattle.store.specs.Refusals.{DONE, DAMAGED, STALE, LIST}
-use Rattle.store.specs.Segment.{segView, sizeOk, invOk, Result, Read, insertStep, readStep}
-use Rattle.store.specs.Calls.{Call, insert, called}
+use Rattle.store.specs.Segment.{segView, sizeOk, invOk, Result, insertStep, readStep}
+use Rattle.store.specs.Calls.{insert}
 use Rattle.store.specs.ManyRows.{Rows, noRow, andRow, insertAll, rowsOf, listOk, insertRowsStep}
-use Rattle.store.specs.ManyRowsTold.{unchanged, given, ReadBack, EachId, NoRepeat, FreeIn}
+use Rattle.store.specs.ManyRowsTold.{given, ReadBack, EachId, NoRepeat, FreeIn}
 use Rattle.store.specs.SoundSegment.{slotOn, Root, Rooted, SoundSegment}
 use Rattle.store.specs.Laws.SoundPage.{and-in}
 use Rattle.store.specs.Laws.ManyRows.{by-row, no-row}
@@ -69,8 +69,8 @@ module _ (s v b : List ℕ) (rows : List (List ℕ)) (h : SoundSegment s v) (e :
         new = (
           id-unused (insert b) s v h tt e,
           each-id (λ j. FreeIn (t .seg) j × Rooted (r .seg) j) (FreeIn s)
-          (λ j x. free-before (insert b) s v h tt j (subst (λ (n : ℕ). pageNo j < n / 16384) (long ∙ length-kept (insert b) s v) (x .1 .below)) (x .0))
-          (r .ids) (both-ids (FreeIn (t .seg)) (Rooted (r .seg)) (r .ids) (k .new) (k .used)),
+              (λ j x. free-before (insert b) s v h tt j (subst (λ (n : ℕ). pageNo j < n / 16384) (long ∙ length-kept (insert b) s v) (x .1 .below)) (x .0))
+              (r .ids) (both-ids (FreeIn (t .seg)) (Rooted (r .seg)) (r .ids) (k .new) (k .used)),
         );
         used = (k .others (t .id) own .0, k .used);
         others = λ j x.
