@@ -20,6 +20,7 @@ pub mod RepairSeen
 pub mod RepairNamed
 pub mod RepairExamples
 pub mod ManyRows
+pub mod ManyRowsCall
 pub mod ManyRowsSound
 pub mod ManyRowsAlike
 pub mod ManyRowsExamples

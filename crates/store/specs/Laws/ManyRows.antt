@@ -1,25 +1,26 @@
 -- Many rows, one at a time: what the fold does with its next row, and what follows by going along the list. For all bytes, damaged ones too.
 use Prim.Native.Nat.{ℕ, zero, suc, _+_, _-_, _≤_, _<_}
 use mathlib.Core.Path.{_≡_, refl, sym, ap, _∙_, subst}
-use mathlib.Core.Bool.{true, false, not, _&&_}
+use mathlib.Core.Bool.{Bool, true, false, not, _&&_}
 use mathlib.Core.List.{List, [], _∷_, _++_}
 use mathlib.Core.Logic.{_≢_}
 use native.Mathlib.Omega.{arith}
 use native.Mathlib.Nat.{zero-add}
 use lib.ListN.{length, getD, take, drop, length-drop}
-use lib.Dec.{eqb, ltb}
+use lib.Dec.{eqb, ltb, leb}
 use lib.Seq.{take-nil, take-take, take-append-le, drop-append-le, drop-drop}
-use borrow.Author.Tests.{eqb-true, eqb-false}
-use Rattle.store.specs.Numbers.{cut}
+use borrow.Author.Tests.{eqb-true, eqb-false, leb-true, eq-eqb, le-leb}
+use Rattle.store.specs.Numbers.{cut, put}
 use Rattle.store.specs.Page.{sound}
 use Rattle.store.specs.PageSteps.{Alloc, noRoom, got, allocate}
 use Rattle.store.specs.Inventory.{foundIn}
-use Rattle.store.specs.Refusals.{DONE, LONG, DAMAGED}
+use Rattle.store.specs.Refusals.{DONE, SIZE, LONG, DAMAGED, LIST}
 use Rattle.store.specs.Segment.{SegView, segView, sizeOk, invOk, Out, Result, result, refuse, Found, nowhere, found, taken, findOn, needFor, find}
 use Rattle.store.specs.Segment.{inserted, insertPlan, insertStep}
-use Rattle.store.specs.ManyRows.{Rows, noRow, andRow, insertAll, rowsOf, total}
-use Rattle.store.specs.ManyRowsTold.{ofRow, carriedOut, joined, StoppedAt, OneAtATime}
-use Rattle.store.specs.Laws.Numbers.{cut-drop}
+use Rattle.store.specs.ManyRows.{Rows, noRow, andRow, insertAll, rowsOf, total, listOk, placed, insertRowsStep}
+use Rattle.store.specs.ManyRowsTold.{ofRow, unchanged, given, carriedOut, joined, StoppedAt, OneAtATime}
+use Rattle.store.specs.Laws.Numbers.{cut-drop, cut-same, put-nil}
+use Rattle.store.specs.Laws.SoundPage.{and-both, and-in}
 use Rattle.store.specs.Laws.Cases.{by-test}
 use Rattle.store.specs.declared.Named.{Named}
 use Rattle.store.specs.declared.Named.the-variants.{At, Full}
@@ -213,3 +214,63 @@ plan-own u v bs =
 pub insert-own : (s v bs : List ℕ) → (sizeOk s && invOk v) ≡ true → ofRow (insertStep s v bs .answer) ≡ true
 unfolding insertStep result
 insert-own s v bs h = rw h (plan-own (segView s) v bs)
+
+-- ---- the places
+
+-- the ids of two parts, each at the places of its part
+pub put-both : (is js xs ys : List ℕ) → length xs ≡ length is → put (is ++ js) 0 (xs ++ ys) ≡ put is 0 xs ++ put js 0 ys
+put-both [] js [] ys e = refl
+put-both [] js (x ∷ xs) ys e = absurd (omega arith)
+put-both (i ∷ is) js [] ys e = absurd (omega arith)
+put-both (i ∷ is) js (x ∷ xs) ys e = ap (λ (zs : List ℕ). x ∷ zs) (put-both is js xs ys (omega arith))
+
+pub put-first : (is js xs : List ℕ) → length xs ≤ length is → put (is ++ js) 0 xs ≡ put is 0 xs ++ js
+put-first [] js [] h = put-nil js 0
+put-first [] js (x ∷ xs) h = absurd (omega arith)
+put-first (i ∷ is) js [] h = refl
+put-first (i ∷ is) js (x ∷ xs) h = ap (λ (zs : List ℕ). x ∷ zs) (put-first is js xs (omega arith))
+
+-- the ids given stand in front
+pub given-placed : (is : List ℕ) (r : Rows) → length (r .ids) ≡ r .inserted → r .inserted ≤ length is → given (placed is r) ≡ r
+given-placed is r e h =
+    ap (λ (js : List ℕ). record { answer = r .answer; inserted = r .inserted; ids = js; seg = r .seg; inv = r .inv })
+    (cut-same is 0 (r .ids) (r .inserted) e (omega arith))
+
+-- ---- the call
+
+pub list-tells : (bs ls is : List ℕ) → listOk bs ls is ≡ true → (total ls ≡ length bs) × (length ls ≤ length is)
+list-tells bs ls is e =
+    let a = and-both (eqb (total ls) (length bs)) (leb (length ls) (length is)) e in
+    (eqb-true (total ls) (length bs) (a .0), leb-true (length ls) (length is) (a .1))
+
+pub list-right : (bs ls is : List ℕ) → total ls ≡ length bs → length ls ≤ length is → listOk bs ls is ≡ true
+list-right bs ls is e h =
+    and-in (eqb (total ls) (length bs)) (leb (length ls) (length is)) (eq-eqb (total ls) (length bs) e) (le-leb (length ls) (length is) h)
+
+module _ (s v bs ls is : List ℕ) where
+  pub by-size : (sizeOk s && invOk v) ≡ false → insertRowsStep s v bs ls is ≡ unchanged SIZE is s v
+  unfolding insertRowsStep
+  by-size e = rw (e, put-nil)
+
+  pub by-list : (sizeOk s && invOk v) ≡ true → listOk bs ls is ≡ false → insertRowsStep s v bs ls is ≡ unchanged LIST is s v
+  unfolding insertRowsStep
+  by-list e f = rw (e, f, put-nil)
+
+  pub rows-placed : (sizeOk s && invOk v) ≡ true → listOk bs ls is ≡ true → insertRowsStep s v bs ls is ≡ placed is (insertAll s v (rowsOf bs ls))
+  unfolding insertRowsStep
+  rows-placed e f = rw (e, f)
+
+  -- what holds of it, from each of the three
+  pub by-call : (P : Rows → Type 0) → ((sizeOk s && invOk v) ≡ false → P (unchanged SIZE is s v))
+      → ((sizeOk s && invOk v) ≡ true → listOk bs ls is ≡ false → P (unchanged LIST is s v))
+      → ((sizeOk s && invOk v) ≡ true → listOk bs ls is ≡ true → P (placed is (insertAll s v (rowsOf bs ls)))) → P (insertRowsStep s v bs ls is)
+  by-call P f g h = go (sizeOk s && invOk v) (listOk bs ls is) refl refl
+    where
+      go : (b c : Bool) → (sizeOk s && invOk v) ≡ b → listOk bs ls is ≡ c → P (insertRowsStep s v bs ls is)
+      go false c d e = subst P (sym (by-size d)) (f d)
+      go true false d e = subst P (sym (by-list d e)) (g d e)
+      go true true d e = subst P (sym (rows-placed d e)) (h d e)
+
+  pub few-places : listOk bs ls is ≡ true → insertAll s v (rowsOf bs ls) .inserted ≤ length is
+  few-places f =
+      omega (arith, counted (rowsOf bs ls) s v .few, length-rows ls bs, list-tells bs ls is f .1)

@@ -15,11 +15,10 @@ use Rattle.store.specs.SoundSegment.{SoundSegment}
 use Rattle.store.specs.ManyRows.{Rows, insertAll, rowsOf, listOk, insertRowsStep}
 use Rattle.store.specs.ManyRowsTold.{SameRows}
 use Rattle.store.specs.Laws.Cases.{eq-or-ne}
-use Rattle.store.specs.Laws.ManyRows.{no-row, row-in, row-refused}
+use Rattle.store.specs.Laws.ManyRows.{no-row, row-in, row-refused, by-size, by-list, rows-placed}
 use Rattle.store.specs.Promises.Sound.{call-right}
 use Rattle.store.specs.Promises.AlikeByKind.{same-call}
 use Rattle.store.specs.Promises.Alike.{call-alike, read-alike}
-use Rattle.store.specs.Promises.ManyRows.{size-refused, list-refused, rows-placed}
 
 -- ---- once over the sense in which they are alike: it may ask something of the inventory
 
@@ -70,10 +69,10 @@ module _ (like : List ℕ → List ℕ → List ℕ → Type 0)
         go : (b c : Bool) → (sizeOk s && invOk v) ≡ b → listOk bs ls is ≡ c
             → SameRows (like (insertRowsStep s v bs ls is .inv)) (insertRowsStep s v bs ls is) (insertRowsStep t v bs ls is)
         go false c d f =
-            rw (size-refused s v bs ls is d, size-refused t v bs ls is (m ∙ d))
+            rw (by-size s v bs ls is d, by-size t v bs ls is (m ∙ d))
             (record { answer = refl; inserted = refl; ids = refl; inv = refl; seg = x })
         go true false d f =
-            rw (list-refused s v bs ls is d f, list-refused t v bs ls is (m ∙ d) f)
+            rw (by-list s v bs ls is d f, by-list t v bs ls is (m ∙ d) f)
             (record { answer = refl; inserted = refl; ids = refl; inv = refl; seg = x })
         go true true d f =
             let k = same-rows (rowsOf bs ls) s t v v x refl in

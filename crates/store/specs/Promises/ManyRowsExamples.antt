@@ -21,12 +21,12 @@ use Rattle.store.specs.ManyRowsTold.{unchanged}
 use Rattle.store.specs.Calls.{insert}
 use Rattle.store.specs.Laws.Segments.{settled, carried-seen}
 use Rattle.store.specs.Laws.Calls.{insert-exact}
-use Rattle.store.specs.Laws.ManyRows.{by-row, no-row, row-refused}
+use Rattle.store.specs.Laws.ManyRows.{by-row, no-row, row-refused, rows-placed}
 use Rattle.store.specs.Promises.Refused.{sizes-kept}
 use Rattle.store.specs.Promises.Marked.{Row}
 use Rattle.store.specs.Promises.Examples.{into}
 use Rattle.store.specs.declared.Slot.{Slot}
-use Rattle.store.specs.Promises.ManyRows.{size-refused, list-refused, rows-placed, empty-list}
+use Rattle.store.specs.Promises.ManyRowsCall.{size-refused, list-refused, empty-list}
 
 module _ (s v : List ℕ) (right : (sizeOk s && invOk v) ≡ true) where
   -- 2. No lengths and no bytes: 0

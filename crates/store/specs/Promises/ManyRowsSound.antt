@@ -20,7 +20,8 @@ use Rattle.store.specs.Promises.Refused.{length-kept}
 use Rattle.store.specs.Promises.Sound.{call-right}
 use Rattle.store.specs.Promises.Ids.{id-unused, id-other, free-before, unused-stays}
 use Rattle.store.specs.Promises.ReadAfterWrite.{call-reads, record-rooted}
-use Rattle.store.specs.Promises.ManyRows.{rows-long, list-refused, call-fold}
+use Rattle.store.specs.Promises.ManyRows.{rows-long}
+use Rattle.store.specs.Promises.ManyRowsCall.{list-refused, call-fold}
 
 pub record SoundRows (s v : List ℕ) (rows : List (List ℕ)) (r : Rows) : Type 0 where
   -- "sound afterwards, no 4 and no 8"
