@@ -1,6 +1,6 @@
 -- Many rows in one call: the worked examples. First those that hold whatever the pages hold, each for all of them; i and j are what the places held.
 -- Then, in one table, those with the pages' numbers, on what is seen of the pages.
-use Prim.Native.Nat.{ℕ, _+_, _^_, _≤_}
+use Prim.Native.Nat.{ℕ, _+_, _*_, _^_, _≤_}
 use mathlib.Core.Path.{_≡_, refl, sym, ap, _∙_}
 use mathlib.Core.Bool.{Bool, true, false, cond, _&&_}
 use mathlib.Core.List.{List, [], _∷_, _++_, map}
@@ -11,7 +11,7 @@ use borrow.Author.Tests.{le-ltb, eq-eqb, ne-eqb}
 use Rattle.store.specs.Numbers.{zeros, idOf}
 use Rattle.store.specs.Slots.{off, len}
 use Rattle.store.specs.Page.{View, view, sound}
-use Rattle.store.specs.PageSteps.{initialised, compactify, allocate, erase}
+use Rattle.store.specs.PageSteps.{initialised, opened, compactify, allocate, erase}
 use Rattle.store.specs.Inventory.{classOf, nibbleAt, setNibble, entryAt, setEntry, firstFrom, nextPage, runEnd, setFrom, pulledBack, movedOn}
 use Rattle.store.specs.Inventory.{updated, update, entryFor, foundIn}
 use Rattle.store.specs.Refusals.{DONE, SIZE, FULL, LIST}
@@ -21,12 +21,16 @@ use Rattle.store.specs.ManyRowsTold.{unchanged}
 use Rattle.store.specs.Calls.{insert}
 use Rattle.store.specs.Laws.Segments.{settled, carried-seen}
 use Rattle.store.specs.Laws.Calls.{insert-exact}
+use Rattle.store.specs.Laws.SoundPage.{and-in}
+use Rattle.store.specs.Laws.Grown.{fresh-past, grown-seen}
+use Rattle.store.specs.Laws.Blank.{none-sound}
 use Rattle.store.specs.Laws.ManyRows.{by-row, no-row, row-refused, rows-placed}
 use Rattle.store.specs.Promises.Refused.{sizes-kept}
 use Rattle.store.specs.Promises.Marked.{Row}
 use Rattle.store.specs.Promises.Examples.{into}
-use Rattle.store.specs.declared.Slot.{Slot}
+use Rattle.store.specs.Promises.Blank.{blank-sound}
 use Rattle.store.specs.Promises.ManyRowsCall.{size-refused, list-refused, empty-list}
+use Rattle.store.specs.declared.Slot.{Slot}
 
 module _ (s v : List ℕ) (right : (sizeOk s && invOk v) ≡ true) where
   -- 2. No lengths and no bytes: 0
@@ -112,9 +116,23 @@ rows-seen (b ∷ rows) s v h =
     (λ i. record { answer = q i .answer; inserted = 0; ids = []; seen = segView s; inv = v })
     ∙ ap (λ (c : Bool). cond c x y) (sym (ne-eqb (o .answer) DONE (λ e. n (ap (λ (r : Result). r .answer) q ∙ e)))))
 
--- n fresh pages, with an inventory v all zero
-fresh : ℕ → SegView
+-- n fresh pages: so bytes all zero are seen, and with them what is computed below is the fold's
+unfoldable pub fresh : ℕ → SegView
 fresh n = record { pages = n; page = λ p. initialised }
+
+blank-seen : (n : ℕ) → segView (zeros (n * 16384)) ≡ fresh n
+unfolding fresh
+blank-seen n =
+    let m : 0 + n ≡ n = omega arith in
+    grown-seen [] (zeros 16384) none-sound n
+    ∙ (λ i. record { pages = m i; page = λ p. fresh-past [] (zeros 16384) none-sound p (omega arith) i })
+
+pub blank-rows : (n : ℕ) → n ≤ 32527 → (rows : List (List ℕ))
+    → seenOf (insertAll (zeros (n * 16384)) (zeros 16384) rows) ≡ allSeen (fresh n) (zeros 16384) rows
+blank-rows n h rows =
+    let b = blank-sound n h in
+    rows-seen rows (zeros (n * 16384)) (zeros 16384) (and-in (sizeOk (zeros (n * 16384))) (invOk (zeros 16384)) (b .whole) (b .page))
+    ∙ ap (λ (u : SegView). allSeen u (zeros 16384) rows) (blank-seen n)
 
 -- answer, rows told and ids; and a page's count, first free, data start and free space
 told : Seen → List ℕ
@@ -162,7 +180,7 @@ onFresh v = e1 (allSeen (fresh 2) v (zeros 3 ∷ zeros 0 ∷ zeros 5 ∷ [])) �
 
 -- 11. Three bytes at (0,0), "then page 1's count set to 1 by hand": 4 in the middle of the list
 counted : Seen → SegView
-counted r = record { pages = 2; page = λ p. cond (eqb p 1) (view (0 ∷ 1 ∷ zeros 16382)) (r .seen .page p) }
+counted r = record { pages = 2; page = λ p. cond (eqb p 1) (opened (view (0 ∷ 1 ∷ zeros 16382))) (r .seen .page p) }
 
 e11 : Seen → Row
 e11 r = record { got = told (allSeen (counted r) (r .inv) (zeros 100 ∷ zeros 16256 ∷ [])); want = 4 ∷ 1 ∷ idOf 0 1 ∷ [] }
