@@ -9,6 +9,7 @@ pub mod Calls
 pub mod ManyRows
 pub mod Scan
 pub mod SoundSegment
+pub mod ManyRowsTold
 pub mod Repair
 pub mod RepairTold
 pub mod Answers
