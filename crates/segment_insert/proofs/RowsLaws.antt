@@ -1,31 +1,27 @@
 -- Laws for many rows in one call: the sum of the lengths, one row of the fold, and what is left to do.
 use Prim.Native.Nat.{ℕ, zero, suc, _+_, _-_, _≤_, _<_}
-use mathlib.Core.Path.{_≡_, refl, sym, ap, _∙_}
-use mathlib.Core.Bool.{Bool, true, false, not, _&&_, and-false}
+use mathlib.Core.Path.{_≡_, refl, sym, ap, subst, _∙_}
+use mathlib.Core.Bool.{Bool, true, false, _&&_, and-false}
 use mathlib.Core.List.{List, _∷_}
 use mathlib.Core.Logic.{_≢_}
 use native.Mathlib.Omega.{arith}
 use lib.ListN.{length, take, drop, set, getD, length-set, drop-of-length-le}
 use lib.Seq.{drop-cons, drop-drop}
-use lib.Dec.{eqb, ltb}
-use borrow.Author.Tests.{eq-eqb, ne-eqb, le-leb, lt-leb}
-use Rattle.store.specs.Page.{sound}
+use lib.Dec.{eqb}
+use borrow.Author.Tests.{eq-eqb, ne-eqb, lt-leb}
 use Rattle.store.specs.Numbers.{put}
-use Rattle.store.specs.PageSteps.{Alloc, noRoom, got, allocate}
-use Rattle.store.specs.Inventory.{foundIn}
-use Rattle.store.specs.Segment.{SegView, segView, Out, Result, Found, nowhere, found, taken, findOn, find, inserted, insertPlan}
-use Rattle.store.specs.Segment.{sizeOk, invOk, result, insertStep}
-use Rattle.store.specs.ManyRows.{Rows, noRow, andRow, insertAll, rowsOf, total, placed, listOk, insertRowsStep}
+use Rattle.store.specs.Segment.{Result, sizeOk, invOk, insertStep}
+use Rattle.store.specs.ManyRows.{Rows, noRow, andRow, insertAll, rowsOf, total, listOk, placed}
+use Rattle.store.specs.ManyRowsTold.{ofRow}
 use Rattle.store.specs.Answers.{answerNo, outcome, told}
 use Rattle.store.specs.Calls.{insert}
-use Rattle.store.specs.Laws.Cases.{by-test}
+use Rattle.store.specs.Laws.Cases.{never}
 use Rattle.store.specs.Laws.Numbers.{put-set, put-nil}
+use Rattle.store.specs.Laws.ManyRows.{row-in, row-refused, no-row, insert-own}
 use Rattle.store.specs.Promises.Refused.{refused-keeps, length-kept, inventory-kept, sizes-kept}
 use Rattle.store.specs.declared.Answer.{Answer}
 use Rattle.store.specs.declared.Answer.the-variants.{Done}
 use Rattle.store.specs.declared.Inserted.the-variants as many
-use Rattle.store.specs.declared.Named.{Named}
-use Rattle.store.specs.declared.Named.the-variants.{At, Full}
 use Rattle.segment_insert.specs.Words.{KnownSound}
 
 -- ---- the lengths from number k on
@@ -38,59 +34,18 @@ pub sums : (t n left : ℕ) → t + left ≡ n → eqb left 0 ≡ eqb t n
 sums t n zero e = sym (eq-eqb t n (omega arith))
 sums t n (suc l) e = ne-eqb (suc l) 0 (λ z. omega arith) ∙ sym (ne-eqb t n (λ z. omega arith))
 
--- ---- a refused row, where the sizes are right: its number is neither 0 nor 1
+-- ---- a row's own number that is not 0 is above 1
 
-abbrev OwnNo : Found → Type 0
-OwnNo (nowhere a) = 1 < a
-OwnNo (found p k a) = Unit {0}
-
-taken-own : (p : ℕ) (a : Alloc) → OwnNo (taken p a)
-taken-own p noRoom = omega arith
-taken-own p (got k a) = tt
-
-find-own : (u : SegView) (v : List ℕ) (m : ℕ) → OwnNo (find foundIn u v m (λ p. false))
-unfolding find
-find-own u v m = go (foundIn v (u .pages) (m + 8))
-  where
-    go : (n : Named) → OwnNo (findOn u m (λ p. false) n)
-    go Full = omega arith
-    go (At p) =
-        by-test OwnNo (not (sound (u .page p))) (nowhere 4) (taken p (allocate (u .page p) m)) (λ e. omega arith)
-        (λ e. taken-own p (allocate (u .page p) m))
-
-abbrev Own : Out → Type 0
-Own o = o .answer ≢ 0 → 1 < o .answer
-
-inserted-own : (u : SegView) (v bs : List ℕ) (f : Found) → OwnNo f → Own (inserted u v bs f)
-inserted-own u v bs (nowhere a) h = λ e. h
-inserted-own u v bs (found p k a) h = λ e. absurd (e refl)
-
-row-own : (s v bs : List ℕ) → (sizeOk s && invOk v) ≡ true → insertStep s v bs .answer ≢ 0 → 1 < insertStep s v bs .answer
-unfolding insertStep insertPlan result
-row-own s v bs h =
-    let u = segView s in
-    rw h
-    (by-test Own (ltb 16364 (length bs)) _ (inserted u v bs (find foundIn u v (length bs) (λ p. false))) (λ e n. omega arith)
-    (λ e. inserted-own u v bs (find foundIn u v (length bs) (λ p. false)) (find-own u v (length bs))))
+own-above : (a : ℕ) → ofRow a ≡ true → a ≢ 0 → 1 < a
+own-above zero e n = absurd (n refl)
+own-above (suc zero) e n = never e refl
+own-above (suc (suc a)) e n = omega arith
 
 -- ---- one row of the fold
 
 -- k rows have gone in, and their ids stand in is: then those of r
 abbrev pub placedFrom : ℕ → List ℕ → Rows → Rows
 placedFrom k is r = record { answer = r .answer; inserted = k + r .inserted; ids = put is k (r .ids); seg = r .seg; inv = r .inv }
-
--- the row b goes in, or it is refused
-module _ (s v b : List ℕ) (bs : List (List ℕ)) where
-  abbrev stepped : Result
-  stepped = insertStep s v b
-
-  row-in : stepped .answer ≡ 0 → insertAll s v (b ∷ bs) ≡ andRow (stepped .id) (insertAll (stepped .seg) (stepped .inv) bs)
-  unfolding insertAll
-  row-in e = rw (eq-eqb (stepped .answer) 0 e)
-
-  row-out : stepped .answer ≢ 0 → insertAll s v (b ∷ bs) ≡ noRow (stepped .answer) s v
-  unfolding insertAll
-  row-out n = rw (ne-eqb (stepped .answer) 0 n)
 
 -- its id goes to its place
 place-next : (k i : ℕ) (is : List ℕ) (r : Rows) → placedFrom k is (andRow i r) ≡ placedFrom (k + 1) (set is k i) r
@@ -141,9 +96,9 @@ module _ (s₀ v₀ bs ls is₀ : List ℕ) where
   module _ (s v is ks : List ℕ) (at k : ℕ) (g : RowsLeft s₀ v₀ bs ls is₀ s v is ks at k) where
     -- behind the last
     pub left-none : length ls ≤ k → told (many.Done k) is s v ≡ placed is₀ (insertAll s₀ v₀ (rowsOf bs ls))
-    unfolding insertAll
     left-none h =
-        sym (place-none k 0 is s v) ∙ ap (λ (q : List ℕ). placedFrom k is (insertAll s v (rowsOf (drop at bs) q))) (sym (drop-of-length-le ls h)) ∙ g .gives
+        sym (place-none k 0 is s v) ∙ ap (placedFrom k is) (sym (no-row s v))
+        ∙ ap (λ (q : List ℕ). placedFrom k is (insertAll s v (rowsOf (drop at bs) q))) (sym (drop-of-length-le ls h)) ∙ g .gives
 
     module _ (h : k < length ls) (s′ v′ : List ℕ) where
       abbrev here : Result
@@ -165,8 +120,8 @@ module _ (s₀ v₀ bs ls is₀ : List ℕ) where
           let seg : s′ ≡ s = (λ j. e j .seg) ∙ kept .0 in
           let inv : v′ ≡ v = (λ j. e j .inv) ∙ kept .1 in (
             (λ j. record { answer = same j; inserted = k; ids = is; seg = seg j; inv = inv j })
-                ∙ sym (place-none k (here .answer) is s v) ∙ ap (placedFrom k is) (sym (row-out s v (row bs ls at k) rest q)) ∙ whole,
-            omega (arith, same, row-own s v (row bs ls at k) (g .sizes) q),
+                ∙ sym (place-none k (here .answer) is s v) ∙ ap (placedFrom k is) (sym (row-refused s v (row bs ls at k) rest q)) ∙ whole,
+            subst (λ (m : ℕ). 1 < m) (sym same) (own-above (here .answer) (insert-own s v (row bs ls at k) (g .sizes)) q),
           )
 
       -- it goes in
@@ -186,27 +141,11 @@ module _ (s₀ v₀ bs ls is₀ : List ℕ) where
                 ∙ ap (placedFrom k is) (sym (row-in s v (row bs ls at k) rest (λ j. sym e j .answer))) ∙ whole;
           }
 
--- ---- the tests before any row
+-- ---- the list is refused: too few places, or another sum
 
-module _ (s v bs ls is : List ℕ) where
-  placed-none : (a : ℕ) → record { answer = a; inserted = 0; ids = is; seg = s; inv = v } ≡ placed is (noRow a s v)
-  placed-none a = rw (put-nil is 0)
+module _ (bs ls is : List ℕ) where
+  pub no-places : length is < length ls → listOk bs ls is ≡ false
+  no-places l = ap (λ (b : Bool). eqb (total ls) (length bs) && b) (lt-leb (length ls) (length is) l) ∙ and-false (eqb (total ls) (length bs))
 
-  pub no-size : (sizeOk s && invOk v) ≡ false → told many.Size is s v ≡ insertRowsStep s v bs ls is
-  unfolding insertRowsStep
-  no-size h = placed-none 1 ∙ rw h
-
-  module _ (h : (sizeOk s && invOk v) ≡ true) where
-    no-list : listOk bs ls is ≡ false → told many.List is s v ≡ insertRowsStep s v bs ls is
-    unfolding insertRowsStep
-    no-list e = placed-none 10 ∙ rw (h, e)
-
-    pub no-places : length is < length ls → told many.List is s v ≡ insertRowsStep s v bs ls is
-    no-places l = no-list (ap (λ (b : Bool). eqb (total ls) (length bs) && b) (lt-leb (length ls) (length is) l) ∙ and-false (eqb (total ls) (length bs)))
-
-    pub no-sum : eqb (total ls) (length bs) ≡ false → told many.List is s v ≡ insertRowsStep s v bs ls is
-    no-sum e = no-list (rw e)
-
-    pub list-right : length ls ≤ length is → eqb (total ls) (length bs) ≡ true → placed is (insertAll s v (rowsOf bs ls)) ≡ insertRowsStep s v bs ls is
-    unfolding insertRowsStep
-    list-right l e = rw (h, e, le-leb (length ls) (length is) l)
+  pub no-sum : eqb (total ls) (length bs) ≡ false → listOk bs ls is ≡ false
+  no-sum e = rw e

@@ -8,7 +8,8 @@ use borrow.Author.Tests.{not-true, not-false, eqb-true}
 use borrow.Author.Needs.{needs}
 use Rattle.store.specs.Segment.{sizeOk, invOk}
 use Rattle.store.specs.ManyRows.{total}
-use Rattle.segment_insert.proofs.RowsLaws.{no-size, no-places, no-sum, list-right}
+use Rattle.store.specs.Laws.ManyRows.{list-right, by-size, by-list, rows-placed}
+use Rattle.segment_insert.proofs.RowsLaws.{no-places, no-sum}
 use Rattle.segment_insert.proofs.rows.insert_records.Statement.{statement}
 use Rattle.segment_insert.proofs.rows.insert_records.Tie as tie
 
@@ -32,15 +33,16 @@ sum-here c = sym (c .before .sum-to .ensures) ∙ not-false _ (c .if3 .left)
 returns : tie.Need-returns
 returns c =
     let a = entry (c .before) .args in (
-      no-size (now (a .segment)) (now (a .inventory)) (now (a .rows)) (now (a .lengths)) (now (a .ids))
-          (sym (c .before .sizes-ok .ensures) ∙ not-true _ (c .if1 .taken)),
+      sym (by-size (now (a .segment)) (now (a .inventory)) (now (a .rows)) (now (a .lengths)) (now (a .ids))
+          (sym (c .before .sizes-ok .ensures) ∙ not-true _ (c .if1 .taken))),
       tt,
     )
 
 returns-2 : tie.Need-returns-2
 returns-2 c =
     let a = entry (c .before .before) .args in (
-      no-places (now (a .segment)) (now (a .inventory)) (now (a .rows)) (now (a .lengths)) (now (a .ids)) (sizes-here (c .before)) (c .if2 .taken),
+      sym (by-list (now (a .segment)) (now (a .inventory)) (now (a .rows)) (now (a .lengths)) (now (a .ids)) (sizes-here (c .before))
+          (no-places (now (a .rows)) (now (a .lengths)) (now (a .ids)) (c .if2 .taken))),
       tt,
     )
 
@@ -48,8 +50,8 @@ returns-3 : tie.Need-returns-3
 returns-3 c =
     let x = c .before in
     let a = entry (measured x) .args in (
-      no-sum (now (a .segment)) (now (a .inventory)) (now (a .rows)) (now (a .lengths)) (now (a .ids)) (sizes-here (x .before .before))
-          (sym (x .sum-to .ensures) ∙ not-true _ (c .if3 .taken)),
+      sym (by-list (now (a .segment)) (now (a .inventory)) (now (a .rows)) (now (a .lengths)) (now (a .ids)) (sizes-here (x .before .before))
+          (no-sum (now (a .rows)) (now (a .lengths)) (now (a .ids)) (sym (x .sum-to .ensures) ∙ not-true _ (c .if3 .taken)))),
       tt,
     )
 
@@ -66,7 +68,8 @@ returns-4 c =
     let tested = x .before .before in
     let h = sizes-here (tested .before) in
     let a = entry (tested .before .before) .args in (
-      e .0 ∙ list-right (now (a .segment)) (now (a .inventory)) (now (a .rows)) (now (a .lengths)) (now (a .ids)) h (tested .if2 .left) (sum-here x),
+      e .0 ∙ sym (rows-placed (now (a .segment)) (now (a .inventory)) (now (a .rows)) (now (a .lengths)) (now (a .ids)) h
+          (list-right (now (a .rows)) (now (a .lengths)) (now (a .ids)) (eqb-true _ _ (sum-here x)) (tested .if2 .left))),
       e .1,
     )
 
