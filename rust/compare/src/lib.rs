@@ -4,6 +4,19 @@ use hekatosuy::{Refusal, Rid, SlottedPageSegment, SlottedPages};
 use store::{Answer, Found, Store, DONE};
 
 extern "C" {
+    fn hk_insert_records(
+        segment: *mut u8,
+        segment_len: usize,
+        inventory: *mut u8,
+        inventory_len: usize,
+        rows: *const u8,
+        rows_len: usize,
+        lengths: *const u64,
+        lengths_len: usize,
+        ids: *mut u64,
+        ids_len: usize,
+        inserted: *mut u64,
+    ) -> u64;
     fn hk_repair(
         segment: *mut u8,
         segment_len: usize,
@@ -13,6 +26,27 @@ extern "C" {
         entries_len: usize,
         count: *mut u64,
     ) -> u64;
+}
+
+/// Answer and rows told of an insert of many rows, which stand end to end, into any bytes.
+pub fn insert_records(segment: &mut [u8], inventory: &mut [u8], rows: &[u8], lengths: &[u64], ids: &mut [u64]) -> (u64, u64) {
+    let mut inserted = u64::MAX;
+    let answer = unsafe {
+        hk_insert_records(
+            segment.as_mut_ptr(),
+            segment.len(),
+            inventory.as_mut_ptr(),
+            inventory.len(),
+            rows.as_ptr(),
+            rows.len(),
+            lengths.as_ptr(),
+            lengths.len(),
+            ids.as_mut_ptr(),
+            ids.len(),
+            &mut inserted,
+        )
+    };
+    (answer, inserted)
 }
 
 /// Bytes of any length, lent anew for each call.
@@ -32,6 +66,11 @@ fn new_id(result: Result<Rid, Refusal>) -> (Answer, u64) {
 impl Ours {
     pub fn new(segment: &[u8], inventory: &[u8]) -> Ours {
         Ours { segment: segment.to_vec(), inventory: inventory.to_vec() }
+    }
+
+    /// As [`insert_records`], into these bytes.
+    pub fn insert_records(&mut self, rows: &[u8], lengths: &[u64], ids: &mut [u64]) -> (u64, u64) {
+        insert_records(&mut self.segment, &mut self.inventory, rows, lengths, ids)
     }
 
     /// Answer and count of a repair with a list of any number of words; the crate lends three for each entry.
