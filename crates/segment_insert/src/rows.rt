@@ -1,7 +1,7 @@
 // Many rows in one call: "It must equal inserting them one at a time in that order: same ids, same pages, same inventory."
 //
-// A page is looked at once. A step leaves a sound page sound and changes no other page, in damaged segments too; so the answers are those
-// of one at a time.
+// A page is not looked at anew for each row. A step leaves a sound page sound and changes no other page, in damaged segments too; so the
+// answers are those of one at a time.
 use store::Answer;
 use store::Inserted;
 use store::LONGEST;
@@ -9,7 +9,6 @@ use store::Named;
 use store::PAGE_SIZE;
 ghost use mathlib.Core.Path.{_≡_};
 ghost use mathlib.Core.Bool.{true, _&&_};
-ghost use mathlib.Core.List.{List};
 ghost use Prim.Native.Nat.{_≤_};
 ghost use lib.ListN.{length};
 ghost use lib.Dec.{eqb};

@@ -9,7 +9,7 @@ use native.Mathlib.Nat.{zero-add}
 use lib.ListN.{length, getD, take, drop, length-drop}
 use lib.Dec.{eqb, ltb, leb}
 use lib.Seq.{take-nil, take-take, take-append-le, drop-append-le, drop-drop}
-use borrow.Author.Tests.{eqb-true, eqb-false, leb-true, eq-eqb, le-leb}
+use borrow.Author.Tests.{eqb-true, eqb-false, eq-eqb, le-leb}
 use Rattle.store.specs.Numbers.{cut, put}
 use Rattle.store.specs.Page.{sound}
 use Rattle.store.specs.PageSteps.{Alloc, noRoom, got, allocate}
@@ -21,7 +21,7 @@ use Rattle.store.specs.ManyRows.{Rows, noRow, andRow, insertAll, rowsOf,
 use Rattle.store.specs.ManyRowsTold.{ofRow, unchanged, given, carriedOut, joined, StoppedAt, OneAtATime}
 use Rattle.store.specs.Laws.Numbers.{cut-drop, cut-same, put-nil}
 use Rattle.store.specs.Laws.SoundPage.{and-both, and-in}
-use Rattle.store.specs.Laws.Cases.{by-test}
+use Rattle.store.specs.Laws.Cases.{by-test, tests}
 use Rattle.store.specs.declared.Named.{Named}
 use Rattle.store.specs.declared.Named.the-variants.{At, Full}
 
@@ -241,7 +241,7 @@ given-placed is r e h =
 pub list-tells : (bs ls is : List ℕ) → listOk bs ls is ≡ true → (total ls ≡ length bs) × (length ls ≤ length is)
 list-tells bs ls is e =
     let a = and-both (eqb (total ls) (length bs)) (leb (length ls) (length is)) e in
-    (eqb-true (total ls) (length bs) (a .0), leb-true (length ls) (length is) (a .1))
+    (omega (tests, a .0), omega (tests, a .1))
 
 pub list-right : (bs ls is : List ℕ) → total ls ≡ length bs → length ls ≤ length is → listOk bs ls is ≡ true
 list-right bs ls is e h =

@@ -117,18 +117,18 @@ rows-seen (b ∷ rows) s v h =
     ∙ ap (λ (c : Bool). cond c x y) (sym (ne-eqb (o .answer) DONE (λ e. n (ap (λ (r : Result). r .answer) q ∙ e)))))
 
 -- n fresh pages: so bytes all zero are seen, and with them what is computed below is the fold's
-unfoldable pub fresh : ℕ → SegView
-fresh n = record { pages = n; page = λ p. initialised }
+unfoldable pub freshPages : ℕ → SegView
+freshPages n = record { pages = n; page = λ p. initialised }
 
-blank-seen : (n : ℕ) → segView (zeros (n * 16384)) ≡ fresh n
-unfolding fresh
+blank-seen : (n : ℕ) → segView (zeros (n * 16384)) ≡ freshPages n
+unfolding freshPages
 blank-seen n =
     let m : 0 + n ≡ n = omega arith in
     grown-seen [] (zeros 16384) none-sound n
     ∙ (λ i. record { pages = m i; page = λ p. fresh-past [] (zeros 16384) none-sound p (omega arith) i })
 
 pub blank-rows : (n : ℕ) → n ≤ 32527 → (rows : List (List ℕ))
-    → seenOf (insertAll (zeros (n * 16384)) (zeros 16384) rows) ≡ allSeen (fresh n) (zeros 16384) rows
+    → seenOf (insertAll (zeros (n * 16384)) (zeros 16384) rows) ≡ allSeen (freshPages n) (zeros 16384) rows
 blank-rows n h rows =
     let b = blank-sound n h in
     rows-seen rows (zeros (n * 16384)) (zeros 16384) (and-in (sizeOk (zeros (n * 16384))) (invOk (zeros 16384)) (b .whole) (b .page))
@@ -156,27 +156,27 @@ e1 r = record {
 
 -- 6. The second row is too long, "page 0 as P2"
 abbrev e6 : List ℕ → Row
-e6 v = record { got = both (allSeen (fresh 2) v (zeros 3 ∷ zeros 16365 ∷ zeros 3 ∷ [])); want = 3 ∷ 1 ∷ idOf 0 0 ∷ 1 ∷ 1 ∷ 16381 ∷ 16361 ∷ [] }
+e6 v = record { got = both (allSeen (freshPages 2) v (zeros 3 ∷ zeros 16365 ∷ zeros 3 ∷ [])); want = 3 ∷ 1 ∷ idOf 0 0 ∷ 1 ∷ 1 ∷ 16381 ∷ 16361 ∷ [] }
 
 -- 7, 8. P11 and P10 as lists
 abbrev e7 : List ℕ → Row
-e7 v = record { got = told (allSeen (fresh 1) v (zeros 3 ∷ zeros 12271 ∷ [])); want = 7 ∷ 1 ∷ idOf 0 0 ∷ [] }
+e7 v = record { got = told (allSeen (freshPages 1) v (zeros 3 ∷ zeros 12271 ∷ [])); want = 7 ∷ 1 ∷ idOf 0 0 ∷ [] }
 
 abbrev e8 : List ℕ → Row
 e8 v = record {
-  got = both (allSeen (fresh 1) v (zeros 3 ∷ zeros 12270 ∷ []));
+  got = both (allSeen (freshPages 1) v (zeros 3 ∷ zeros 12270 ∷ []));
   want = 0 ∷ 2 ∷ idOf 0 0 ∷ idOf 0 1 ∷ 2 ∷ 2 ∷ 4111 ∷ 4083 ∷ [];
 }
 
 -- 9. Long and short rows in turn
 abbrev e9 : List ℕ → Row
 e9 v = record {
-  got = told (allSeen (fresh 3) v (zeros 12000 ∷ zeros 20 ∷ zeros 12000 ∷ zeros 20 ∷ []));
+  got = told (allSeen (freshPages 3) v (zeros 12000 ∷ zeros 20 ∷ zeros 12000 ∷ zeros 20 ∷ []));
   want = 0 ∷ 4 ∷ idOf 0 0 ∷ idOf 0 1 ∷ idOf 1 0 ∷ idOf 0 2 ∷ [];
 }
 
 onFresh : List ℕ → List Row
-onFresh v = e1 (allSeen (fresh 2) v (zeros 3 ∷ zeros 0 ∷ zeros 5 ∷ [])) ∷ e6 v ∷ e7 v ∷ e8 v ∷ e9 v ∷ []
+onFresh v = e1 (allSeen (freshPages 2) v (zeros 3 ∷ zeros 0 ∷ zeros 5 ∷ [])) ∷ e6 v ∷ e7 v ∷ e8 v ∷ e9 v ∷ []
 
 -- 11. Three bytes at (0,0), "then page 1's count set to 1 by hand": 4 in the middle of the list
 counted : Seen → SegView
@@ -198,12 +198,12 @@ e13 v p = record {
 -- ---- the table
 
 on-fresh-is : map (λ r. r .got) (onFresh (zeros 16384)) ≡ map (λ r. r .want) (onFresh (zeros 16384))
-unfolding onFresh fresh told header place both allSeen sound compactify allocate classOf nibbleAt setNibble entryAt setEntry firstFrom nextPage runEnd
+unfolding onFresh freshPages told header place both allSeen sound compactify allocate classOf nibbleAt setNibble entryAt setEntry firstFrom nextPage runEnd
     setFrom pulledBack movedOn updated update foundIn find insertPlan
 on-fresh-is = refl
 
-damaged-is : e11 (allSeen (fresh 2) (zeros 16384) (zeros 3 ∷ [])) .got ≡ e11 (allSeen (fresh 2) (zeros 16384) (zeros 3 ∷ [])) .want
-unfolding e11 counted view fresh told allSeen sound compactify allocate classOf nibbleAt setNibble entryAt setEntry firstFrom nextPage runEnd
+damaged-is : e11 (allSeen (freshPages 2) (zeros 16384) (zeros 3 ∷ [])) .got ≡ e11 (allSeen (freshPages 2) (zeros 16384) (zeros 3 ∷ [])) .want
+unfolding e11 counted view freshPages told allSeen sound compactify allocate classOf nibbleAt setNibble entryAt setEntry firstFrom nextPage runEnd
     setFrom pulledBack movedOn updated update foundIn find insertPlan
 damaged-is = refl
 
@@ -213,7 +213,7 @@ unfolding e13 holed into erase told header both allSeen sound compactify allocat
 holed-is = refl
 
 pub rows : List Row
-rows = onFresh (zeros 16384) ++ (e11 (allSeen (fresh 2) (zeros 16384) (zeros 3 ∷ [])) ∷ e13 (zeros 16384) holed ∷ [])
+rows = onFresh (zeros 16384) ++ (e11 (allSeen (freshPages 2) (zeros 16384) (zeros 3 ∷ [])) ∷ e13 (zeros 16384) holed ∷ [])
 
 -- 1, 6 to 9, 11 and 13
 pub worked : map (λ r. r .got) rows ≡ map (λ r. r .want) rows
