@@ -3,7 +3,6 @@
 
 use hekatosuy::{Refusal, Rid, SlottedPageSegment, Stopped, MAX_PAGES, PAGE_SIZE};
 use std::collections::HashSet;
-use std::error::Error;
 
 /// What a place for an id holds before a call, and afterwards where it is not written.
 const KEPT: Rid = Rid::new(0x7777, 0x7777);

@@ -1,6 +1,8 @@
 //! The crate `hekatosuy` as a store that the judge can compare.
 
 use hekatosuy::{Refusal, Rid, SlottedPageSegment, SlottedPages};
+use std::ops::Range;
+use std::{env, thread};
 use store::{Answer, Found, Store, DONE};
 
 extern "C" {
@@ -47,6 +49,28 @@ pub fn insert_records(segment: &mut [u8], inventory: &mut [u8], rows: &[u8], len
         )
     };
     (answer, inserted)
+}
+
+/// So many seeds from `first` on: as the environment's variable says, else the usual number.
+pub fn seeds(variable: &str, first: u64, usual: u64) -> Range<u64> {
+    let wanted = env::var(variable).map(|number| number.parse().unwrap_or_else(|_| panic!("{variable} is a number")));
+    first..first + wanted.unwrap_or(usual)
+}
+
+/// What `run` counts over these seeds, added up; on all processors at once.
+pub fn over<Counts: Default + Send>(seeds: &Range<u64>, run: fn(u64, &mut Counts), add: fn(&mut Counts, &Counts)) -> Counts {
+    let processors = thread::available_parallelism().map_or(1, usize::from);
+    let part = |first: usize| {
+        let mut counts = Counts::default();
+        seeds.clone().skip(first).step_by(processors).for_each(|seed| run(seed, &mut counts));
+        counts
+    };
+    thread::scope(|scope| {
+        let parts: Vec<_> = (0..processors).map(|first| scope.spawn({ let part = &part; move || part(first) })).collect();
+        let mut sum = Counts::default();
+        parts.into_iter().for_each(|part| add(&mut sum, &part.join().expect("a seed differs, as told above")));
+        sum
+    })
 }
 
 /// Bytes of any length, lent anew for each call.

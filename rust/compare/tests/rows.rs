@@ -1,13 +1,12 @@
 //! Generated lists of rows, each inserted in one call by the archive and by the model, whose call is written from the request: equal
 //! answers, rows told, ids and bytes. And by the archive's own insert one at a time.
 
-use compare::{insert_records, Ours};
+use compare::{insert_records, over, seeds, Ours};
 use judge::lists::{list, List};
 use judge::repairs::LEFTOVER;
 use judge::row_examples::examples;
 use judge::rows::RowCounts;
 use model::{rows, Model};
-use std::{env, thread};
 use store::{Answer, Store, DONE, PAGE_SIZE};
 
 /// How many lists are inserted, unless HEKATOSUY_ROWS says another number.
@@ -80,20 +79,8 @@ fn sizes() {
 
 #[test]
 fn generated_lists() {
-    let wanted = env::var("HEKATOSUY_ROWS").map(|number| number.parse().expect("HEKATOSUY_ROWS is a number"));
-    let seeds = 9_000_000..9_000_000 + wanted.unwrap_or(USUAL_LISTS);
-    let processors = thread::available_parallelism().map_or(1, usize::from);
-    let run = |first: usize| {
-        let mut counts = RowCounts::default();
-        seeds.clone().skip(first).step_by(processors).for_each(|seed| run_one(seed, &mut counts));
-        counts
-    };
-    let counts = thread::scope(|scope| {
-        let runs: Vec<_> = (0..processors).map(|first| scope.spawn({ let run = &run; move || run(first) })).collect();
-        let mut sum = RowCounts::default();
-        runs.into_iter().for_each(|run| sum.add(&run.join().expect("a list differs, as told above")));
-        sum
-    });
+    let seeds = seeds("HEKATOSUY_ROWS", 9_000_000, USUAL_LISTS);
+    let counts = over(&seeds, run_one, RowCounts::add);
     println!("counted: {}; 0 differences from the model, and from one at a time", counts.told());
     assert_eq!(counts.lists, seeds.end - seeds.start);
     assert!(counts.holes().is_empty() || counts.lists < 3000, "never met: {:?}", counts.holes());
