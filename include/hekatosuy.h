@@ -9,10 +9,12 @@
  * A record has 0 to 16,364 bytes and an id, page * 65,536 + slot, which stays the same until the record is erased.
  *
  * Each function is proved to meet its contract (crates/hekatosuy): for every segment, inventory and argument it answers one of the
- * numbers below and leaves each byte as the contract says. A call that is refused leaves segment and inventory as they were.
+ * numbers below and leaves each byte as the contract says. A call that is refused leaves segment and inventory as they were; only
+ * hk_insert_records, refused at one of its rows, leaves what the rows before it changed, and nothing else.
  *
- * The pointer before a length points to so many bytes (entries: to so many uint64_t), and no pointer is null, also where the length is 0. What one call is lent to
- * write (segment, inventory, entries and the single numbers) overlaps nothing else that it is lent.
+ * The pointer before a length or a count points to so many bytes (lengths, ids and entries: to so many uint64_t), and no pointer is
+ * null, also where the length or the count is 0. What one call is lent to write (segment, inventory, ids, entries and the single numbers)
+ * overlaps nothing else that it is lent.
  *
  * A program, whole:
  *
@@ -54,8 +56,8 @@ enum {
 };
 
 /*
- * What a call answers. Where several refusals hold, this is their order: 1, 3, 2, 4 for the id's own page, 5, 6, 4 for a target, 7,
- * 4 for a new page, 8. hk_repair answers 0, 1 or 11.
+ * What a call answers. Where several refusals hold, this is their order: 1, 10, 3, 2, 4 for the id's own page, 5, 6, 4 for a target, 7,
+ * 4 for a new page, 8. Of many rows 1 and 10 come before any row, and then each row in its turn. hk_repair answers 0, 1 or 11.
  */
 enum {
     HK_DONE = 0,      /* the call is carried out */
@@ -67,12 +69,32 @@ enum {
     HK_FORWARDED = 6, /* write, resize or erase by the id of the place that a record was moved to, and not by its own */
     HK_FULL = 7,      /* the inventory names no page with so much room */
     HK_STALE = 8,     /* the inventory names a page that has not the room: it is not true */
+    HK_LIST = 10,     /* many rows: the lengths don't sum to the bytes, or there are fewer id places than rows */
     HK_ROOM = 11      /* repair: the list has fewer places than there are changes */
 };
 
 /* A new record with these bytes. Its id is written when the answer is 0, and else left as it was. */
 uint64_t hk_insert_record(uint8_t *segment, size_t segment_length, uint8_t *inventory, size_t inventory_length,
                           const uint8_t *record, size_t record_length, uint64_t *id);
+
+/*
+ * New records with these bytes: the rows stand end to end in `rows`, and `lengths` has the length of each. The id of each is written to
+ * its place in `ids`, which may have more places than there are rows. A row of no bytes is a row.
+ *
+ * It equals hk_insert_record of one row after the other: the same answers, the same ids, and every byte of segment and inventory, in
+ * damaged segments and with untrue inventories too. A page that many rows go to is not checked anew for each of them.
+ *
+ * It stops at the first row that is refused, and its answer is that row's: `inserted` tells how many went in, these stay, and later
+ * places of `ids` keep what they were. After 7 it can go on with the refused row, its bytes, its length and its place, lent more pages.
+ *
+ * `inserted` is written on every answer. With 0 it is the number of rows. An empty list without bytes answers 0 and changes nothing.
+ *
+ * Refusals: 1; then 10, where the lengths don't sum to `rows_length` (the sum is a number of any size, it does not wrap) or there are
+ * fewer id places than rows; with 1 and 10 `inserted` is 0 and nothing is changed. Then the row's own: 3, 7, 4, 8.
+ */
+uint64_t hk_insert_records(uint8_t *segment, size_t segment_length, uint8_t *inventory, size_t inventory_length,
+                           const uint8_t *rows, size_t rows_length, const uint64_t *lengths, size_t lengths_count,
+                           uint64_t *ids, size_t ids_count, uint64_t *inserted);
 
 /* A new record of so many zeros. Its id is written when the answer is 0, and else left as it was. */
 uint64_t hk_allocate(uint8_t *segment, size_t segment_length, uint8_t *inventory, size_t inventory_length, uint64_t size,

@@ -5,7 +5,7 @@
 //! inside them: that is proved of the archive's functions for every length and all bytes. None of
 //! them keeps a pointer, and none reads what it was not lent.
 
-use crate::Touched;
+use crate::{Rid, Touched};
 
 extern "C" {
     fn hk_insert_record(
@@ -16,6 +16,19 @@ extern "C" {
         record: *const u8,
         record_len: usize,
         id: *mut u64,
+    ) -> u64;
+    fn hk_insert_records(
+        segment: *mut u8,
+        segment_len: usize,
+        inventory: *mut u8,
+        inventory_len: usize,
+        rows: *const u8,
+        rows_len: usize,
+        lengths: *const u64,
+        lengths_len: usize,
+        ids: *mut u64,
+        ids_len: usize,
+        inserted: *mut u64,
     ) -> u64;
     fn hk_allocate(
         segment: *mut u8,
@@ -101,6 +114,33 @@ pub(crate) fn insert_record(segment: &mut [u8], inventory: &mut [u8], record: &[
         )
     };
     (answer, id)
+}
+
+/// The answer, and how many rows went in. An id is one word.
+pub(crate) fn insert_records(
+    segment: &mut [u8],
+    inventory: &mut [u8],
+    rows: &[u8],
+    lengths: &[u64],
+    ids: &mut [Rid],
+) -> (u64, u64) {
+    let mut inserted = 0;
+    let answer = unsafe {
+        hk_insert_records(
+            segment.as_mut_ptr(),
+            segment.len(),
+            inventory.as_mut_ptr(),
+            inventory.len(),
+            rows.as_ptr(),
+            rows.len(),
+            lengths.as_ptr(),
+            lengths.len(),
+            ids.as_mut_ptr().cast(),
+            ids.len(),
+            &mut inserted,
+        )
+    };
+    (answer, inserted)
 }
 
 /// The answer, and the new record's id where it is 0.

@@ -3,8 +3,8 @@
 //! The store keeps records of bytes in pages that the caller lends, hands out an id for each, and
 //! gives a record back by its id or in a scan. Its code is proved to do what its definition says,
 //! for all bytes that can be lent to it, damaged pages among them; every call ends with an answer,
-//! and a refused call changes nothing. This crate adds types to the archive's C functions and
-//! nothing else.
+//! and a refused call changes nothing, or nothing beyond the rows that it tells. This crate adds
+//! types to the archive's C functions and nothing else.
 //!
 //! ```
 //! use hekatosuy::{Refusal, SlottedPageSegment, PAGE_SIZE};
@@ -30,6 +30,9 @@
 //! # Ok::<(), Refusal>(())
 //! ```
 //!
+//! Many rows, a whole map say, go in by one call, [`SlottedPageSegment::insert_records`]: it leaves the
+//! ids and bytes that one call a row would, and does not check a page anew for each row.
+//!
 //! A store grows by being lent with more pages of zeros at its end and the same inventory;
 //! `examples/store_in_file.rs` keeps one in a file.
 //!
@@ -50,6 +53,9 @@
 //! | `scan(transformation)` | [`SlottedPageSegment::scan`] gives the records, borrowed: use `filter_map` |
 //! | locks | the borrow checker: a call that changes anything takes `&mut self` |
 //!
+//! OxidSQL has no call for many rows: [`SlottedPageSegment::insert_records`] stands for a loop over
+//! `insert_record` that ends at the first error.
+//!
 //! # Linking
 //!
 //! The archive is x86-64 code. `rt staticlib hekatosuy` writes it to `target/staticlib` of the
@@ -65,12 +71,14 @@ mod refusal;
 mod rid;
 mod scan;
 mod segment;
+mod stopped;
 mod touched;
 
 pub use refusal::Refusal;
 pub use rid::Rid;
 pub use scan::SlottedPageScan;
 pub use segment::{SlottedPageSegment, SlottedPages};
+pub use stopped::Stopped;
 pub use touched::{At, Change, RepairRefusal, Touched};
 
 /// The bytes of a page, and of the inventory.

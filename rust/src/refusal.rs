@@ -4,10 +4,12 @@ use std::error::Error;
 use std::fmt;
 
 /// Why a call was refused, by the number and name of the store's table of answers. (Answer 0,
-/// DONE, is no refusal.) A refused call has changed nothing.
+/// DONE, is no refusal.) A refused call has changed nothing, but for the rows that
+/// [`SlottedPageSegment::insert_records`](crate::SlottedPageSegment::insert_records) tells to have
+/// gone in before the refused one.
 ///
-/// Where several hold, the one given is the first in this order: 1, 3, 2, 4 (the id's page), 5, 6,
-/// 4 (the page it is forwarded to), 7, 4 (the new page), 8. Further numbers may be added.
+/// Where several hold, the one given is the first in this order: 1, 10, 3, 2, 4 (the id's page), 5,
+/// 6, 4 (the page it is forwarded to), 7, 4 (the new page), 8. Further numbers may be added.
 #[derive(Debug, Clone, Copy, PartialEq, Eq, Hash)]
 #[non_exhaustive]
 pub enum Refusal {
@@ -27,6 +29,8 @@ pub enum Refusal {
     Full = 7,
     /// The inventory names a page that has no room: it does not tell the truth about the pages.
     Stale = 8,
+    /// The lengths of many rows don't sum to their bytes, or there are fewer places for ids than rows.
+    List = 10,
 }
 
 impl Refusal {
@@ -40,19 +44,28 @@ impl Refusal {
         Refusal::Forwarded,
         Refusal::Full,
         Refusal::Stale,
+        Refusal::List,
     ];
 
-    /// The number in the table of answers, from 1 on.
+    /// The number in the table of answers.
     pub const fn number(self) -> u64 {
         self as u64
     }
 
     /// The refusal of a number, if there is one.
     pub const fn from_number(number: u64) -> Option<Refusal> {
-        if number == 0 || number > Refusal::ALL.len() as u64 {
-            return None;
-        }
-        Some(Refusal::ALL[number as usize - 1])
+        Some(match number {
+            1 => Refusal::Size,
+            2 => Refusal::NoPage,
+            3 => Refusal::Long,
+            4 => Refusal::Damaged,
+            5 => Refusal::None,
+            6 => Refusal::Forwarded,
+            7 => Refusal::Full,
+            8 => Refusal::Stale,
+            10 => Refusal::List,
+            _ => return None,
+        })
     }
 
     /// The name in the table of answers.
@@ -66,6 +79,7 @@ impl Refusal {
             Refusal::Forwarded => "FORWARDED",
             Refusal::Full => "FULL",
             Refusal::Stale => "STALE",
+            Refusal::List => "LIST",
         }
     }
 
@@ -79,15 +93,18 @@ impl Refusal {
             Refusal::Forwarded => "the id is that of a forwarded record's place",
             Refusal::Full => "no page has room",
             Refusal::Stale => "the inventory names a page that has no room",
+            Refusal::List => "the lengths don't sum to the bytes, or there are fewer places for ids than rows",
         }
     }
 
-    /// What a call's number means. The archive answers 0 to 8; that is proved.
+    /// What a call's number means. The archive answers 0 to 8, and 10 to a list of rows; that is proved.
     pub(crate) fn of_answer(number: u64) -> Result<(), Refusal> {
-        match (number, Refusal::from_number(number)) {
-            (0, _) => Ok(()),
-            (_, Some(refusal)) => Err(refusal),
-            (_, None) => panic!("no answer has the number {number}: this is not the archive that the crate is for"),
+        if number == 0 {
+            return Ok(());
+        }
+        match Refusal::from_number(number) {
+            Some(refusal) => Err(refusal),
+            None => panic!("no answer has the number {number}: this is not the archive that the crate is for"),
         }
     }
 }

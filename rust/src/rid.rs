@@ -7,7 +7,10 @@ const LAST_PAGE: u64 = u64::MAX >> SLOT_BITS;
 
 /// The id of a record: page × 65,536 + slot. A record keeps its id for as long as it is there,
 /// wherever it is moved; once it is erased the id may be given to another.
+///
+/// It lies in memory as its number does: a `u64`, which is what the archive writes to a list of ids.
 #[doc(alias = "RelationTID")]
+#[repr(transparent)]
 #[derive(Clone, Copy, PartialEq, Eq, Hash, PartialOrd, Ord)]
 pub struct Rid(u64);
 

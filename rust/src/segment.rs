@@ -1,7 +1,7 @@
 //! The calls.
 
 use crate::archive::{self, Place};
-use crate::{Refusal, RepairRefusal, Rid, SlottedPageScan, Touched, MAX_RECORD_SIZE, PAGE_SIZE};
+use crate::{Refusal, RepairRefusal, Rid, SlottedPageScan, Stopped, Touched, MAX_RECORD_SIZE, PAGE_SIZE};
 use std::fmt;
 
 /// The part of the segment that is a record.
@@ -111,6 +111,48 @@ impl<'a> SlottedPageSegment<'a> {
     /// Stores a record where the inventory says that there is room, and gives its id.
     pub fn insert_record(&mut self, data: &[u8]) -> Result<Rid, Refusal> {
         new_record(archive::insert_record(self.segment, self.inventory, data))
+    }
+
+    /// Stores many records, whose bytes stand end to end in `rows`. `lengths` has the length of each, and the id of each is
+    /// written to its place in `ids`, which may have more places than there are rows. Nothing is allocated.
+    ///
+    /// This equals [`insert_record`](SlottedPageSegment::insert_record) of one row after the other, by its ids, its refusal and
+    /// every byte, in damaged segments and with untrue inventories too. A page that many rows go to is not checked anew for
+    /// each of them.
+    ///
+    /// It stops at the first row that is refused. [`Stopped`] has that row's refusal and tells how many rows went in: these
+    /// stay, and later places of `ids` keep what they were. Before any row, wrong sizes are refused by [`Refusal::Size`], and
+    /// then a list whose lengths don't sum to the bytes, or that has fewer places than rows, by [`Refusal::List`]. An empty
+    /// list without bytes does nothing, and is not refused.
+    ///
+    /// ```
+    /// use hekatosuy::{Refusal, Rid, SlottedPageSegment, Stopped, PAGE_SIZE};
+    ///
+    /// // A map: its rows end to end, the length of each, and places for their ids.
+    /// let map = [7; 24_015];
+    /// let lengths = [15, 12_000, 12_000];
+    /// let nowhere = Rid::from(u64::MAX);
+    /// let mut ids = [nowhere; 3];
+    ///
+    /// // One page has room for two of them.
+    /// let (mut pages, mut inventory) = (vec![0; PAGE_SIZE], vec![0; PAGE_SIZE]);
+    /// let mut segment = SlottedPageSegment::new(&mut pages, &mut inventory);
+    /// let stopped = segment.insert_records(&map, &lengths, &mut ids).unwrap_err();
+    /// assert_eq!(stopped, Stopped { rows: 2, refusal: Refusal::Full });
+    /// assert_eq!(stopped.to_string(), "2 rows went in, the next was refused: 7 FULL: no page has room");
+    /// assert_eq!(ids, [Rid::new(0, 0), Rid::new(0, 1), nowhere]);
+    ///
+    /// // With one page more it goes on, from the row that was refused.
+    /// pages.resize(2 * PAGE_SIZE, 0);
+    /// let mut segment = SlottedPageSegment::new(&mut pages, &mut inventory);
+    /// let stored = lengths[..stopped.rows].iter().sum::<u64>() as usize;
+    /// segment.insert_records(&map[stored..], &lengths[stopped.rows..], &mut ids[stopped.rows..])?;
+    /// assert_eq!(ids, [Rid::new(0, 0), Rid::new(0, 1), Rid::new(1, 0)]);
+    /// assert_eq!(segment.get_record(ids[0])?, &map[..15]);
+    /// # Ok::<(), Box<dyn std::error::Error>>(())
+    /// ```
+    pub fn insert_records(&mut self, rows: &[u8], lengths: &[u64], ids: &mut [Rid]) -> Result<(), Stopped> {
+        Stopped::of_answer(archive::insert_records(self.segment, self.inventory, rows, lengths, ids))
     }
 
     /// Stores a record of `size` zeros.

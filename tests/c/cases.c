@@ -1,5 +1,6 @@
 /*
- * The calls from C: document 01's cases of the segment, refusals of each kind, the scan, and repair. Prints one line a case, and what differs.
+ * The calls from C: document 01's cases of the segment, refusals of each kind, the scan, many rows in one call, and repair. Prints one
+ * line a case, and what differs.
  */
 #include "hekatosuy.h"
 
@@ -12,6 +13,7 @@ enum { PAGE = HK_PAGE_SIZE, PAGES = 3, TOO_LONG = HK_MAX_RECORD_SIZE + 1 };
 static uint8_t segment[PAGES * PAGE];
 static uint8_t inventory[PAGE];
 static uint8_t record[TOO_LONG];
+static uint8_t old_segment[PAGES * PAGE], old_inventory[PAGE];
 static size_t segment_length;
 static int faults;
 static int faults_before;
@@ -32,6 +34,11 @@ static void begin(size_t pages) {
 
 static void end(const char *name) {
     printf("%s: %s\n", name, faults == faults_before ? "ok" : "FAILED");
+}
+
+static void keep_old(void) {
+    memcpy(old_segment, segment, sizeof segment);
+    memcpy(old_inventory, inventory, sizeof inventory);
 }
 
 static uint64_t id_of(uint64_t page, uint64_t slot) {
@@ -307,10 +314,98 @@ static void wiped_count(void) {
     end("a wiped count");
 }
 
+enum { ROW_BYTES = TOO_LONG + 6, PLACES = 4 };
+
+static uint8_t rows[ROW_BYTES];
+static uint64_t ids[PLACES];
+
+/*
+ * Inserts rows by one call, their bytes 00, 01, 02, .. end to end, lent so many places for ids. The rows told are inserted one at a time
+ * into the old segment and inventory, which must then be as the new ones.
+ */
+static void insert_rows(size_t inventory_length, size_t rows_length, const uint64_t *lengths, size_t count, size_t places,
+                        uint64_t answer, uint64_t told) {
+    uint64_t inserted = 77, id = 77;
+    size_t at = 0;
+    keep_old();
+    for (size_t k = 0; k < ROW_BYTES; k++) rows[k] = (uint8_t)k;
+    for (size_t k = 0; k < PLACES; k++) ids[k] = 77;
+    expect("insert of rows", hk_insert_records(segment, segment_length, inventory, inventory_length, rows, rows_length, lengths, count,
+                                               ids, places, &inserted), answer);
+    expect("rows inserted", inserted, told);
+    for (size_t k = 0; k < told; at += lengths[k++]) {
+        expect("one row", hk_insert_record(old_segment, segment_length, old_inventory, PAGE, rows + at, lengths[k], &id), HK_DONE);
+        expect("a row's id", ids[k], id);
+    }
+    if (answer != HK_DONE && answer != HK_SIZE && answer != HK_LIST)
+        expect("one row", hk_insert_record(old_segment, segment_length, old_inventory, PAGE, rows + at, lengths[told], &id), answer);
+    for (size_t k = told; k < PLACES; k++) expect("a place behind the rows", ids[k], 77);
+    expect("another segment", memcmp(old_segment, segment, sizeof segment) != 0, 0);
+    expect("another inventory", memcmp(old_inventory, inventory, sizeof inventory) != 0, 0);
+}
+
+static void three_rows(void) {
+    const uint64_t lengths[] = {3, 0, 5};
+    const uint8_t bytes[] = {3, 4, 5, 6, 7, 0, 1, 2};
+    begin(2);
+    insert_rows(PAGE, 8, lengths, 3, 4, HK_DONE, 3);
+    for (size_t k = 0; k < 3; k++) expect("id", ids[k], id_of(0, k));
+    header(0, 3, 3, 16376, 16340);
+    slot(0, 0, 0x00003FFD00000003);
+    slot(0, 1, 0x00003FFD00000000);
+    slot(0, 2, 0x00003FF800000005);
+    expect("the rows' bytes differ", memcmp(segment + 16376, bytes, 8) != 0, 0);
+    insert_rows(PAGE, 0, lengths, 0, 1, HK_DONE, 0);
+    end("rows of 3, 0 and 5 bytes in one call, and none");
+}
+
+static void no_list(void) {
+    const uint64_t lengths[] = {3, 5}, wrapping[] = {(uint64_t)1 << 63, (uint64_t)1 << 63};
+    begin(2);
+    insert_rows(PAGE, 1, lengths, 0, 1, HK_LIST, 0);
+    insert_rows(PAGE, 8, lengths, 2, 1, HK_LIST, 0);
+    insert_rows(PAGE, 7, lengths, 2, 2, HK_LIST, 0);
+    insert_rows(PAGE, 9, lengths, 2, 2, HK_LIST, 0);
+    insert_rows(PAGE, 0, wrapping, 2, 2, HK_LIST, 0);
+    insert_rows(PAGE - 1, 0, lengths, 0, 0, HK_SIZE, 0);
+    insert_rows(PAGE - 1, 1, lengths, 0, 0, HK_SIZE, 0);
+    segment_length--;
+    insert_rows(PAGE, 7, lengths, 2, 1, HK_SIZE, 0);
+    end("rows whose lengths are no list of them, and wrong sizes");
+}
+
+static void stopped_rows(void) {
+    const uint64_t with_long[] = {3, TOO_LONG, 3}, with_full[] = {3, 12271}, not_full[] = {3, 12270}, empty[] = {0, 0};
+    begin(2);
+    insert_rows(PAGE, ROW_BYTES, with_long, 3, 3, HK_LONG, 1);
+    expect("id", ids[0], 0);
+    header(0, 1, 1, 16381, 16361);
+    slot(0, 0, 0x00003FFD00000003);
+    expect("nibble", inventory[120], 2);
+    begin(1);
+    insert_rows(PAGE, 12274, with_full, 2, 2, HK_FULL, 1);
+    header(0, 1, 1, 16381, 16361);
+    begin(1);
+    insert_rows(PAGE, 12273, not_full, 2, 2, HK_DONE, 2);
+    expect("free space", big_endian(8, 4), 4083);
+    begin(0);
+    insert_rows(PAGE, 0, empty, 2, 2, HK_FULL, 0);
+    end("rows up to the first refusal");
+}
+
+static void damaged_ahead(void) {
+    const uint64_t lengths[] = {100, 16256};
+    begin(2);
+    insert(3, 1, HK_DONE, 0);
+    segment[PAGE + 1] = 1;
+    insert_rows(PAGE, 16356, lengths, 2, 2, HK_DAMAGED, 1);
+    expect("id", ids[0], id_of(0, 1));
+    end("rows up to a damaged page");
+}
+
 enum { WORDS = 3 * (2047 * PAGES + 1) };
 
 static uint64_t entries[WORDS];
-static uint8_t old_segment[PAGES * PAGE], old_inventory[PAGE];
 
 static void set_bytes(size_t at, const char *bytes, size_t length) {
     memcpy(segment + at, bytes, length);
@@ -319,8 +414,7 @@ static void set_bytes(size_t at, const char *bytes, size_t length) {
 /* Repairs, lent so many words. */
 static void repair(size_t words, uint64_t answer, uint64_t count) {
     uint64_t told = 77;
-    memcpy(old_segment, segment, sizeof segment);
-    memcpy(old_inventory, inventory, sizeof inventory);
+    keep_old();
     for (size_t k = 0; k < WORDS; k++) entries[k] = 77;
     expect("repair", hk_repair(segment, segment_length, inventory, PAGE, entries, words, &told), answer);
     expect("repair's count", told, count);
@@ -444,6 +538,10 @@ int main(void) {
     written_between_steps();
     impossible_count();
     wiped_count();
+    three_rows();
+    no_list();
+    stopped_rows();
+    damaged_ahead();
     overlapped();
     lost_pages();
     repair_refused();

@@ -104,10 +104,18 @@ pub struct Ours {
     inventory: Vec<u8>,
 }
 
+/// A store that takes rows by lists.
+#[cfg(feature = "ours")]
+pub trait Lists: Held {
+    /// Whether all rows went in; their ids are then in their places.
+    fn insert_records(&mut self, rows: &[u8], lengths: &[u64], ids: &mut [hekatosuy::Rid]) -> bool;
+}
+
 #[cfg(feature = "ours")]
 mod ours {
-    use super::{fold, Held, Ours};
-    use hekatosuy::{Refusal, SlottedPageSegment, SlottedPages};
+    use super::{fold, Held, Lists, Nothing, Ours};
+    use hekatosuy::{Refusal, Rid, SlottedPageSegment, SlottedPages};
+    use std::hint::black_box;
     use workload::{refused, summary, Subject};
 
     fn told<T>(result: Result<T, Refusal>, done: impl FnOnce(T) -> u64) -> u64 {
@@ -161,6 +169,21 @@ mod ours {
                 }
             }
             sum
+        }
+    }
+
+    impl Lists for Ours {
+        fn insert_records(&mut self, rows: &[u8], lengths: &[u64], ids: &mut [Rid]) -> bool {
+            self.lend().insert_records(rows, lengths, ids).is_ok()
+        }
+    }
+
+    impl Lists for Nothing {
+        fn insert_records(&mut self, rows: &[u8], lengths: &[u64], ids: &mut [Rid]) -> bool {
+            black_box(rows);
+            black_box(lengths);
+            black_box(ids);
+            true
         }
     }
 }

@@ -18,11 +18,12 @@ fn full_of(length: u64) -> Start {
     Start::filled(PAGES, |_| Some(length))
 }
 
-/// Rows of one length into an empty segment until it is full.
-fn inserts(length: u64) -> Plan {
-    let rows = full_of(length).rows.len() as u64;
-    let unit = |number| [segment(number)].into_iter().chain((0..rows).map(|row| insert(length, row))).collect();
-    plan(&Start::empty(PAGES), 2, [unit(0), unit(1)], rows)
+/// Rows of these lengths in turn into an empty segment, until one finds no room.
+fn inserts(lengths: &[u64]) -> Plan {
+    let length = |row: usize| lengths[row % lengths.len()];
+    let rows = Start::filled(PAGES, |rows| Some(length(rows.len()))).rows.len();
+    let unit = |number| [segment(number)].into_iter().chain((0..rows).map(|row| insert(length(row), row as u64))).collect();
+    plan(&Start::empty(PAGES), 2, [unit(0), unit(1)], rows as u64)
 }
 
 fn reads(start: &Start) -> Plan {
@@ -207,7 +208,8 @@ pub fn named(name: &str) -> Option<Plan> {
     let words: Vec<&str> = name.split('-').collect();
     let number: u64 = words.last()?.parse().unwrap_or(0);
     Some(match words[..] {
-        ["insert", _] => inserts(number),
+        ["insert", _] => inserts(&[number]),
+        ["insert", first, _] => inserts(&[first.parse().ok()?, number]),
         ["read", _] => reads(&full_of(number)),
         ["scan", "fresh"] => scan_of_fresh_pages(),
         ["scan", _] => scans(&full_of(number)),

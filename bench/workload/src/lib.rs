@@ -8,4 +8,4 @@ mod plan;
 mod play;
 
 pub use plan::{parts, Call, Left, Op, Plan, PAGE_SIZE};
-pub use play::{play, pool, refused, summary, Subject};
+pub use play::{play, pool, record, refused, summary, with_answer, Subject};

@@ -38,8 +38,15 @@ fn next_byte(state: &mut u32) -> u8 {
     (*state >> 24) as u8
 }
 
-fn record<'a>(pool: &'a [u8], call: &Call) -> &'a [u8] {
+/// The bytes of a call's record.
+pub fn record<'a>(pool: &'a [u8], call: &Call) -> &'a [u8] {
     &pool[call.seed as usize % SEEDS..][..call.length as usize]
+}
+
+/// The sum of all that was answered, once this is answered too.
+#[inline(always)]
+pub fn with_answer(sum: u64, answer: u64) -> u64 {
+    sum.rotate_left(7) ^ answer
 }
 
 /// Plays calls, the first of them on the first store; answers a sum of all that was answered.
@@ -60,7 +67,7 @@ pub fn play<S: Subject>(stores: &mut [S], calls: &[Call], pool: &[u8]) -> u64 {
             Op::Erase => store.erase_record(call.id),
             Op::Scan => store.scan(),
         };
-        sum = sum.rotate_left(7) ^ answer;
+        sum = with_answer(sum, answer);
     }
     sum
 }

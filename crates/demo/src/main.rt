@@ -1,24 +1,43 @@
-// A small archive: the rows of a fringe map go in, are listed, one is read back, one is erased, and they are listed again. Then a crash
-// damages a page, and repair keeps what can be kept and tells what it touched.
+// A small archive: the rows of a fringe map go in by one call, are listed, one is read back, one is erased, and they are listed again. Then a
+// crash damages a page, and repair keeps what can be kept and tells what it touched.
 mod map;
 
+use map::HEIGHT;
+use map::WIDTH;
 use print::named;
 use print::say;
+use store::Inserted;
 use store::PAGE_SIZE;
 use store::Repair;
+ghost use mathlib.Core.Path.{_≡_};
+ghost use lib.ListN.{length};
 
-fn insert_row(segment: &mut [u8], inventory: &mut [u8], y: usize) {
-    let mut row = [0u8; 41];
-    map::draw(&mut row, y);
-    let answer = segment_insert::insert_record(segment, inventory, &row);
-    print_rows::stored(answer, &row);
+// The rows that went in, each with its id.
+fn show(rows: &[u8], ids: &[u64])
+    requires { ⌜ (length (now rows) ≡ 287) × (length (now ids) ≡ 7) ⌝ }
+{
+    let mut k: usize = 0;
+    while k < HEIGHT {
+        print_rows::stored(ids[k], &rows[k * WIDTH..(k + 1) * WIDTH]);
+        k = k + 1;
+    }
 }
 
 fn insert_map(segment: &mut [u8], inventory: &mut [u8]) {
-    let mut y: usize = 0;
-    while y < 7 {
-        insert_row(segment, inventory, y);
-        y = y + 1;
+    let mut rows = [0u8; HEIGHT * WIDTH];
+    map::draw(&mut rows);
+    let lengths = [WIDTH as u64; HEIGHT];
+    let mut ids = [0u64; HEIGHT];
+    if let Inserted::Done { rows: _ } = segment_insert::insert_records(
+        segment,
+        inventory,
+        &rows,
+        &lengths,
+        &mut ids,
+    ) {
+        show(&rows, &ids);
+    } else {
+        say(b"  refused\n");
     }
 }
 
@@ -59,7 +78,7 @@ fn crash(segment: &mut [u8], inventory: &mut [u8]) {
 fn main() {
     let mut segment = [0u8; 2 * PAGE_SIZE];
     let mut inventory = [0u8; PAGE_SIZE];
-    say(b"An archive of two empty pages. The rows of a fringe map go in:\n");
+    say(b"An archive of two empty pages. The rows of a fringe map go in by one call:\n");
     insert_map(&mut segment, &mut inventory);
     say(b"What a scan of the archive lists:\n");
     print_rows::list(&segment);

@@ -1,6 +1,11 @@
 // A fringe map, in print: a row for each height, a byte for each point of it.
 ghost use Prim.Native.Nat.{_<_};
 
+// A row's bytes, and how many rows there are.
+pub const WIDTH: usize = 41;
+
+pub const HEIGHT: usize = 7;
+
 // How far a is from b.
 fn apart(a: usize, b: usize) -> usize
     requires { ⌜ (a < 48) × (b < 48) ⌝ }
@@ -22,10 +27,11 @@ fn shade(x: usize, y: usize) -> u8
     }
 }
 
-pub fn draw(row: &mut [u8], y: usize) {
-    let mut x: usize = 0;
-    while x < row.len() {
-        row[x] = shade(x % 48, y % 48);
-        x = x + 1;
+// The rows end to end.
+pub fn draw(rows: &mut [u8]) {
+    let mut i: usize = 0;
+    while i < rows.len() {
+        rows[i] = shade(i % WIDTH, i / WIDTH % 48);
+        i = i + 1;
     }
 }

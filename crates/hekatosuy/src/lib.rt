@@ -1,9 +1,10 @@
-// The store for C: the six calls of a segment, the scan and repair, with the documents' numbers for answers. include/hekatosuy.h declares them.
+// The store for C: the calls of a segment, the scan and repair, with the documents' numbers for answers. include/hekatosuy.h declares them.
 //
 // A slice is a pointer and a length. What a call hands back beside its number it writes through a pointer to one u64.
 use segment_scan::OVER_PAGE;
 use store::Answer;
 use store::IDS_A_PAGE;
+use store::Inserted;
 use store::Reading;
 use store::Repair;
 use store::Step;
@@ -15,8 +16,9 @@ ghost use lib.Dec.{eqb};
 ghost use Rattle.store.specs.Numbers.{idOf, pageNo, slotNo};
 ghost use Rattle.store.specs.Segment.{insertStep, allocateStep, writeStep, resizeStep, eraseStep, locateStep};
 ghost use Rattle.store.specs.Scan.{without, scanStep};
+ghost use Rattle.store.specs.ManyRows.{insertRowsStep};
 ghost use Rattle.store.specs.Repair.{repairStep};
-ghost use Rattle.store.specs.Answers.{answerNo, answerId, readingPart, scannedOf, repairNo, repairCount};
+ghost use Rattle.store.specs.Answers.{answerNo, answerId, insertedNo, insertedRows, readingPart, scannedOf, repairNo, repairCount};
 ghost use Rattle.hekatosuy.specs.Handed.{withId, withoutId, stepped, Positioned};
 
 // "Answers by number".
@@ -76,6 +78,53 @@ pub extern "C" fn hk_insert_record(
 {
     let a = segment_insert::insert_record(segment, inventory, bytes);
     hand_id(a, id)
+}
+
+// "Refusals: 1, then 10 LIST ..; then each row's own."
+fn inserted_no(r: Inserted) -> u64
+    ensures { λ n. ⌜ n ≡ insertedNo r ⌝ }
+{
+    match r {
+        Inserted::Done { rows: _ } => 0,
+        Inserted::Size => 1,
+        Inserted::List => 10,
+        Inserted::Stopped { rows: _, answer } => answer_no(answer),
+    }
+}
+
+fn inserted_rows(r: Inserted) -> u64
+    ensures { λ n. ⌜ n ≡ insertedRows r ⌝ }
+{
+    match r {
+        Inserted::Done { rows } => rows as u64,
+        Inserted::Size => 0,
+        Inserted::List => 0,
+        Inserted::Stopped { rows, answer: _ } => rows as u64,
+    }
+}
+
+// The rows stand end to end; `inserted` is how many went in.
+#[no_mangle]
+pub extern "C" fn hk_insert_records(
+    segment: &mut [u8],
+    inventory: &mut [u8],
+    rows: &[u8],
+    lengths: &[u64],
+    ids: &mut [u64],
+    inserted: &mut u64,
+) -> u64
+    ensures { λ r. ⌜ record {
+      answer = r;
+      inserted = now (inserted .exit);
+      ids = now (ids .exit);
+      seg = now (segment .exit);
+      inv = now (inventory .exit);
+    }
+        ≡ insertRowsStep (now (segment .entry)) (now (inventory .entry)) (now (rows .entry)) (now (lengths .entry)) (now (ids .entry)) ⌝ }
+{
+    let r = segment_insert::insert_records(segment, inventory, rows, lengths, ids);
+    *inserted = inserted_rows(r);
+    inserted_no(r)
 }
 
 #[no_mangle]

@@ -64,14 +64,10 @@ pub fn read(segment: &[u8], id: usize) {
     say(b"\n");
 }
 
-// What an insert of these bytes answered: their id, and they.
-pub fn stored(answer: Answer, row: &[u8]) {
-    let Answer::Done { id } = answer else {
-        say(b"  the row was refused\n");
-        return;
-    };
+// A row that went in: its id, and its bytes.
+pub fn stored(id: u64, row: &[u8]) {
     say(b"  ");
-    print::id(id as u64);
+    print::id(id);
     say(b"  ");
     say(row);
     say(b"\n");

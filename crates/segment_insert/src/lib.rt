@@ -1,4 +1,7 @@
-// Insert and allocate: "Insert asks the inventory and allocates there; a fresh page is initialised first."
+// Insert and allocate: "Insert asks the inventory and allocates there; a fresh page is initialised first." Many rows in one call: rows.rt.
+pub mod rows;
+
+pub use rows::insert_records;
 use store::Answer;
 use store::IDS_A_PAGE;
 use store::LONGEST;
@@ -9,12 +12,41 @@ ghost use mathlib.Core.Path.{_≡_};
 ghost use Prim.Native.Nat.{_≤_};
 ghost use Rattle.store.specs.Segment.{insertStep, allocateStep};
 ghost use Rattle.store.specs.Answers.{outcome};
-ghost use Rattle.store.specs.Laws.Lent.{Within};
+ghost use Rattle.store.specs.Laws.Lent.{Within, SoundOn};
 ghost use Rattle.segment_steps.specs.Words.{Sizes};
 ghost use Rattle.segment_insert.specs.Words.{sizedOn, sizedStep};
 
-// On the page that the inventory names: these bytes, cut off or filled up with zeros to `size`. "If the page's answer holds no place, the
-// call stops there"; else they are written at its offset, and the inventory is told the page's free space.
+// On page p, which is sound: these bytes, cut off or filled up with zeros to `size`. "If the page's answer holds no place, the call stops
+// there"; else they are written at its offset, and the inventory is told the page's free space.
+fn insert_sound_at(
+    segment: &mut [u8],
+    inventory: &mut [u8],
+    p: usize,
+    bytes: &[u8],
+    size: usize,
+) -> Answer
+    requires { ⌜ Sizes (now segment) (now inventory) ⌝ }
+    requires { ⌜ SoundOn (now segment) p × (size ≤ 16364) ⌝ }
+    ensures { λ r. ⌜ outcome r (now (segment .exit)) (now (inventory .exit))
+        ≡ sizedOn (now (segment .entry)) (now (inventory .entry)) (now (bytes .entry)) size (Named.At p) ⌝ }
+{
+    let place = segment_steps::allocate_on(segment, p, size);
+    let Place::At { slot, offset } = place else {
+        return Answer::Stale;
+    };
+    layout_runs::fit_in(
+        &mut segment[p * 16384..(p + 1) * 16384],
+        offset,
+        bytes,
+        size,
+    );
+    segment_steps::update_on(segment, inventory, p);
+    Answer::Done {
+        id: p * IDS_A_PAGE + slot,
+    }
+}
+
+// On the page that the inventory names, once it is seen to be sound.
 fn insert_at(
     segment: &mut [u8],
     inventory: &mut [u8],
@@ -30,20 +62,7 @@ fn insert_at(
     if !segment_pages::page_sound(segment, p) {
         return Answer::Damaged;
     }
-    let place = segment_steps::allocate_on(segment, p, size);
-    let Place::At { slot, offset } = place else {
-        return Answer::Stale;
-    };
-    layout_runs::fit_in(
-        &mut segment[p * 16384..(p + 1) * 16384],
-        offset,
-        bytes,
-        size,
-    );
-    segment_steps::update_on(segment, inventory, p);
-    Answer::Done {
-        id: p * IDS_A_PAGE + slot,
-    }
+    insert_sound_at(segment, inventory, p, bytes, size)
 }
 
 // These bytes, cut off or filled up with zeros to `size`.

@@ -1,9 +1,10 @@
 // The calls on a segment and the scan, under one name: slotted_page_segment.rs for users in Rattle. Each is proved where it stands, with
-// no `requires`, and its contract is one equation with the documents' step (crates/store/specs/Segment.antt, Scan.antt,
-// Repair.antt).
+// no `requires`, and its contract is one equation with the documents' step (crates/store/specs/Segment.antt, ManyRows.antt,
+// Scan.antt, Repair.antt).
 pub use segment_erase::erase_record;
 pub use segment_insert::allocate;
 pub use segment_insert::insert_record;
+pub use segment_insert::insert_records;
 pub use segment_read::find_record;
 pub use segment_read::get_record;
 pub use segment_repair::repair;
@@ -13,6 +14,7 @@ pub use segment_write::resize::resize_record;
 pub use segment_write::write::write_record;
 // What the calls answer. The crate of a user lists `store` beside this one, since `store` declares them.
 pub use store::Answer;
+pub use store::Inserted;
 pub use store::Reading;
 pub use store::Repair;
 pub use store::Step;

@@ -1,6 +1,6 @@
 -- Document 01, "Answers by number": each answer that is an enum of the code, with the paper's number (Refusals.antt) and values, by case.
 -- The promises use these.
-use Prim.Native.Nat.{ℕ}
+use Prim.Native.Nat.{ℕ, _<_}
 use mathlib.Core.Bool.{true, false}
 use mathlib.Core.List.{List, []}
 use Rattle.store.specs.Numbers.{cut}
@@ -8,14 +8,17 @@ use Rattle.store.specs.Segment.{Result, Part, noPart, Located}
 use Rattle.store.specs.Scan.{Scanned, overPage}
 use Rattle.store.specs.Slots.{off}
 use Rattle.store.specs.PageSteps.{Alloc, noRoom, got}
+use Rattle.store.specs.ManyRows.{Rows}
 use Rattle.store.specs.Repair.{Repaired}
-use Rattle.store.specs.Refusals.{DONE, SIZE, NOPAGE, LONG, DAMAGED, NONE, FORWARDED, FULL, STALE, ROOM}
+use Rattle.store.specs.Refusals.{DONE, SIZE, NOPAGE, LONG, DAMAGED, NONE, FORWARDED, FULL, STALE, LIST, ROOM}
 use Rattle.store.specs.declared.Place.{Place}
 use Rattle.store.specs.declared.Place.the-variants as place
 use Rattle.store.specs.declared.Named.{Named}
 use Rattle.store.specs.declared.Named.the-variants as named
 use Rattle.store.specs.declared.Answer.{Answer}
 use Rattle.store.specs.declared.Answer.the-variants.{Done, Size, NoPage, Long, Damaged, NoRecord, Forwarded, Full, Stale}
+use Rattle.store.specs.declared.Inserted.{Inserted}
+use Rattle.store.specs.declared.Inserted.the-variants as many
 use Rattle.store.specs.declared.Reading.{Reading}
 use Rattle.store.specs.declared.Reading.the-variants as reading
 use Rattle.store.specs.declared.Step.{Step}
@@ -50,6 +53,31 @@ answerId Stale = 0
 -- what a call answered and left: the left side of every promise
 abbrev pub outcome : Answer → List ℕ → List ℕ → Result
 outcome r s v = record { answer = answerNo r; id = answerId r; seg = s; inv = v }
+
+-- ---- many rows: the number, and how many went in
+
+abbrev pub insertedNo : Inserted → ℕ
+insertedNo (many.Done n) = DONE
+insertedNo many.Size = SIZE
+insertedNo many.List = LIST
+insertedNo (many.Stopped n a) = answerNo a
+
+abbrev pub insertedRows : Inserted → ℕ
+insertedRows (many.Done n) = n
+insertedRows many.Size = 0
+insertedRows many.List = 0
+insertedRows (many.Stopped n a) = n
+
+-- what the call answered and left: the id places, segment and inventory
+abbrev pub told : Inserted → List ℕ → List ℕ → List ℕ → Rows
+told r is s v = record { answer = insertedNo r; inserted = insertedRows r; ids = is; seg = s; inv = v }
+
+-- where it stopped, it is by a refusal of the row's own: the number is neither 0 nor 1
+abbrev pub ByRow : Inserted → Type 0
+ByRow (many.Done n) = Unit {0}
+ByRow many.Size = Unit {0}
+ByRow many.List = Unit {0}
+ByRow (many.Stopped n a) = SIZE < answerNo a
 
 -- ---- a read: its number, and the part of the segment that it answers
 

@@ -46,3 +46,4 @@ pub mod RepairReads
 pub mod RepairEntries
 pub mod RepairList
 pub mod RepairSeen
+pub mod ManyRows

@@ -6,8 +6,10 @@ pub mod Inventory
 pub mod Refusals
 pub mod Segment
 pub mod Calls
+pub mod ManyRows
 pub mod Scan
 pub mod SoundSegment
+pub mod ManyRowsTold
 pub mod Repair
 pub mod RepairTold
 pub mod Answers

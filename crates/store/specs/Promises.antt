@@ -19,3 +19,8 @@ pub mod RepairEntries
 pub mod RepairSeen
 pub mod RepairNamed
 pub mod RepairExamples
+pub mod ManyRows
+pub mod ManyRowsCall
+pub mod ManyRowsSound
+pub mod ManyRowsAlike
+pub mod ManyRowsExamples

@@ -39,6 +39,10 @@ FULL = 7
 abbrev pub STALE : ℕ
 STALE = 8
 
+-- Document 02, Ask 2: "when the lengths don't sum to the bytes or the id places are fewer than the rows"
+abbrev pub LIST : ℕ
+LIST = 10
+
 -- Document 02, Ask 4: "when the entry list is too short for all changes"
 abbrev pub ROOM : ℕ
 ROOM = 11

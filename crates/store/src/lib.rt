@@ -105,3 +105,11 @@ pub enum Repair {
     Size,
     Room { count: usize },
 }
+
+// What an insert of many rows answers: how many went in, or a refusal of the whole list; or where it stopped, with that row's answer.
+pub enum Inserted {
+    Done { rows: usize },
+    Size,
+    List,
+    Stopped { rows: usize, answer: Answer },
+}

@@ -2,6 +2,7 @@
 
 pub mod cases;
 pub mod damage;
+pub mod lists;
 pub mod numbers;
 pub mod poke;
 pub mod populate;
@@ -9,6 +10,8 @@ pub mod random;
 #[path = "../../../rust/tests/repair_examples/mod.rs"]
 pub mod repair_examples;
 pub mod repairs;
+pub mod row_examples;
+pub mod rows;
 pub mod sequence;
 pub mod show;
 pub mod soundness;

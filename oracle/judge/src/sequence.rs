@@ -8,7 +8,7 @@ use crate::random::Random;
 use model::page::{self, slot, Kind};
 use store::{Call, PAGE_SIZE};
 
-const BOUNDARIES: [u64; 21] = [
+pub const BOUNDARIES: [u64; 21] = [
     0, 1, 7, 8, 9, 4092, 4093, 4094, 12269, 12270, 12271, 12272, 16355, 16356, 16357, 16363, 16364, 16365, 16366, 16372, 16373,
 ];
 

@@ -47,6 +47,11 @@ fn inventory_is_true(pages: &[&[u8]], inventory: &[u8]) -> bool {
         && (0..15).all(|number| entry(inventory, number) == lowest(number) as u64)
 }
 
+/// Of pages that are sound.
+pub fn has_true_inventory(segment: &[u8], inventory: &[u8]) -> bool {
+    inventory_is_true(&pages(segment), inventory)
+}
+
 pub fn is_sound(segment: &[u8], inventory: &[u8]) -> bool {
     let pages = pages(segment);
     pages.iter().all(|page| sound(page)) && forwarding_is_sound(&pages) && inventory_is_true(&pages, inventory)

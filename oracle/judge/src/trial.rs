@@ -97,11 +97,15 @@ pub fn askable(call: Call) -> bool {
 
 impl Trial {
     pub fn new(n: usize) -> Trial {
-        let (segment, inventory) = (vec![0; n * PAGE_SIZE], vec![0; PAGE_SIZE]);
+        Trial::over(&vec![0; n * PAGE_SIZE], &[0; PAGE_SIZE])
+    }
+
+    /// Over whole pages as they are.
+    pub fn over(segment: &[u8], inventory: &[u8]) -> Trial {
         Trial {
-            model: Model::new(&segment, &inventory),
-            corrected: corrected::LentStore::new(&segment, &inventory),
-            original: original::LentStore::new(&segment, &inventory),
+            model: Model::new(segment, inventory),
+            corrected: corrected::LentStore::new(segment, inventory),
+            original: original::LentStore::new(segment, inventory),
         }
     }
 

@@ -29,16 +29,10 @@ pub fn wreck(seed: u64) -> Wreck {
     let few = random.pick(&[0, 1, 1, 1, 1, 1, 1, 2, 2, 2, 2, 2, 2, 3, 3, 3, 3, 3, 4, 5]);
     let n = if many { 60 + random.below(80) as usize } else { few };
     let most_slots = if many { 4 } else { random.pick(&[1, 2, 3, 5, 8, 8, 12, 12, 40, 2046]) };
-    let pokes = match random.below(16) {
-        0 => vec![],
-        1 => fresh_with_leftovers(&mut random, n),
-        _ => populate(&mut random, n, most_slots),
-    };
-    let (mut segment, mut inventory) = (vec![0; n * PAGE_SIZE], vec![0; PAGE_SIZE]);
-    pokes.iter().for_each(|poke| poke.apply(&mut segment, &mut inventory));
+    let (segment, inventory) = sound(&mut random, n, most_slots);
     let mut wreck = Wreck { older: segment.clone(), segment, inventory, random };
     if wreck.random.one_in(3) {
-        wreck.make_calls();
+        make_calls(&mut wreck.random, &mut wreck.segment, &mut wreck.inventory);
     }
     if n > 0 {
         wreck.damage();
@@ -46,6 +40,31 @@ pub fn wreck(seed: u64) -> Wreck {
         wreck.inventory_bytes();
     }
     wreck
+}
+
+/// A sound segment and its inventory: all zero, fresh pages full of leftovers, mostly populated.
+pub fn sound(random: &mut Random, n: usize, most_slots: usize) -> (Vec<u8>, Vec<u8>) {
+    let pokes = match random.below(16) {
+        0 => vec![],
+        1 => fresh_with_leftovers(random, n),
+        _ => populate(random, n, most_slots),
+    };
+    let (mut segment, mut inventory) = (vec![0; n * PAGE_SIZE], vec![0; PAGE_SIZE]);
+    pokes.iter().for_each(|poke| poke.apply(&mut segment, &mut inventory));
+    (segment, inventory)
+}
+
+/// Up to twenty calls on a sound segment.
+pub fn make_calls(random: &mut Random, segment: &mut [u8], inventory: &mut [u8]) {
+    let style = Style { start: Start::Zero, damages: false, untruths: false, most_slots: 0 };
+    let (seed, times) = (random.next(), random.below(20));
+    let mut calls = Sequence::new(seed, style, segment.len() / PAGE_SIZE, times);
+    let mut model = Model::new(segment, inventory);
+    while let Some(Event::Call(call)) = calls.next(model.segment()) {
+        perform(&mut model, call);
+    }
+    segment.copy_from_slice(model.segment());
+    inventory.copy_from_slice(model.inventory());
 }
 
 const KINDS: [fn(&mut Wreck); 20] = [
@@ -74,18 +93,6 @@ const KINDS: [fn(&mut Wreck); 20] = [
 impl Wreck {
     fn n(&self) -> usize {
         self.segment.len() / PAGE_SIZE
-    }
-
-    fn make_calls(&mut self) {
-        let style = Style { start: Start::Zero, damages: false, untruths: false, most_slots: 0 };
-        let (seed, times) = (self.random.next(), self.random.below(20));
-        let mut calls = Sequence::new(seed, style, self.n(), times);
-        let mut model = Model::new(&self.segment, &self.inventory);
-        while let Some(Event::Call(call)) = calls.next(model.segment()) {
-            perform(&mut model, call);
-        }
-        self.segment.copy_from_slice(model.segment());
-        self.inventory.copy_from_slice(model.inventory());
     }
 
     /// Nothing; one damage; several of one kind; several of any kind.

@@ -82,7 +82,7 @@ impl Model {
         if whole { Ok(()) } else { Err(SIZE) }
     }
 
-    fn check_both(&self) -> Result<(), u64> {
+    pub(crate) fn check_both(&self) -> Result<(), u64> {
         self.check_segment()?;
         if self.inventory.len() == PAGE { Ok(()) } else { Err(SIZE) }
     }

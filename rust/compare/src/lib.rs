@@ -1,9 +1,24 @@
 //! The crate `hekatosuy` as a store that the judge can compare.
 
 use hekatosuy::{Refusal, Rid, SlottedPageSegment, SlottedPages};
+use std::ops::Range;
+use std::{env, thread};
 use store::{Answer, Found, Store, DONE};
 
 extern "C" {
+    fn hk_insert_records(
+        segment: *mut u8,
+        segment_len: usize,
+        inventory: *mut u8,
+        inventory_len: usize,
+        rows: *const u8,
+        rows_len: usize,
+        lengths: *const u64,
+        lengths_len: usize,
+        ids: *mut u64,
+        ids_len: usize,
+        inserted: *mut u64,
+    ) -> u64;
     fn hk_repair(
         segment: *mut u8,
         segment_len: usize,
@@ -13,6 +28,49 @@ extern "C" {
         entries_len: usize,
         count: *mut u64,
     ) -> u64;
+}
+
+/// Answer and rows told of an insert of many rows, which stand end to end, into any bytes.
+pub fn insert_records(segment: &mut [u8], inventory: &mut [u8], rows: &[u8], lengths: &[u64], ids: &mut [u64]) -> (u64, u64) {
+    let mut inserted = u64::MAX;
+    let answer = unsafe {
+        hk_insert_records(
+            segment.as_mut_ptr(),
+            segment.len(),
+            inventory.as_mut_ptr(),
+            inventory.len(),
+            rows.as_ptr(),
+            rows.len(),
+            lengths.as_ptr(),
+            lengths.len(),
+            ids.as_mut_ptr(),
+            ids.len(),
+            &mut inserted,
+        )
+    };
+    (answer, inserted)
+}
+
+/// So many seeds from `first` on: as the environment's variable says, else the usual number.
+pub fn seeds(variable: &str, first: u64, usual: u64) -> Range<u64> {
+    let wanted = env::var(variable).map(|number| number.parse().unwrap_or_else(|_| panic!("{variable} is a number")));
+    first..first + wanted.unwrap_or(usual)
+}
+
+/// What `run` counts over these seeds, added up; on all processors at once.
+pub fn over<Counts: Default + Send>(seeds: &Range<u64>, run: fn(u64, &mut Counts), add: fn(&mut Counts, &Counts)) -> Counts {
+    let processors = thread::available_parallelism().map_or(1, usize::from);
+    let part = |first: usize| {
+        let mut counts = Counts::default();
+        seeds.clone().skip(first).step_by(processors).for_each(|seed| run(seed, &mut counts));
+        counts
+    };
+    thread::scope(|scope| {
+        let parts: Vec<_> = (0..processors).map(|first| scope.spawn({ let part = &part; move || part(first) })).collect();
+        let mut sum = Counts::default();
+        parts.into_iter().for_each(|part| add(&mut sum, &part.join().expect("a seed differs, as told above")));
+        sum
+    })
 }
 
 /// Bytes of any length, lent anew for each call.
@@ -32,6 +90,11 @@ fn new_id(result: Result<Rid, Refusal>) -> (Answer, u64) {
 impl Ours {
     pub fn new(segment: &[u8], inventory: &[u8]) -> Ours {
         Ours { segment: segment.to_vec(), inventory: inventory.to_vec() }
+    }
+
+    /// As [`insert_records`], into these bytes.
+    pub fn insert_records(&mut self, rows: &[u8], lengths: &[u64], ids: &mut [u64]) -> (u64, u64) {
+        insert_records(&mut self.segment, &mut self.inventory, rows, lengths, ids)
     }
 
     /// Answer and count of a repair with a list of any number of words; the crate lends three for each entry.

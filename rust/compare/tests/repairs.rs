@@ -1,13 +1,12 @@
 //! Repairs of generated wrecks by the archive and by the model's plain repair, which is written from the request: equal
 //! answers, counts, lists and bytes. And what the request asks of each, by the archive's own calls.
 
-use compare::Ours;
+use compare::{over, seeds, Ours};
 use judge::random::Random;
 use judge::repairs::{ids, reads, same_bytes, RepairCounts, LEFTOVER};
 use judge::soundness::is_sound;
 use judge::wreck::{wreck, Wreck};
 use model::repair::{plan, repair};
-use std::{env, thread};
 use store::Store;
 
 /// How many wrecks are repaired, unless HEKATOSUY_REPAIRS says another number.
@@ -76,20 +75,8 @@ fn sizes() {
 
 #[test]
 fn generated_wrecks() {
-    let wanted = env::var("HEKATOSUY_REPAIRS").map(|number| number.parse().expect("HEKATOSUY_REPAIRS is a number"));
-    let seeds = 8_000_000..8_000_000 + wanted.unwrap_or(USUAL_REPAIRS);
-    let processors = thread::available_parallelism().map_or(1, usize::from);
-    let run = |first: usize| {
-        let mut counts = RepairCounts::default();
-        seeds.clone().skip(first).step_by(processors).for_each(|seed| run_one(seed, &mut counts));
-        counts
-    };
-    let counts = thread::scope(|scope| {
-        let runs: Vec<_> = (0..processors).map(|first| scope.spawn({ let run = &run; move || run(first) })).collect();
-        let mut sum = RepairCounts::default();
-        runs.into_iter().for_each(|run| sum.add(&run.join().expect("a repair differs, as told above")));
-        sum
-    });
+    let seeds = seeds("HEKATOSUY_REPAIRS", 8_000_000, USUAL_REPAIRS);
+    let counts = over(&seeds, run_one, RepairCounts::add);
     println!("counted: {}; 0 differences from the model", counts.told());
     assert_eq!(counts.repairs, seeds.end - seeds.start);
     assert!(counts.holes().is_empty() || counts.repairs < 3000, "never met: {:?}", counts.holes());

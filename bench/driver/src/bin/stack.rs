@@ -4,7 +4,7 @@
 //! The stack below the caller is painted before each call; what is no longer painted afterwards was
 //! used. The crate's own frames are counted as well.
 
-use hekatosuy::{SlottedPageSegment, SlottedPages, Touched};
+use hekatosuy::{Rid, SlottedPageSegment, SlottedPages, Touched};
 use judge::sequence::{any_style, few_pages, Event, Sequence};
 use std::arch::asm;
 use std::hint::black_box;
@@ -36,8 +36,8 @@ fn depth(call: &mut dyn FnMut() -> bool) -> usize {
     top + MARGIN - lowest.unwrap_or(top)
 }
 
-const CALLS: [&str; 8] =
-    ["insert_record", "allocate", "get_record", "write_record", "resize_record", "erase_record", "scan, a step", "repair"];
+const CALLS: [&str; 9] =
+    ["insert_record", "allocate", "get_record", "write_record", "resize_record", "erase_record", "scan, a step", "repair", "insert_records"];
 
 struct Lent {
     segment: Vec<u8>,
@@ -76,6 +76,15 @@ impl Lent {
         depth(&mut || calls.repair(&mut list).is_ok())
     }
 
+    /// Many rows in one call, on a copy: the record, one of no bytes, and the record again.
+    fn insert_records(&self, record: &[u8]) -> usize {
+        let (mut segment, mut inventory) = (self.segment.clone(), self.inventory.clone());
+        let (rows, length) = ([record, record].concat(), record.len() as u64);
+        let mut ids = [Rid::from(0); 3];
+        let mut calls = SlottedPageSegment::new(&mut segment, &mut inventory);
+        depth(&mut || calls.insert_records(&rows, &[length, 0, length], &mut ids).is_ok())
+    }
+
     /// The deepest of the first steps.
     fn scan(&self) -> usize {
         let mut scan = SlottedPages::new(&self.segment).scan();
@@ -83,13 +92,16 @@ impl Lent {
     }
 }
 
-fn run(seed: u64, most: &mut [usize; 8]) {
+fn run(seed: u64, most: &mut [usize; CALLS.len()]) {
     let n = few_pages(seed);
     let mut lent = Lent { segment: vec![0; n * PAGE_SIZE], inventory: vec![0; PAGE_SIZE] };
     let mut sequence = Sequence::new(seed, any_style(seed), n, 100);
     while let Some(event) = sequence.next(&lent.segment) {
         match event {
             Event::Call(call) => {
+                if let Call::Insert { length, seed } = call {
+                    most[8] = most[8].max(lent.insert_records(&record(length, seed)));
+                }
                 let (kind, depth) = lent.call(call);
                 most[kind] = most[kind].max(depth);
             }
@@ -103,7 +115,7 @@ fn run(seed: u64, most: &mut [usize; 8]) {
 
 fn main() {
     let measured = std::thread::Builder::new().stack_size(STACK).spawn(|| {
-        let mut most = [0; 8];
+        let mut most = [0; CALLS.len()];
         (1..=SEQUENCES).for_each(|seed| run(seed, &mut most));
         most
     });

@@ -72,7 +72,7 @@ module _ (s v : List ℕ) (h : SoundSegment s v) where
   pub whole : length s % 16384 ≡ 0
   whole = sized s (h .whole) .whole
 
-  fresh-past : (p : ℕ) → length s / 16384 ≤ p → segView s .page p ≡ initialised
+  pub fresh-past : (p : ℕ) → length s / 16384 ≤ p → segView s .page p ≡ initialised
   fresh-past p l = seen-page s p ∙ zero-page (pageOf s p) (subst AllZero (sym (page-past s p l whole)) tt)
 
   pub free-past : (i : ℕ) → length s / 16384 ≤ pageNo i → slotOn (segView s) i ≡ Free

@@ -1,7 +1,7 @@
--- For all bytes, damaged ones too: a plan that is refused has no step and the inventory as it was, its answer is one of 0 to 8, and one that is
--- carried out has the id that it was lent.
+-- For all bytes, damaged ones too: a plan that is refused has no step and the inventory as it was, its answer is one of 0 to 8, one that is
+-- carried out has the id that it was lent, and the inventory is as long as it was.
 use Prim.Native.Nat.{ℕ, _+_, _≤_, _<_}
-use mathlib.Core.Path.{_≡_, refl, ap}
+use mathlib.Core.Path.{_≡_, refl, ap, _∙_}
 use mathlib.Core.Bool.{Bool, true, false, cond, not, _&&_, _||_}
 use mathlib.Core.List.{List, []}
 use mathlib.Core.Logic.{_≢_}
@@ -12,7 +12,7 @@ use borrow.Author.Tests.{leb-true}
 use Rattle.store.specs.Numbers.{pageNo, slotNo}
 use Rattle.store.specs.Page.{sound}
 use Rattle.store.specs.PageSteps.{Alloc, noRoom, got, allocate, Relocated, refused, moved, relocate}
-use Rattle.store.specs.Inventory.{foundIn}
+use Rattle.store.specs.Inventory.{foundIn, update}
 use Rattle.store.specs.Refusals.{SIZE, NOPAGE, LONG, DAMAGED, NONE, FORWARDED}
 use Rattle.store.specs.Segment.{SegView, segView, sizeOk, invOk, OnPage, Out, done, refuse, refuseIf, Found, nowhere}
 use Rattle.store.specs.Segment.{found, taken, findOn, find, inserted, insertPlan, pointsBack, forwarded, fromOrdinary, forwardedAgain, atTarget}
@@ -25,6 +25,7 @@ use Rattle.store.specs.Laws.Roots.{by-root}
 use Rattle.store.specs.Laws.Calls.{by-test}
 use Rattle.store.specs.Laws.Segments.{planned}
 use Rattle.store.specs.Laws.Plans.{planOf}
+use Rattle.store.specs.Laws.Settled.{length-update}
 use Rattle.store.specs.declared.Named.{Named}
 use Rattle.store.specs.declared.Named.the-variants.{At, Full}
 use Rattle.store.specs.declared.Slot.{Slot}
@@ -41,13 +42,24 @@ pub record RefusedOrDone (v : List ℕ) (P : ℕ → Type 0) (o : Out) : Type 0 
   pub keeps : o .answer ≢ 0 → (o .steps ≡ []) × (o .inv ≡ v)
   pub most : o .answer ≤ 8
   pub id : o .answer ≡ 0 → P (o .id)
+  pub long : length (o .inv) ≡ length v
 
 module _ (v : List ℕ) (P : ℕ → Type 0) where
   refusal : (a : ℕ) → refusalNo a ≡ true → RefusedOrDone v P (refuse v a)
-  refusal a h = record { keeps = λ n. (refl, refl); most = leb-true a 8 (and-both (ltb 0 a) (leb a 8) h .1); id = λ e. never h (ap refusalNo e) }
+  refusal a h = record { keeps = λ n. (refl, refl); most = leb-true a 8 (and-both (ltb 0 a) (leb a 8) h .1); id = λ e. never h (ap refusalNo e); long = refl }
 
-  is-done : (i : ℕ) (es : List OnPage) (w : List ℕ) → P i → RefusedOrDone v P (done i es w)
-  is-done i es w p = record { keeps = λ n. absurd (n refl); most = omega arith; id = λ e. p }
+  -- one page is told to the inventory, or two
+  told-once : (i : ℕ) (es : List OnPage) (n p r : ℕ) → P i → RefusedOrDone v P (done i es (update v n p r))
+  told-once i es n p r own = record { keeps = λ e. absurd (e refl); most = omega arith; id = λ e. own; long = length-update v n p r }
+
+  told-twice : (i : ℕ) (es : List OnPage) (n p r m q t : ℕ) → P i → RefusedOrDone v P (done i es (update (update v n p r) m q t))
+  told-twice i es n p r m q t own =
+      record {
+        keeps = λ e. absurd (e refl);
+        most = omega arith;
+        id = λ e. own;
+        long = length-update (update v n p r) m q t ∙ length-update v n p r;
+      }
 
   refuse-if : (b : Bool) (a : ℕ) (o : Out) → refusalNo a ≡ true → RefusedOrDone v P o → RefusedOrDone v P (refuseIf b v a o)
   refuse-if true a o h k = refusal a h
@@ -84,7 +96,7 @@ OwnRoot u i x j = (j ≡ i) × (pageNo i < u .pages) × Root x
 module _ (u : SegView) (v : List ℕ) where
   inserted-keeps : (bs : List ℕ) (f : Found) → NumberMost f → RefusedOrDone v (λ j. Unit {0}) (inserted u v bs f)
   inserted-keeps bs (nowhere a) h = refusal v _ a h
-  inserted-keeps bs (found p k a) h = is-done v _ _ _ _ tt
+  inserted-keeps bs (found p k a) h = told-once v _ _ _ _ _ _ tt
 
   insert-plan : (bs : List ℕ) → RefusedOrDone v (λ j. Unit {0}) (insertPlan foundIn u v bs)
   unfolding insertPlan
@@ -95,24 +107,24 @@ module _ (u : SegView) (v : List ℕ) where
     module _ (P : ℕ → Type 0) (own : P i) where
       forwarded-keeps : (old : List ℕ) (f : Found) → NumberMost f → RefusedOrDone v P (forwarded u v i size new old f)
       forwarded-keeps old (nowhere a) h = refusal v P a h
-      forwarded-keeps old (found q j a) h = is-done v P _ _ _ own
+      forwarded-keeps old (found q j a) h = told-twice v P _ _ _ _ _ _ _ _ own
 
       ordinary-keeps : (old : List ℕ) (r : Relocated) → RefusedOrDone v P (fromOrdinary foundIn u v i size new old r)
-      ordinary-keeps old (moved a) = is-done v P _ _ _ own
+      ordinary-keeps old (moved a) = told-once v P _ _ _ _ _ own
       ordinary-keeps old refused = let ex : ℕ → Bool = λ p. eqb p (pageNo i) in
           forwarded-keeps old (find foundIn u v (size + 8) ex) (find-most u v (size + 8) ex)
 
       again-keeps : (t : ℕ) (old : List ℕ) (f : Found) → NumberMost f → RefusedOrDone v P (forwardedAgain u v i size new t old f)
       again-keeps t old (nowhere a) h = refusal v P a h
-      again-keeps t old (found q j a) h = is-done v P _ _ _ own
+      again-keeps t old (found q j a) h = told-twice v P _ _ _ _ _ _ _ _ own
 
       target-keeps : (t : ℕ) (old : List ℕ) (r : Relocated) → RefusedOrDone v P (atTarget foundIn u v i size new t old r)
-      target-keeps t old (moved a) = is-done v P _ _ _ own
+      target-keeps t old (moved a) = told-once v P _ _ _ _ _ own
       target-keeps t old refused = let ex : ℕ → Bool = λ p. eqb p (pageNo i) || eqb p (pageNo t) in
           again-keeps t old (find foundIn u v (size + 8) ex) (find-most u v (size + 8) ex)
 
       home-keeps : (t : ℕ) (old : List ℕ) (r : Relocated) → RefusedOrDone v P (atHome foundIn u v i size new t old r)
-      home-keeps t old (moved a) = is-done v P _ _ _ own
+      home-keeps t old (moved a) = told-twice v P _ _ _ _ _ _ _ _ own
       home-keeps t old refused = target-keeps t old (relocate (u .page (pageNo t)) (slotNo t) (size + 8))
 
     by-slot : pageNo i < u .pages → (x : Slot) → RefusedOrDone v (OwnRoot u i x) (storeBy foundIn u v i size new x)
@@ -131,9 +143,9 @@ module _ (u : SegView) (v : List ℕ) where
         (λ e. refusal v _ NOPAGE refl) (λ e f. refusal v _ DAMAGED refl) (λ e f. by-slot e (slotOn u i)))
 
   erase-by : (i : ℕ) → pageNo i < u .pages → (x : Slot) → RefusedOrDone v (OwnRoot u i x) (eraseBy u v i x)
-  erase-by i l (Ordinary o k) = is-done v _ _ _ _ (refl, l, tt)
+  erase-by i l (Ordinary o k) = told-once v _ _ _ _ _ _ (refl, l, tt)
   erase-by i l Free = refusal v _ NONE refl
-  erase-by i l (Redirect t) = refuse-if v _ (not (pointsBack u i t)) DAMAGED _ refl (is-done v _ _ _ _ (refl, l, tt))
+  erase-by i l (Redirect t) = refuse-if v _ (not (pointsBack u i t)) DAMAGED _ refl (told-twice v _ _ _ _ _ _ _ _ _ (refl, l, tt))
   erase-by i l (Target o k) = refusal v _ FORWARDED refl
 
   erase-plan : (i : ℕ) → RefusedOrDone v (OwnRoot u i (slotOn u i)) (erasePlan u v i)

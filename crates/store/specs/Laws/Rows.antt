@@ -44,11 +44,13 @@ module _ (s v : List ℕ) (h : SoundSegment s v) where
 
 -- ---- once over the plan
 
--- w is what the answer's id reads as; each other root reads as before; and no id is made a root's but the answer's
+-- w is what the answer's id reads as; each other root reads as before, its entry but for the offset as it was; and no id is made a root's but
+-- the answer's
 pub record Rows (s : List ℕ) (w : Read) (r : Result) : Type 0 where
   pub own : r .answer ≡ 0 → readStep (r .seg) (r .id) ≡ w
   pub rooted : r .answer ≡ 0 → w .answer ≡ 0 → Rooted (r .seg) (r .id)
   pub others : (j : ℕ) → Rooted s j → (r .answer ≡ 0 → j ≢ r .id) → Rooted (r .seg) j × (readStep (r .seg) j ≡ readStep s j)
+  pub tags : (j : ℕ) → Rooted s j → (r .answer ≡ 0 → j ≢ r .id) → tagOn (segView (r .seg)) j ≡ tagOn (segView s) j
   pub made : (j : ℕ) → Rooted (r .seg) j → (r .answer ≡ 0 → j ≢ r .id) → Rooted s j
 
 module _ (s v : List ℕ) (h : SoundSegment s v) (o : Out) (x : AllExact s (o .steps)) (w : Read) (k : Stays (segView s) v w o) where
@@ -79,6 +81,9 @@ module _ (s v : List ℕ) (h : SoundSegment s v) (o : Out) (x : AllExact s (o .s
               rooted-after j (r .below) (subst Root (sym (y .0)) (tag-root (slotOn (segView s) j) .0 (r .root))),
               look-after j (r .below) ∙ y .1 ∙ sym (read-look s v h j (r .below)),
             );
+        tags = λ j r n.
+            ap (λ (u : SegView). tagOn u j) (after-seen s v h o x w k)
+            ∙ k .others j (seen (r .below)) n (tag-root (slotOn (segView s) j) .0 (r .root)) .0;
         made = λ j r n.
             let l : pageNo j < length s / 16384 = subst (λ (m : ℕ). pageNo j < m) (sym (page-count s v h o x w k)) (r .below) in
             let z : Root (slotOn left j) = subst (λ (u : SegView). Root (slotOn u j)) (after-seen s v h o x w k) (r .root) in

@@ -15,7 +15,8 @@ use Rattle.store.specs.PageSteps.{initialised, opened, run, plan}
 use Rattle.store.specs.Segment.{SegView, segView, pageOf, OnPage, Out, result, carried, carriedOn, step, refuseIf, sizeOk, invOk}
 use Rattle.store.specs.Laws.Numbers.{length-put, cut-apart, cut-same, lent}
 use borrow.Rule.Slice.PartMut.{putMid, midOf}
-use Rattle.store.specs.Laws.Views.{Sound, upd-elim}
+use Rattle.store.specs.Laws.Cases.{by-test}
+use Rattle.store.specs.Laws.Views.{Sound}
 use Rattle.store.specs.Laws.SoundPage.{sound-test, sound-init}
 use Rattle.store.specs.Laws.Exact.{Exact, length-run}
 
@@ -135,11 +136,13 @@ opened-sound v s = go (fresh v)
     go true = sound-test initialised sound-init
     go false = sound-test v s
 
-pub settled-sound : (es : List OnPage) (s : List ℕ) (u : SegView) → AllExact s es → AllSound u → AllSound (settled es u)
-settled-sound [] s u x h = h
-settled-sound (e ∷ es) s u x h =
-    settled-sound es (carriedOn e s) (settledOn e u) (x .1)
-    (upd-elim (u .page) (e .on) (opened (e .plan .after)) (λ p v. sound v ≡ true) (opened-sound (e .plan .after) (x .0 .exact .sound)) (λ p n. h p))
+-- each of them that was
+pub settled-sound : (es : List OnPage) (s : List ℕ) (u : SegView) → AllExact s es → (p : ℕ) → sound (u .page p) ≡ true → sound (settled es u .page p) ≡ true
+settled-sound [] s u x p h = h
+settled-sound (e ∷ es) s u x p h =
+    settled-sound es (carriedOn e s) (settledOn e u) (x .1) p
+    (by-test (λ (v : View). sound v ≡ true) (eqb p (e .on)) (opened (e .plan .after)) (u .page p)
+    (λ z. opened-sound (e .plan .after) (x .0 .exact .sound)) (λ z. h))
 
 -- ---- one page lent on from the segment's middle: from p * 16384 to (p + 1) * 16384
 

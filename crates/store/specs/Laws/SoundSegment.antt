@@ -92,7 +92,7 @@ module _ (s v : List ℕ) (h : SoundSegment s v) (o : Out) (x : AllExact s (o .s
   same-pages = seen-pages s ∙ page-count ∙ sym (seen-pages (carried (o .steps) s))
 
   sounds-after : AllSound (settled (o .steps) (segView s))
-  sounds-after = settled-sound (o .steps) s (segView s) x (λ p. sound-test (segView s .page p) (seen-sound s v h .sounds p))
+  sounds-after p = settled-sound (o .steps) s (segView s) x p (sound-test (segView s .page p) (seen-sound s v h .sounds p))
 
   pub stays-right : SoundSegment (carried (o .steps) s) (o .inv)
   stays-right =

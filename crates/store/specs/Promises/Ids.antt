@@ -13,11 +13,12 @@ use Rattle.store.specs.Refusals.{NONE}
 use Rattle.store.specs.Segment.{segView, Result, result, Read, noRead, readStep}
 use Rattle.store.specs.Calls.{Call, insert, allocate, write, resize, erase, called, results, Each, Makes, OfId}
 use Rattle.store.specs.SoundSegment.{slotOn, bytesOn, Root, Rooted, SoundSegment}
+use Rattle.store.specs.Laws.Cases.{never}
 use Rattle.store.specs.Laws.Slots.{tag}
 use Rattle.store.specs.Laws.Pairs.{tagOn, look, tag-root, root-looks}
 use Rattle.store.specs.Laws.Plans.{called-plan}
 use Rattle.store.specs.Laws.Refused.{OwnRoot, AnswersId, tested}
-use Rattle.store.specs.Laws.SoundSegment.{seen-sound}
+use Rattle.store.specs.Laws.SoundSegment.{seen-sound, seen-pages}
 use Rattle.store.specs.Laws.Unused.{plan-unused}
 use Rattle.store.specs.Laws.Rows.{read-look, call-rows}
 use Rattle.store.specs.Promises.Refused.{length-kept}
@@ -73,6 +74,48 @@ module _ (c : Call) (s v : List ℕ) where
         go : called c s v .answer ≡ 0 → Makes c ⊎ ((k : ℕ) × OfId k c) → j ≢ called c s v .id
         go a (inl m) = new m a
         go a (inr k) = λ e. let o = id-own (k .0) (k .1) a in n (subst (Rooted s) (sym (e ∙ o .0)) (o .1))
+
+    -- an id whose slot is free after an insert or allocate was free before it
+    pub free-before : Makes c → (j : ℕ) → pageNo j < length s / 16384 → slotOn (segView (called c s v .seg)) j ≡ Free → slotOn (segView s) j ≡ Free
+    free-before m j l f = go (slotOn (segView s) j) refl
+      where
+        -- it is of no id, so what is in use stays so, and a redirect stays as it is
+        own : (d : Call) (i : ℕ) → Makes d → OfId i d → ⊥
+        own (insert bs) i n o = o
+        own (allocate n) i k o = o
+        own (write k bs) i n o = n
+        own (resize k n) i x o = x
+        own (erase k) i n o = n
+
+        other : (i : ℕ) → Rooted s i → called c s v .answer ≡ 0 → i ≢ called c s v .id
+        other i x = id-other i x (own c i m)
+
+        used : Rooted s j → ⊥
+        used x = subst Root f (call-rows c s v h .others j x (other j x) .0 .root)
+
+        named : (x : Slot) → tag x ≡ Redirect j → x ≡ Redirect j
+        named (Ordinary o k) e = let z : _≡_ {A = ℕ} 0 1 = cc in absurd (omega arith)
+        named Free e = e
+        named (Redirect t) e = e
+        named (Target o k) e = let z : _≡_ {A = ℕ} 0 1 = cc in absurd (omega arith)
+
+        target : isTarget (slotOn (segView s) j) ≡ true → ⊥
+        target t =
+            let n = h .pairs .targets j (subst (λ (m : ℕ). pageNo j < m) (sym (seen-pages s)) l) t in
+            let x : Rooted s (n .by) =
+            record { below = subst (λ (m : ℕ). pageNo (n .by) < m) (seen-pages s) (n .below); root = subst Root (sym (n .names)) tt } in
+            let r = call-rows c s v h in
+            let y = r .others (n .by) x (other (n .by) x) .0 in
+            let z = called c s v .seg in
+            let q = call-right c s v h .sound .pairs .redirects (n .by) j (subst (λ (m : ℕ). pageNo (n .by) < m) (sym (seen-pages z)) (y .below))
+            (named (slotOn (segView z) (n .by)) (r .tags (n .by) x (other (n .by) x) ∙ ap tag (n .names))) in
+            never (q .target) (ap isTarget f)
+
+        go : (x : Slot) → slotOn (segView s) j ≡ x → slotOn (segView s) j ≡ Free
+        go (Ordinary o k) e = absurd (used (record { below = l; root = subst Root (sym e) tt }))
+        go Free e = e
+        go (Redirect t) e = absurd (used (record { below = l; root = subst Root (sym e) tt }))
+        go (Target o k) e = absurd (target (ap isTarget e))
 
 -- what an id that is not in use reads as, on a page of the segment: 5, unless it is a target's own
 pub unused-reads : (s v : List ℕ) → SoundSegment s v → (j : ℕ) → pageNo j < length s / 16384 → (Rooted s j → ⊥)

@@ -4,10 +4,12 @@ use Prim.Native.Nat.{ℕ}
 use mathlib.Core.Path.{_≡_, refl, sym, ap, _∙_}
 use mathlib.Core.Bool.{cond}
 use mathlib.Core.List.{List, [], _∷_}
+use native.Mathlib.Omega.{arith}
 use lib.ListN.{getD}
 use Rattle.store.specs.Segment.{Result, Located}
 use Rattle.store.specs.Scan.{Scanned}
-use Rattle.store.specs.Answers.{outcome, located, scannedOf, repaired, Placed, givenPlace, NamedPage, namedPage}
+use Rattle.store.specs.ManyRows.{Rows}
+use Rattle.store.specs.Answers.{outcome, told, ByRow, located, scannedOf, repaired, Placed, givenPlace, NamedPage, namedPage}
 use Rattle.store.specs.Repair.{Repaired}
 use Rattle.store.specs.declared.Place.{Place}
 use Rattle.store.specs.declared.Place.the-variants as place
@@ -15,6 +17,8 @@ use Rattle.store.specs.declared.Named.{Named}
 use Rattle.store.specs.declared.Named.the-variants as named
 use Rattle.store.specs.declared.Answer.{Answer}
 use Rattle.store.specs.declared.Answer.the-variants.{Done, Size, NoPage, Long, Damaged, NoRecord, Forwarded, Full, Stale}
+use Rattle.store.specs.declared.Inserted.{Inserted}
+use Rattle.store.specs.declared.Inserted.the-variants as many
 use Rattle.store.specs.declared.Reading.{Reading}
 use Rattle.store.specs.declared.Reading.the-variants as reading
 use Rattle.store.specs.declared.Step.{Step}
@@ -49,6 +53,39 @@ module _ (r r′ : Answer) (s s′ v v′ : List ℕ) where
       back Forwarded t w = refl
       back Full t w = refl
       back Stale t w = refl
+
+-- ---- many rows
+
+module _ (r r′ : Inserted) (is is′ s s′ v v′ : List ℕ) where
+  pub inserted-single : ByRow r → ByRow r′ → told r is s v ≡ told r′ is′ s′ v′ → (r ≡ r′) × (is ≡ is′) × (s ≡ s′) × (v ≡ v′)
+  inserted-single h h′ e = (
+    sym (back r is s v h) ∙ ap answer e ∙ back r′ is′ s′ v′ h′,
+    ap (λ (o : Rows). o .ids) e,
+    ap (λ (o : Rows). o .seg) e,
+    ap (λ (o : Rows). o .inv) e,
+  )
+    where
+      answer : Rows → Inserted
+      answer o =
+          let n : ℕ = o .inserted in
+          getD
+          (many.Done n ∷ many.Size ∷ many.Stopped n NoPage ∷ many.Stopped n Long ∷ many.Stopped n Damaged ∷ many.Stopped n NoRecord
+          ∷ many.Stopped n Forwarded ∷ many.Stopped n Full ∷ many.Stopped n Stale ∷ [])
+          (o .answer) many.List
+
+      back : (a : Inserted) (js t w : List ℕ) → ByRow a → answer (told a js t w) ≡ a
+      back (many.Done n) js t w h = refl
+      back many.Size js t w h = refl
+      back many.List js t w h = refl
+      back (many.Stopped n (Done i)) js t w h = absurd (omega arith)
+      back (many.Stopped n Size) js t w h = absurd (omega arith)
+      back (many.Stopped n NoPage) js t w h = refl
+      back (many.Stopped n Long) js t w h = refl
+      back (many.Stopped n Damaged) js t w h = refl
+      back (many.Stopped n NoRecord) js t w h = refl
+      back (many.Stopped n Forwarded) js t w h = refl
+      back (many.Stopped n Full) js t w h = refl
+      back (many.Stopped n Stale) js t w h = refl
 
 -- ---- a read
 

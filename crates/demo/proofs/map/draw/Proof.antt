@@ -7,10 +7,10 @@ use Rattle.demo.proofs.map.draw.Statement.{statement}
 use Rattle.demo.proofs.map.draw.Tie as tie
 
 abbrev Inv-loop : tie.InvT-loop
-Inv-loop row₀ y x₀ row x = (length row ≡ length row₀) × (x ≤ length row₀)
+Inv-loop rows₀ i₀ rows i = (length rows ≡ length rows₀) × (i ≤ length rows₀)
 
 abbrev μ-loop : tie.MeasureT-loop
-μ-loop row₀ y x₀ row x = length row₀ - x
+μ-loop rows₀ i₀ rows i = length rows₀ - i
 
 loop-again : tie.Need-loop-again Inv-loop μ-loop
 loop-again c = (rw length-set (c .before .before .loop .inv .0), search needs)
