@@ -1,30 +1,12 @@
 //! The segment's cases of document 01, through the public calls: its numbers to meet, its answers
 //! and their order, and what the scan gives; and the examples of document 02.
 
-use hekatosuy::{Refusal, Rid, SlottedPageSegment, SlottedPages, MAX_PAGES, MAX_RECORD_SIZE as MOST, PAGE_SIZE};
+mod lent;
 
-/// Pages and an inventory, all zero at first.
-struct Lent {
-    pages: Vec<u8>,
-    inventory: Vec<u8>,
-}
+use hekatosuy::{Refusal, Rid, SlottedPageSegment, SlottedPages, MAX_PAGES, MAX_RECORD_SIZE as MOST, PAGE_SIZE};
+use lent::{row, Lent};
 
 impl Lent {
-    fn new(pages: usize) -> Lent {
-        Lent { pages: vec![0; pages * PAGE_SIZE], inventory: vec![0; PAGE_SIZE] }
-    }
-
-    /// Empty pages into which records of these lengths were inserted.
-    fn with(pages: usize, lengths: &[usize]) -> Lent {
-        let mut lent = Lent::new(pages);
-        lengths.iter().for_each(|&length| assert!(lent.insert(length).is_ok()));
-        lent
-    }
-
-    fn calls(&mut self) -> SlottedPageSegment<'_> {
-        SlottedPageSegment::new(&mut self.pages, &mut self.inventory)
-    }
-
     fn insert(&mut self, length: usize) -> Result<Rid, Refusal> {
         self.calls().insert_record(&row(length, 1))
     }
@@ -35,16 +17,6 @@ impl Lent {
 
     fn erase(&mut self, tid: Rid) {
         assert_eq!(self.calls().erase_record(tid), Ok(()));
-    }
-
-    fn number(&self, page: usize, place: usize, bytes: usize) -> usize {
-        let start = page * PAGE_SIZE + place;
-        self.pages[start..start + bytes].iter().fold(0, |sum, &byte| sum << 8 | byte as usize)
-    }
-
-    /// Count, first free slot, data start, free space.
-    fn header(&self, page: usize) -> [usize; 4] {
-        [(0, 2), (2, 2), (4, 4), (8, 4)].map(|(place, bytes)| self.number(page, place, bytes))
     }
 
     fn slot(&self, page: usize, slot: usize) -> u64 {
@@ -75,10 +47,6 @@ impl Lent {
         assert_eq!(call(&mut self.calls()).map(|_| ()), Err(refusal));
         assert!(before == (self.pages.clone(), self.inventory.clone()), "a refused call changed a byte");
     }
-}
-
-fn row(length: usize, seed: usize) -> Vec<u8> {
-    (0..length).map(|k| (seed + 7 * k + k / 256) as u8).collect()
 }
 
 fn id(page: u64, slot: u16) -> Rid {

@@ -1,34 +1,21 @@
 //! Repair, of document 02's Ask 4, through the public calls: its worked examples with every byte, the sizes, the list, and
 //! what the entries say in words.
 
+mod lent;
 mod repair_examples;
 
 use hekatosuy::{At, Change, Refusal, RepairRefusal, Rid, SlottedPageSegment, Touched, MAX_PAGES, PAGE_SIZE};
+use lent::{row, Lent};
 use repair_examples::{Call, Example, EXAMPLES};
 
-/// Pages and an inventory.
-#[derive(Clone, PartialEq)]
-struct Lent {
-    pages: Vec<u8>,
-    inventory: Vec<u8>,
-}
-
 impl Lent {
-    fn new(pages: usize, inventory: usize) -> Lent {
-        Lent { pages: vec![0; pages], inventory: vec![0; inventory] }
-    }
-
-    fn calls(&mut self) -> SlottedPageSegment<'_> {
-        SlottedPageSegment::new(&mut self.pages, &mut self.inventory)
-    }
-
     /// What an example begins with.
     fn damaged(example: &Example) -> Lent {
-        let mut lent = Lent::new(example.pages * PAGE_SIZE, PAGE_SIZE);
+        let mut lent = Lent::new(example.pages);
         for call in example.calls {
             match *call {
-                Call::Insert(length) => lent.calls().insert_record(&row(length)).map(|_| ()),
-                Call::Write(page, slot, length) => lent.calls().write_record(Rid::new(page, slot), &row(length)),
+                Call::Insert(length) => lent.calls().insert_record(&row(length, 1)).map(|_| ()),
+                Call::Write(page, slot, length) => lent.calls().write_record(Rid::new(page, slot), &row(length, 1)),
             }
             .unwrap_or_else(|refusal| panic!("{}: {refusal}", example.title));
         }
@@ -37,17 +24,13 @@ impl Lent {
     }
 }
 
-fn row(length: usize) -> Vec<u8> {
-    (0..length).map(|k| (1 + 7 * k + k / 256) as u8).collect()
-}
-
 fn example(number: usize) -> Example {
     EXAMPLES[number - 1]
 }
 
 /// An entry that none of the repairs here writes, by which an untouched place of a list is known.
 fn leftover() -> Touched {
-    let mut lent = Lent::new(9 * PAGE_SIZE, PAGE_SIZE);
+    let mut lent = Lent::new(9);
     lent.pages[8 * PAGE_SIZE] = 0xFF;
     lent.calls().repair_all().unwrap()[0]
 }
@@ -100,16 +83,16 @@ fn a_list_as_long_as_it_must_be_and_shorter_ones() {
 #[test]
 fn answer_1_by_the_sizes() {
     for (pages, inventory) in [(16383, 16384), (16385, 16384), (1, 16384), (16384, 16383), (16384, 16385), (16384, 0)] {
-        let mut lent = Lent::new(pages, inventory);
+        let mut lent = Lent::of_bytes(pages, inventory);
         let mut list = vec![leftover(); 4];
         assert_eq!(lent.calls().repair(&mut []), Err(RepairRefusal::Size));
         assert_eq!(lent.calls().repair(&mut list), Err(RepairRefusal::Size));
         assert_eq!(lent.calls().repair_all(), Err(RepairRefusal::Size));
         assert!(!lent.calls().is_sound());
         assert_eq!(list, [leftover(); 4]);
-        assert!(lent == Lent::new(pages, inventory));
+        assert!(lent == Lent::of_bytes(pages, inventory));
     }
-    let mut empty = Lent::new(0, PAGE_SIZE);
+    let mut empty = Lent::new(0);
     assert!(empty.calls().is_sound());
     assert_eq!(empty.calls().repair_all().as_deref(), Ok(&[][..]));
 }
@@ -132,12 +115,12 @@ fn a_target_without_its_redirect_has_its_own_id() {
     let mut lent = Lent::damaged(&example(23));
     let calls = &mut lent.calls();
     calls.repair_all().unwrap();
-    assert_eq!(calls.get_record(Rid::new(2, 0)), Ok(&row(5000)[..]));
+    assert_eq!(calls.get_record(Rid::new(2, 0)), Ok(&row(5000, 1)[..]));
     assert_eq!(calls.get_record(Rid::new(1, 0)), Err(Refusal::None));
-    assert_eq!(calls.get_record(Rid::new(0, 0)), Ok(&row(16000)[..]));
+    assert_eq!(calls.get_record(Rid::new(0, 0)), Ok(&row(16000, 1)[..]));
     let ids: Vec<_> = calls.scan().map(|step| step.unwrap().0).collect();
     assert_eq!(ids, [Rid::new(0, 0), Rid::new(2, 0)]);
-    assert_eq!(calls.insert_record(&row(12000)), Ok(Rid::new(1, 0)));
+    assert_eq!(calls.insert_record(&row(12000, 1)), Ok(Rid::new(1, 0)));
 }
 
 #[test]

@@ -1,35 +1,16 @@
 //! Many rows in one call, of document 02's Ask 2, through the public calls: its worked examples with every byte, rows that
 //! go to many pages in turn, untrue inventories, and what a stop says in words.
 
+mod lent;
+
 use hekatosuy::{Refusal, Rid, SlottedPageSegment, Stopped, MAX_PAGES, PAGE_SIZE};
+use lent::{row, Lent};
 use std::collections::HashSet;
 
 /// What a place for an id holds before a call, and afterwards where it is not written.
 const KEPT: Rid = Rid::new(0x7777, 0x7777);
 
-/// Pages and an inventory.
-#[derive(Clone, PartialEq)]
-struct Lent {
-    pages: Vec<u8>,
-    inventory: Vec<u8>,
-}
-
 impl Lent {
-    fn new(pages: usize) -> Lent {
-        Lent { pages: vec![0; pages * PAGE_SIZE], inventory: vec![0; PAGE_SIZE] }
-    }
-
-    /// Empty pages into which records of these lengths were inserted.
-    fn with(pages: usize, lengths: &[usize]) -> Lent {
-        let mut lent = Lent::new(pages);
-        lengths.iter().for_each(|&length| assert!(lent.calls().insert_record(&vec![0xEE; length]).is_ok()));
-        lent
-    }
-
-    fn calls(&mut self) -> SlottedPageSegment<'_> {
-        SlottedPageSegment::new(&mut self.pages, &mut self.inventory)
-    }
-
     /// Stores rows by one call, and the same rows one at a time in a copy: answers, ids and every byte must be equal, and
     /// places behind the rows told must be kept. Gives what was told, and the places.
     fn store(&mut self, rows: &[u8], lengths: &[u64], places: usize) -> (Result<(), Stopped>, Vec<Rid>) {
@@ -69,12 +50,6 @@ impl Lent {
 
     fn page(&self, page: usize) -> &[u8] {
         &self.pages[page * PAGE_SIZE..][..PAGE_SIZE]
-    }
-
-    /// Count, first free slot, data start, free space.
-    fn header(&self, page: usize) -> [usize; 4] {
-        let number = |at: usize, bytes| self.page(page)[at..at + bytes].iter().fold(0, |sum, &byte| sum << 8 | byte as usize);
-        [number(0, 2), number(2, 2), number(4, 4), number(8, 4)]
     }
 }
 
@@ -200,7 +175,7 @@ fn example_13_a_page_compactified_between_the_rows() {
     assert_eq!(lent.header(0)[2..], [5036, 4992]);
     assert_eq!(lent.calls().get_record(id(0, 1)), Ok(&counted(10)[..]));
     assert_eq!(lent.calls().get_record(id(0, 3)), Ok(&counted(3348)[10..]));
-    assert_eq!(lent.calls().get_record(id(0, 2)), Ok(&[0xEE; 3000][..]));
+    assert_eq!(lent.calls().get_record(id(0, 2)), Ok(&row(3000, 1)[..]));
 }
 
 #[test]

@@ -11,17 +11,9 @@ use model::rows::insert_records;
 use model::{Model, Step};
 use store::{Answer, Call, Store, DONE, PAGE_SIZE};
 
-macro_rules! meetings {
-    ($($name:ident $text:literal)*) => {
-        /// What a list can meet.
-        #[derive(Clone, Copy, PartialEq, Eq, Debug)]
-        pub enum Met { $($name),* }
-        /// What each is called, in the order of [`Met`].
-        pub const MEETINGS: &[&str] = &[$($text),*];
-    };
-}
-
-meetings! {
+store::meetings! {
+    /// What a list can meet.
+    Met MEETINGS:
     Size "1: wrong sizes"
     SizeEmpty "1: an empty list without bytes"
     SizeList "1: before 10"

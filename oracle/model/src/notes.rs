@@ -1,15 +1,8 @@
 //! What a call passed on its way.
 
-macro_rules! steps {
-    ($($name:ident $text:literal)*) => {
-        #[derive(Clone, Copy, PartialEq, Eq, Debug)]
-        pub enum Step { $($name),* }
-        /// What each step is called, in the order of [`Step`].
-        pub const STEPS: &[&str] = &[$($text),*];
-    };
-}
-
-steps! {
+store::meetings! {
+    /// A step of document 01.
+    Step STEPS:
     Initialise "page: initialised"
     NewSlot "allocate: new slot"
     NewSlotNoRoom "allocate: no room for slot and record"

@@ -24,17 +24,9 @@ const ROOM: u64 = 11;
 /// Page, place and what was done.
 pub type Entry = [u64; 3];
 
-macro_rules! reasons {
-    ($($name:ident $text:literal)*) => {
-        /// Why a slot, a header's number or the inventory is changed, and what is met on the way and stays.
-        #[derive(Clone, Copy, PartialEq, Eq, Debug)]
-        pub enum Reason { $($name),* }
-        /// What each reason is called, in the order of [`Reason`].
-        pub const REASONS: &[&str] = &[$($text),*];
-    };
-}
-
-reasons! {
+store::meetings! {
+    /// Why a slot, a header's number or the inventory is changed, and what is met on the way and stays.
+    Reason REASONS:
     CountHigh "lost: count above 2,046"
     CountWiped "lost: count 0, and the header of no fresh page"
     Leaves "freed: record leaves the page"

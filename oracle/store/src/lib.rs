@@ -9,6 +9,18 @@ use std::sync::Once;
 
 pub const PAGE_SIZE: usize = 16384;
 
+/// An enum of things that runs can meet, and a list of what each is called, in the same order.
+#[macro_export]
+macro_rules! meetings {
+    ($(#[$meaning:meta])* $enum:ident $list:ident: $($name:ident $text:literal)*) => {
+        $(#[$meaning])*
+        #[derive(Clone, Copy, PartialEq, Eq, Debug)]
+        pub enum $enum { $($name),* }
+        #[doc = concat!("What each is called, in the order of [`", stringify!($enum), "`].")]
+        pub const $list: &[&str] = &[$($text),*];
+    };
+}
+
 /// How a call ended. The three last are no answers: only the published Rust ends so.
 #[derive(Clone, Copy, PartialEq, Eq, Debug)]
 pub enum Answer {
