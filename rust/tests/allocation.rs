@@ -1,0 +1,44 @@
+//! Many rows in one call take no memory: neither where all go in nor where the call stops.
+
+use hekatosuy::{Refusal, Rid, SlottedPageSegment, Stopped, PAGE_SIZE};
+use std::alloc::{GlobalAlloc, Layout, System};
+use std::cell::Cell;
+
+thread_local! {
+    static TAKEN: Cell<usize> = const { Cell::new(0) };
+}
+
+/// The system's memory, counted by the thread that takes it.
+struct Counted;
+
+unsafe impl GlobalAlloc for Counted {
+    unsafe fn alloc(&self, layout: Layout) -> *mut u8 {
+        TAKEN.with(|taken| taken.set(taken.get() + 1));
+        System.alloc(layout)
+    }
+
+    unsafe fn dealloc(&self, memory: *mut u8, layout: Layout) {
+        System.dealloc(memory, layout)
+    }
+}
+
+#[global_allocator]
+static COUNTED: Counted = Counted;
+
+/// How often a call takes memory.
+fn taken(call: impl FnOnce()) -> usize {
+    let before = TAKEN.with(Cell::get);
+    call();
+    TAKEN.with(Cell::get) - before
+}
+
+#[test]
+fn many_rows_take_no_memory() {
+    let (mut pages, mut inventory) = (vec![0; 2 * PAGE_SIZE], vec![0; PAGE_SIZE]);
+    let (rows, lengths, mut ids) = (vec![7; 300 * 64], [64; 300], [Rid::new(9, 9); 300]);
+    let mut segment = SlottedPageSegment::new(&mut pages, &mut inventory);
+    assert!(taken(|| drop(vec![0; 9])) > 0, "memory is not counted");
+    assert_eq!(taken(|| assert_eq!(segment.insert_records(&rows, &lengths, &mut ids), Ok(()))), 0);
+    let full = Err(Stopped { rows: 134, refusal: Refusal::Full });
+    assert_eq!(taken(|| assert_eq!(segment.insert_records(&rows, &lengths, &mut ids), full)), 0);
+}
