@@ -475,6 +475,21 @@ static void lost_pages(void) {
     end("repair: a target's page lost, and a root's");
 }
 
+/* "The back id names another slot", with two words too few: three places for four entries. */
+static void back_id_changed(void) {
+    begin_forwarded();
+    segment[2 * PAGE + 11383] = 1;
+    repair(10, HK_ROOM, 4);
+    repair(12, HK_DONE, 4);
+    told(0, 1, 0, HK_REDIRECT_FREED);
+    told(1, 1, HK_AT_HEADER, HK_HEADER_WORKED_OUT);
+    told(2, 2, 0, HK_MADE_ORDINARY);
+    told(3, 2, HK_AT_HEADER, HK_HEADER_WORKED_OUT);
+    header(1, 2, 0, 4284, 4356);
+    header(2, 1, 1, 11376, 11364);
+    end("repair: a back id changed, and two words too few");
+}
+
 static void repair_refused(void) {
     begin(2);
     insert(10, 1, HK_DONE, 0);
@@ -544,6 +559,7 @@ int main(void) {
     damaged_ahead();
     overlapped();
     lost_pages();
+    back_id_changed();
     repair_refused();
     widest();
     nothing_lent();
