@@ -6,7 +6,7 @@ use mathlib.Core.Bool.{true, false, cond}
 use mathlib.Core.List.{List, [], _∷_}
 use mathlib.Core.Logic.{_⊎_}
 use lib.ListN.{length}
-use Rattle.store.specs.Numbers.{cut}
+use Rattle.store.specs.Numbers.{cut, zeros}
 use Rattle.store.specs.Slots.{isRecord, isTarget}
 use Rattle.store.specs.Page.{View, view}
 use Rattle.store.specs.Segment.{pageOf}
@@ -41,6 +41,11 @@ pub data Tells : Slot → Slot → ℕ → Type 0 where
   freed-record : (x : Slot) → isRecord x ≡ true → Tells x Free 1
   freed-redirect : (t : ℕ) → Tells (Redirect t) Free 2
   made-ordinary : (o l : ℕ) → Tells (Target o l) (Ordinary (o + 8) (l - 8)) 3
+
+-- "header worked out, header zeroed": of a page's bytes before and after, 4 where the count stays, 5 where the 12 bytes of a lost page are zero
+pub data TellsHeader (p q : List ℕ) : ℕ → Type 0 where
+  worked-out : lost (view p) ≡ false → view q .slotCount ≡ view p .slotCount → TellsHeader p q 4
+  zeroed : lost (view p) ≡ true → cut q 0 12 ≡ zeros 12 → TellsHeader p q 5
 
 -- ---- what is looked at
 

@@ -20,10 +20,11 @@ use Rattle.store.specs.Repair.{standing, lost, keeps, holds, named, deed
 use Rattle.store.specs.Repair.{pageAfter, sameHead, putSlots, putMended, pageBytes, sameBytes, sameInv, trueOf, invAfter, Entry, entry}
 use Rattle.store.specs.Repair.{deedNo, slotEntries, headEntries, pageEntries, segEntries, invEntries, entries}
 use Rattle.store.specs.RepairTold.{directory, In, Before, Ascending, Tells, freed-record, freed-redirect, made-ordinary}
+use Rattle.store.specs.RepairTold.{TellsHeader, worked-out, zeroed}
 use Rattle.store.specs.declared.Deed.{Deed}
 use Rattle.store.specs.declared.Deed.the-variants.{Stays, RecordFreed, RedirectFreed, MadeOrdinary}
 use Rattle.store.specs.Laws.Cases.{by-test}
-use Rattle.store.specs.Laws.Numbers.{cut-take}
+use Rattle.store.specs.Laws.Numbers.{cut-take, cut-same}
 use Rattle.store.specs.Laws.SoundPage.{and-in, all-in, fresh-none}
 use Rattle.store.specs.Laws.RepairPage.{used}
 use Rattle.store.specs.Laws.RepairBytes.{slots-frame, page-past-directory, page-slot-same, page-seen, repairedSeg, repaired-page, repaired-view}
@@ -439,8 +440,24 @@ module _ (s : List ℕ) (whole : length s % 16384 ≡ 0) (v : List ℕ) where
 
   pub record HeadTold (p d : ℕ) : Type 0 where
     pub below : p < length s / 16384
-    pub what : d ≡ cond (lost (us .page p)) 5 4
     pub changes : HeadChanges p
+    pub tells : TellsHeader (pageOf s p) (pageOf (repairedSeg s whole) p) d
+
+  now-lost : (r : ℕ) (b : Bool) → lost (us .page r) ≡ b → lost (view (pageOf s r)) ≡ b
+  now-lost r b a = ap lost (sym (standing-page s r)) ∙ a
+
+  count-stays : (r : ℕ) → r < length s / 16384 → lost (us .page r) ≡ false → fresh (us .page r) ≡ false
+      → view (pageOf (repairedSeg s whole) r) .slotCount ≡ view (pageOf s r) .slotCount
+  count-stays r l a f =
+      ap (λ (w : View). w .slotCount) (repaired-view s whole r l ∙ after-is us r a f) ∙ mended-count us r ∙ ap (λ (w : View). w .slotCount) (standing-page s r)
+
+  header-zero : (r : ℕ) → r < length s / 16384 → lost (us .page r) ≡ true → cut (pageOf (repairedSeg s whole) r) 0 12 ≡ zeros 12
+  unfolding pageBytes
+  header-zero r l a =
+      let q : List ℕ = pageOf s r in
+      let e : pageOf (repairedSeg s whole) r ≡ put q 0 (zeros 12) =
+      repaired-page s whole r l ∙ ap (λ (b : Bool). cond b (put q 0 (zeros 12)) (cond (fresh (us .page r)) q (putMended (deed us r) (us .page r) q))) a in
+      ap (λ (x : List ℕ). cut x 0 12) e ∙ cut-same q 0 (zeros 12) 12 refl (omega (arith, long r l))
 
   pub head-only : (p d : ℕ) → In (entry p 65535 d) (entries us v) → HeadTold p d
   head-only p d h = go (entry-of us v (entry p 65535 d) h)
@@ -449,12 +466,20 @@ module _ (s : List ℕ) (whole : length s % 16384 ≡ 0) (v : List ℕ) where
           → HeadTold r d
       head r l a f q ed =
           let l′ : r < length s / 16384 = omega (arith, standing-pages s) in
-          record { below = l′; what = rw a ed; changes = head-changes r l′ (head-bytes-differ us r (pageOf s r) (sym (standing-page s r)) (long r l′) a f q) }
+          record {
+            below = l′;
+            changes = head-changes r l′ (head-bytes-differ us r (pageOf s r) (sym (standing-page s r)) (long r l′) a f q);
+            tells = subst (TellsHeader (pageOf s r) (pageOf (repairedSeg s whole) r)) (sym ed) (worked-out (now-lost r false a) (count-stays r l′ a f));
+          }
 
       gone : (r : ℕ) → r < us .pages → lost (us .page r) ≡ true → d ≡ 5 → HeadTold r d
       gone r l a ed =
           let l′ : r < length s / 16384 = omega (arith, standing-pages s) in
-          record { below = l′; what = rw a ed; changes = head-changes r l′ (lost-bytes-differ us r (pageOf s r) (sym (standing-page s r)) (long r l′) a) }
+          record {
+            below = l′;
+            changes = head-changes r l′ (lost-bytes-differ us r (pageOf s r) (sym (standing-page s r)) (long r l′) a);
+            tells = subst (TellsHeader (pageOf s r) (pageOf (repairedSeg s whole) r)) (sym ed) (zeroed (now-lost r true a) (header-zero r l′ a));
+          }
 
       by : (r : ℕ) → r < us .pages → PageEntry us r (entry p 65535 d) → HeadTold p d
       by r l (of-slot a f w) = absurd (omega (arith, ap (λ (x : Entry). x .place) (w .is), w .below, used (us .page r) a f))

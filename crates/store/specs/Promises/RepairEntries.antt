@@ -11,7 +11,7 @@ use Rattle.store.specs.Numbers.{cut}
 use Rattle.store.specs.Page.{view}
 use Rattle.store.specs.Segment.{pageOf, sizeOk, invOk}
 use Rattle.store.specs.Repair.{standing, lost, deed, deedNo, Entry, entry, entries, Repaired, repairStep}
-use Rattle.store.specs.RepairTold.{In, Ascending, Tells}
+use Rattle.store.specs.RepairTold.{In, Ascending, Tells, TellsHeader}
 use Rattle.store.specs.Laws.SoundPage.{and-both}
 use Rattle.store.specs.Laws.SoundSegment.{sized}
 use Rattle.store.specs.Laws.RepairCall.{Outcome, of-size, of-room, of-done, outcome}
@@ -37,11 +37,11 @@ pub record OfSlot (s : List ℕ) (r : Repaired) (p k d : ℕ) : Type 0 where
   pub differs : SlotDiffers s r p k
   pub tells : Tells (view (pageOf s p) .at k) (view (pageOf (r .seg) p) .at k) d
 
--- "header worked out, header zeroed": 5 for a lost page, else 4
+-- "header worked out, header zeroed"
 pub record OfHeader (s : List ℕ) (r : Repaired) (p d : ℕ) : Type 0 where
   pub below : p < length s / 16384
   pub differs : HeaderDiffers s r p
-  pub tells : d ≡ cond (lost (view (pageOf s p))) 5 4
+  pub tells : TellsHeader (pageOf s p) (pageOf (r .seg) p) d
 
 pub record Told (s v : List ℕ) (r : Repaired) : Type 0 where
   -- "(p, k) has an entry exactly if the 8 bytes of slot k of page p change"
@@ -70,7 +70,7 @@ told-by s v l r (of-done e f) q =
           let t = slot-only s w v p k d m h in
           record { below = t .below; counted = t .counted; differs = t .changes; tells = t .tells };
       header-has = λ p a n. record { what = cond (lost (view (pageOf s p))) 5 4; is = head-told s w v p a n };
-      header-of = λ p d h. let t = head-only s w v p d h in record { below = t .below; differs = t .changes; tells = t .what };
+      header-of = λ p d h. let t = head-only s w v p d h in record { below = t .below; differs = t .changes; tells = t .tells };
       inventory-has = λ n. record { what = 6; is = inv-told s w v n };
       inventory-of = λ p d h. inv-only s w v p d h;
       places = λ e h. place-most (standing s) v e h;
