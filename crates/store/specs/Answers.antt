@@ -2,7 +2,7 @@
 -- The promises use these.
 use Prim.Native.Nat.{ℕ, _<_}
 use mathlib.Core.Bool.{true, false}
-use mathlib.Core.List.{List, []}
+use mathlib.Core.List.{List, [], _∷_}
 use Rattle.store.specs.Numbers.{cut}
 use Rattle.store.specs.Segment.{Result, Part, noPart, Located}
 use Rattle.store.specs.Scan.{Scanned, overPage}
@@ -10,7 +10,8 @@ use Rattle.store.specs.Slots.{off}
 use Rattle.store.specs.PageSteps.{Alloc, noRoom, got}
 use Rattle.store.specs.ManyRows.{Rows}
 use Rattle.store.specs.Repair.{Repaired}
-use Rattle.store.specs.Refusals.{DONE, SIZE, NOPAGE, LONG, DAMAGED, NONE, FORWARDED, FULL, STALE, LIST, ROOM}
+use Rattle.store.specs.Report.{Report}
+use Rattle.store.specs.Refusals.{DONE, SIZE, NOPAGE, LONG, DAMAGED, NONE, FORWARDED, FULL, STALE, TALLY, LIST, ROOM}
 use Rattle.store.specs.declared.Place.{Place}
 use Rattle.store.specs.declared.Place.the-variants as place
 use Rattle.store.specs.declared.Named.{Named}
@@ -25,6 +26,9 @@ use Rattle.store.specs.declared.Step.{Step}
 use Rattle.store.specs.declared.Step.the-variants as scan
 use Rattle.store.specs.declared.Repair.{Repair}
 use Rattle.store.specs.declared.Repair.the-variants as repair
+use Rattle.store.specs.declared.Tally.{Tally}
+use Rattle.store.specs.declared.Reported.{Reported}
+use Rattle.store.specs.declared.Reported.the-variants as fill
 
 -- ---- the calls that write
 
@@ -122,6 +126,22 @@ repairCount (repair.Room n) = n
 -- what it answered and left: segment, inventory and list
 abbrev pub repaired : Repair → List ℕ → List ℕ → List ℕ → Repaired
 repaired r s v l = record { answer = repairNo r; count = repairCount r; seg = s; inv = v; list = l }
+
+-- ---- a fill report: its number, and the 23 numbers of the tally in their order
+
+abbrev pub reportedNo : Reported → ℕ
+reportedNo fill.Done = DONE
+reportedNo fill.Size = SIZE
+reportedNo fill.Damaged = DAMAGED
+reportedNo fill.Tally = TALLY
+
+abbrev pub numbers : Tally → List ℕ
+numbers t =
+    t .pages ∷ t .«fresh_pages» ∷ t .slots ∷ t .records ∷ t .«record_bytes» ∷ t .forwarded ∷ t .«free_bytes» ∷ t .classes
+
+-- what it answered, and the tally that it left
+abbrev pub reported : Reported → Tally → Report
+reported r t = record { answer = reportedNo r; tally = numbers t }
 
 -- ---- inside a call: allocate on a page, the inventory (an id's own page: Segment.byRoot)
 

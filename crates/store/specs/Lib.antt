@@ -8,7 +8,9 @@ pub mod Segment
 pub mod Calls
 pub mod ManyRows
 pub mod Scan
+pub mod Records
 pub mod SoundSegment
+pub mod Report
 pub mod ManyRowsTold
 pub mod Repair
 pub mod RepairTold

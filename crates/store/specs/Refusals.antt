@@ -39,6 +39,10 @@ FULL = 7
 abbrev pub STALE : ℕ
 STALE = 8
 
+-- Document 02, Ask 1: "when a figure would pass 2^64 − 1"
+abbrev pub TALLY : ℕ
+TALLY = 9
+
 -- Document 02, Ask 2: "when the lengths don't sum to the bytes or the id places are fewer than the rows"
 abbrev pub LIST : ℕ
 LIST = 10

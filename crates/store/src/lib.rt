@@ -113,3 +113,24 @@ pub enum Inserted {
     List,
     Stopped { rows: usize, answer: Answer },
 }
+
+// "One running tally": figures over any number of segments, in the order that C has them (include/hekatosuy.h).
+#[repr(C)]
+pub struct Tally {
+    pub pages: u64,
+    pub fresh_pages: u64,
+    pub slots: u64,
+    pub records: u64,
+    pub record_bytes: u64,
+    pub forwarded: u64,
+    pub free_bytes: u64,
+    pub classes: [u64; 16],
+}
+
+// What a fill report answers.
+pub enum Reported {
+    Done,
+    Size,
+    Damaged,
+    Tally,
+}
