@@ -1,0 +1,63 @@
+-- The slots of a page counted: parts of sums are small, and one slot more.
+use Prim.Native.Nat.{ℕ, zero, suc, _+_, _-_, _≤_, _<_}
+use mathlib.Core.Path.{_≡_, refl}
+use mathlib.Core.Bool.{Bool, true, false, cond}
+use native.Mathlib.Numerals.{add-one}
+use native.Mathlib.Omega.{arith}
+use native.Mathlib.Nat.{not-suc-le-zero}
+use native.Mathlib.Decide.{ℕ-discrete}
+use Rattle.store.specs.Numbers.{sum}
+use Rattle.store.specs.Slots.{len, isRecord, isTarget}
+use Rattle.store.specs.Page.{View}
+use Rattle.store.specs.Report.{one, bytesIn}
+use Rattle.store.specs.Laws.Views.{Sound}
+use Rattle.store.specs.declared.Slot.{Slot}
+use Rattle.fill_report.specs.Words.{Room, WithSlot, SlotsTo}
+use Rattle.fill_report.specs.declared.page.Counts.{Counts}
+
+-- ---- sums
+
+-- fewer summands, and none larger
+sum-within : (m n : ℕ) (f g : ℕ → ℕ) → n ≤ m → ((j : ℕ) → f j ≤ g j) → sum n f ≤ sum m g
+sum-within zero zero f g h le = omega arith
+sum-within zero (suc n) f g h le = absurd (not-suc-le-zero h)
+sum-within (suc m) n f g h le = go (λ k l. sum-within m k f g l le) (ℕ-discrete n (suc m))
+  where
+    go : ((k : ℕ) → k ≤ m → sum k f ≤ sum m g) → Dec (n ≡ suc m) → sum n f ≤ sum (suc m) g
+    go ih (yes e) = rw e (omega (arith, le m, ih m (omega arith)))
+    go ih (no e) = omega (arith, ih n (omega arith))
+
+sum-ones : (n : ℕ) (b : ℕ → Bool) → sum n (λ k. one (b k)) ≤ n
+sum-ones zero b = omega arith
+sum-ones (suc n) b = go (sum-ones n b) (b n)
+  where
+    go : sum n (λ k. one (b k)) ≤ n → (t : Bool) → one t + sum n (λ k. one (b k)) ≤ suc n
+    go ih true = omega arith
+    go ih false = omega arith
+
+-- ---- the slots of a sound page
+
+bytes-in : (v : View) (k : ℕ) → bytesIn v k ≤ len (v .at k)
+bytes-in v k = go (isTarget (v .at k))
+  where
+    go : (b : Bool) → cond b (len (v .at k) - 8) (len (v .at k)) ≤ len (v .at k)
+    go true = omega arith
+    go false = omega arith
+
+module _ (v : View) (k : ℕ) {c : Counts} {s : Slot} (so-far : SlotsTo v k c) (is : s ≡ v .at k) where
+  pub room : Sound v → k < v .slotCount → Room c s
+  room sound h =
+      let a : c .bytes ≤ sum k (λ j. len (v .at j)) = omega (arith, sum-within k k (bytesIn v) (λ j. len (v .at j)) (omega arith) (bytes-in v)) in
+      let b = sum-within (v .slotCount) (suc k) (λ j. len (v .at j)) (λ j. len (v .at j)) h (λ j. omega arith) in
+      record {
+        records = omega (arith, sum-ones k (λ j. isRecord (v .at j)), sound .few);
+        forwarded = omega (arith, sum-ones k (λ j. isTarget (v .at j)), sound .few);
+        bytes = rw is (omega (arith, sound .sums));
+        target = rw is (sound .targets k);
+      }
+
+  pub with-next : {r : Counts} → WithSlot c s r → SlotsTo v (k + 1) r
+  with-next w = let w′ = rw is at w in rw add-one (record { records = omega arith; bytes = omega arith; forwarded = omega arith })
+
+pub none-yet : (v : View) → SlotsTo v 0 (record { records = 0; bytes = 0; forwarded = 0 })
+none-yet v = record { records = refl; bytes = refl; forwarded = refl }
