@@ -8,11 +8,14 @@ use native.Mathlib.Nat.{not-suc-le-zero}
 use native.Mathlib.Decide.{ℕ-discrete}
 use Rattle.store.specs.Numbers.{sum}
 use Rattle.store.specs.Slots.{len, isRecord, isTarget}
-use Rattle.store.specs.Page.{View}
+use Rattle.store.specs.Page.{View, fresh}
+use Rattle.store.specs.PageSteps.{opened}
+use Rattle.store.specs.Inventory.{classOf}
 use Rattle.store.specs.Report.{one, bytesIn}
+use Rattle.store.specs.Laws.Classes.{class-top}
 use Rattle.store.specs.Laws.Views.{Sound}
 use Rattle.store.specs.declared.Slot.{Slot}
-use Rattle.fill_report.specs.Words.{Room, WithSlot, SlotsTo}
+use Rattle.fill_report.specs.Words.{Room, WithSlot, SlotsTo, Fills}
 use Rattle.fill_report.specs.declared.page.Counts.{Counts}
 
 -- ---- sums
@@ -47,7 +50,7 @@ bytes-in v k = go (isTarget (v .at k))
 module _ (v : View) (k : ℕ) {c : Counts} {s : Slot} (so-far : SlotsTo v k c) (is : s ≡ v .at k) where
   pub room : Sound v → k < v .slotCount → Room c s
   room sound h =
-      let a : c .bytes ≤ sum k (λ j. len (v .at j)) = omega (arith, sum-within k k (bytesIn v) (λ j. len (v .at j)) (omega arith) (bytes-in v)) in
+      let a = sum-within k k (bytesIn v) (λ j. len (v .at j)) (omega arith) (bytes-in v) in
       let b = sum-within (v .slotCount) (suc k) (λ j. len (v .at j)) (λ j. len (v .at j)) h (λ j. omega arith) in
       record {
         records = omega (arith, sum-ones k (λ j. isRecord (v .at j)), sound .few);
@@ -61,3 +64,52 @@ module _ (v : View) (k : ℕ) {c : Counts} {s : Slot} (so-far : SlotsTo v k c) (
 
 pub none-yet : (v : View) → SlotsTo v 0 (record { records = 0; bytes = 0; forwarded = 0 })
 none-yet v = record { records = refl; bytes = refl; forwarded = refl }
+
+-- ---- a page: fresh, or in use
+
+pub fills-fresh : (v : View) → fresh v ≡ true
+    → Fills (opened v) (record { fresh = 1; slots = 0; records = 0; bytes = 0; forwarded = 0; free = 0; class = 0 })
+fills-fresh v f = rw f (record {
+  fresh = refl;
+  slots = refl;
+  records = refl;
+  bytes = refl;
+  forwarded = refl;
+  free = refl;
+  class = refl;
+  small = record {
+    fresh = omega arith;
+    slots = omega arith;
+    records = omega arith;
+    bytes = omega arith;
+    forwarded = omega arith;
+    free = omega arith;
+    class = omega arith;
+  };
+})
+
+module _ (v : View) (f : fresh v ≡ false) (sound : Sound v) {n free class : ℕ} {c : Counts} (count : n ≡ v .slotCount) (slots : SlotsTo v n c)
+    (space : free ≡ v .freeSpace) (of : class ≡ classOf (16372 - free)) where
+  pub fills-used : Fills (opened v)
+      (record { fresh = 0; slots = n; records = c .records; bytes = c .bytes; forwarded = c .forwarded; free = free; class = class })
+  fills-used =
+      let all = rw count at slots in
+      let b = sum-within (v .slotCount) (v .slotCount) (bytesIn v) (λ j. len (v .at j)) (omega arith) (bytes-in v) in
+      rw f (record {
+        fresh = rw f refl;
+        slots = count;
+        records = all .records;
+        bytes = all .bytes;
+        forwarded = all .forwarded;
+        free = rw f space;
+        class = rw (f, ← space) of;
+        small = record {
+          fresh = omega arith;
+          slots = omega (arith, sound .few);
+          records = omega (arith, sum-ones (v .slotCount) (λ j. isRecord (v .at j)), sound .few);
+          bytes = omega (arith, sound .sums);
+          forwarded = omega (arith, sum-ones (v .slotCount) (λ j. isTarget (v .at j)), sound .few);
+          free = omega (arith, sound .sums);
+          class = omega (arith, class-top (16372 - free));
+        };
+      })
