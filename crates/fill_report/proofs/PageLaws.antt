@@ -6,6 +6,7 @@ use native.Mathlib.Numerals.{add-one}
 use native.Mathlib.Omega.{arith}
 use native.Mathlib.Nat.{not-suc-le-zero}
 use native.Mathlib.Decide.{ℕ-discrete}
+use borrow.Author.Needs.{needs}
 use Rattle.store.specs.Numbers.{sum}
 use Rattle.store.specs.Slots.{len, isRecord, isTarget}
 use Rattle.store.specs.Page.{View, fresh}
@@ -47,46 +48,31 @@ bytes-in v k = go (isTarget (v .at k))
     go true = omega arith
     go false = omega arith
 
-module _ (v : View) (k : ℕ) {c : Counts} {s : Slot} (so-far : SlotsTo v k c) (is : s ≡ v .at k) where
-  pub room : Sound v → k < v .slotCount → Room c s
-  room sound h =
-      let a = sum-within k k (bytesIn v) (λ j. len (v .at j)) (omega arith) (bytes-in v) in
-      let b = sum-within (v .slotCount) (suc k) (λ j. len (v .at j)) (λ j. len (v .at j)) h (λ j. omega arith) in
-      record {
-        records = omega (arith, sum-ones k (λ j. isRecord (v .at j)), sound .few);
-        forwarded = omega (arith, sum-ones k (λ j. isTarget (v .at j)), sound .few);
-        bytes = rw is (omega (arith, sound .sums));
-        target = rw is (sound .targets k);
-      }
+-- the numbers are small
+module _ (v : View) (k : ℕ) {c : Counts} (so-far : SlotsTo v k c) where
+  few : (c .records ≤ k) × (c .bytes ≤ sum k (λ j. len (v .at j))) × (c .forwarded ≤ k)
+  few =
+      let records = sum-ones k (λ j. isRecord (v .at j)) in
+      let bytes = sum-within k k (bytesIn v) (λ j. len (v .at j)) (omega arith) (bytes-in v) in
+      let targets = sum-ones k (λ j. isTarget (v .at j)) in
+      (omega arith, omega arith, omega arith)
 
-  pub with-next : {r : Counts} → WithSlot c s r → SlotsTo v (k + 1) r
-  with-next w = let w′ = rw is at w in rw add-one (record { records = omega arith; bytes = omega arith; forwarded = omega arith })
+  -- and one slot more
+  module _ {s : Slot} (is : s ≡ v .at k) where
+    pub room : Sound v → k < v .slotCount → Room c s
+    room sound h =
+        let small = few in
+        let part = sum-within (v .slotCount) (suc k) (λ j. len (v .at j)) (λ j. len (v .at j)) h (λ j. omega arith) in
+        rw is (record { records = omega arith; forwarded = omega arith; bytes = omega arith; target = sound .targets k })
 
-pub none-yet : (v : View) → SlotsTo v 0 (record { records = 0; bytes = 0; forwarded = 0 })
-none-yet v = record { records = refl; bytes = refl; forwarded = refl }
+    pub with-next : {r : Counts} → WithSlot c s r → SlotsTo v (k + 1) r
+    with-next w = let next = rw is at w in rw add-one (search needs)
 
 -- ---- a page: fresh, or in use
 
 pub fills-fresh : (v : View) → fresh v ≡ true
     → Fills (opened v) (record { fresh = 1; slots = 0; records = 0; bytes = 0; forwarded = 0; free = 0; class = 0 })
-fills-fresh v f = rw f (record {
-  fresh = refl;
-  slots = refl;
-  records = refl;
-  bytes = refl;
-  forwarded = refl;
-  free = refl;
-  class = refl;
-  small = record {
-    fresh = omega arith;
-    slots = omega arith;
-    records = omega arith;
-    bytes = omega arith;
-    forwarded = omega arith;
-    free = omega arith;
-    class = omega arith;
-  };
-})
+fills-fresh v f = rw f (search needs)
 
 module _ (v : View) (f : fresh v ≡ false) (sound : Sound v) {n free class : ℕ} {c : Counts} (count : n ≡ v .slotCount) (slots : SlotsTo v n c)
     (space : free ≡ v .freeSpace) (of : class ≡ classOf (16372 - free)) where
@@ -94,7 +80,8 @@ module _ (v : View) (f : fresh v ≡ false) (sound : Sound v) {n free class : �
       (record { fresh = 0; slots = n; records = c .records; bytes = c .bytes; forwarded = c .forwarded; free = free; class = class })
   fills-used =
       let all = rw count at slots in
-      let b = sum-within (v .slotCount) (v .slotCount) (bytesIn v) (λ j. len (v .at j)) (omega arith) (bytes-in v) in
+      let small = few v (v .slotCount) all in
+      let top = class-top (16372 - free) in
       rw f (record {
         fresh = rw f refl;
         slots = count;
@@ -103,13 +90,5 @@ module _ (v : View) (f : fresh v ≡ false) (sound : Sound v) {n free class : �
         forwarded = all .forwarded;
         free = rw f space;
         class = rw (f, ← space) of;
-        small = record {
-          fresh = omega arith;
-          slots = omega (arith, sound .few);
-          records = omega (arith, sum-ones (v .slotCount) (λ j. isRecord (v .at j)), sound .few);
-          bytes = omega (arith, sound .sums);
-          forwarded = omega (arith, sum-ones (v .slotCount) (λ j. isTarget (v .at j)), sound .few);
-          free = omega (arith, sound .sums);
-          class = omega (arith, class-top (16372 - free));
-        };
+        small = search needs;
       })

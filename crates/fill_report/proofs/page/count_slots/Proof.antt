@@ -5,7 +5,7 @@ use native.Mathlib.Omega.{arith}
 use borrow.Author.Needs.{needs}
 use Rattle.store.specs.Page.{view}
 use Rattle.fill_report.specs.Words.{SlotsTo}
-use Rattle.fill_report.proofs.PageLaws.{none-yet, room, with-next}
+use Rattle.fill_report.proofs.PageLaws.{room, with-next}
 use Rattle.fill_report.proofs.page.count_slots.Statement.{statement}
 use Rattle.fill_report.proofs.page.count_slots.Tie as tie
 
@@ -14,9 +14,6 @@ Inv-loop page n c₀ k₀ c k = (k ≤ n) × SlotsTo (view page) k c
 
 abbrev μ-loop : tie.MeasureT-loop
 μ-loop page n c₀ k₀ c k = n - k
-
-loop-holds : tie.Need-loop-holds Inv-loop μ-loop
-loop-holds c = (omega arith, none-yet _)
 
 abbrev start : tie.At-loop Inv-loop μ-loop → tie.Start Inv-loop μ-loop
 start c = c .before .before
@@ -37,4 +34,5 @@ returns c =
 
 pub count-slots-spec : {M : Type 1} → statement M
 count-slots-spec =
-    tie.close (tie.spec Inv-loop μ-loop loop-holds (λ c κs. search needs) with-slot-requires (λ c. search needs) (λ c. search needs) loop-again returns)
+    tie.close (tie.spec Inv-loop μ-loop (λ c. search needs) (λ c κs. search needs) with-slot-requires (λ c. search needs) (λ c. search needs)
+    loop-again returns)
