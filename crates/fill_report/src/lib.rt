@@ -10,7 +10,7 @@ use store::Tally;
 ghost use mathlib.Core.Path.{_≡_};
 ghost use mathlib.Core.Bool.{true};
 ghost use Rattle.store.specs.Segment.{segView, sizeOk};
-ghost use Rattle.store.specs.Report.{figures, allSound, reportStep};
+ghost use Rattle.store.specs.Report.{reportStep};
 ghost use Rattle.store.specs.Answers.{numbers, reported};
 ghost use Rattle.fill_report.specs.Words.{Filled};
 
