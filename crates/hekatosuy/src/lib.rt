@@ -1,13 +1,17 @@
-// The store for C: the calls of a segment, the scan and repair, with the documents' numbers for answers. include/hekatosuy.h declares them.
+// The store for C: the calls of a segment, the scan, repair and the fill report, with the documents' numbers for answers.
+// include/hekatosuy.h declares them.
 //
-// A slice is a pointer and a length. What a call hands back beside its number it writes through a pointer to one u64.
+// A slice is a pointer and a length. What a call hands back beside its number it writes through a pointer to one u64; the fill
+// report, through a pointer to a tally.
 use segment_scan::OVER_PAGE;
 use store::Answer;
 use store::IDS_A_PAGE;
 use store::Inserted;
 use store::Reading;
 use store::Repair;
+use store::Reported;
 use store::Step;
+use store::Tally;
 ghost use mathlib.Core.Path.{_≡_};
 ghost use mathlib.Core.Bool.{cond};
 ghost use mathlib.Core.List.{List};
@@ -18,7 +22,8 @@ ghost use Rattle.store.specs.Segment.{insertStep, allocateStep, writeStep, resi
 ghost use Rattle.store.specs.Scan.{without, scanStep};
 ghost use Rattle.store.specs.ManyRows.{insertRowsStep};
 ghost use Rattle.store.specs.Repair.{repairStep};
-ghost use Rattle.store.specs.Answers.{answerNo, answerId, insertedNo, insertedRows, readingPart, scannedOf, repairNo, repairCount};
+ghost use Rattle.store.specs.Report.{reportStep};
+ghost use Rattle.store.specs.Answers.{answerNo, answerId, insertedNo, insertedRows, readingPart, scannedOf, repairNo, repairCount, reportedNo, numbers};
 ghost use Rattle.hekatosuy.specs.Handed.{withId, withoutId, stepped, Positioned};
 
 // "Answers by number".
@@ -355,4 +360,46 @@ pub extern "C" fn hk_repair(
     let r = segment_repair::repair(segment, inventory, entries);
     *count = repair_count(r);
     repair_no(r)
+}
+
+// "Refusals: 1 and 4 as in 01, then 9 TALLY".
+fn reported_no(r: Reported) -> u64
+    ensures { λ n. ⌜ n ≡ reportedNo r ⌝ }
+{
+    match r {
+        Reported::Done => 0,
+        Reported::Size => 1,
+        Reported::Damaged => 4,
+        Reported::Tally => 9,
+    }
+}
+
+// What a report hands to C.
+pub struct Tallied {
+    pub answer: u64,
+    pub tally: Tally,
+}
+
+// The report by value, with the number for its answer.
+fn report_numbers(segment: &[u8], tally: Tally) -> Tallied
+    ensures { λ r. ⌜ record { answer = r .answer; tally = numbers (r .tally) } ≡ reportStep (now (segment .entry)) (numbers tally) ⌝ }
+{
+    let r = fill_report::report_by_value(segment, tally);
+    let a = r.answer;
+    let after = r.tally;
+    let answer = reported_no(a);
+    Tallied {
+        answer,
+        tally: after,
+    }
+}
+
+// The figures of a segment, added to `tally` where it stands; one that is refused adds nothing.
+#[no_mangle]
+pub extern "C" fn hk_fill_report(segment: &[u8], tally: &mut Tally) -> u64
+    ensures { λ r. ⌜ record { answer = r; tally = numbers (now (tally .exit)) } ≡ reportStep (now (segment .entry)) (numbers (now (tally .entry))) ⌝ }
+{
+    let r = report_numbers(segment, *tally);
+    *tally = r.tally;
+    r.answer
 }
