@@ -11,6 +11,7 @@ pub mod Scan
 pub mod Records
 pub mod SoundSegment
 pub mod Report
+pub mod ReportTold
 pub mod ManyRowsTold
 pub mod Repair
 pub mod RepairTold
