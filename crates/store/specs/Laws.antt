@@ -29,6 +29,7 @@ pub mod Unused
 pub mod Alike
 pub mod Headers
 pub mod Scan
+pub mod ScanAll
 pub mod Rows
 pub mod Grown
 pub mod Blank

@@ -45,21 +45,26 @@ sized s e =
     let b = and-both (eqb (length s % 16384) 0) (leb (length s / 16384) 32527) e in
     record { whole = eqb-true (length s % 16384) 0 (b .0); few = leb-true (length s / 16384) 32527 (b .1) }
 
-pub seen-sound : (s v : List ℕ) → SoundSegment s v → Seen (segView s) v
+-- every page that is seen is sound, those past the end too
+pub pages-sound : (s : List ℕ) → sizeOk s ≡ true → ((p : ℕ) → p < length s / 16384 → sound (view (pageOf s p)) ≡ true)
+    → (p : ℕ) → Sound (segView s .page p)
 unfolding segView view
+pages-sound s e h p = each (sized s e) (decLt p (length s / 16384))
+  where
+    each : Sized s → Dec (p < length s / 16384) → Sound (opened (view (pageOf s p)))
+    each z (yes l) = sound-opened (pageOf s p) (length-page s p (omega arith)) (h p l)
+    each z (no l) = subst (λ (q : List ℕ). Sound (opened (view q))) (sym (page-past s p (omega arith) (z .whole))) sound-init
+
+pub seen-sound : (s v : List ℕ) → SoundSegment s v → Seen (segView s) v
+unfolding segView
 seen-sound s v h =
-    let z = sized s (h .whole) in
     record {
-      sounds = λ p. each p z (decLt p (length s / 16384));
-      few = z .few;
+      sounds = pages-sound s (h .whole) (h .pages);
+      few = sized s (h .whole) .few;
       one = eqb-true (length v) 16384 (h .page);
       pairs = paired-pairs (segView s) (h .pairs);
       truth = h .inventory;
     }
-  where
-    each : (p : ℕ) → Sized s → Dec (p < length s / 16384) → Sound (opened (view (pageOf s p)))
-    each p z (yes l) = sound-opened (pageOf s p) (length-page s p (omega arith)) (h .pages p l)
-    each p z (no l) = subst (λ (q : List ℕ). Sound (opened (view q))) (sym (page-past s p (omega arith) (z .whole))) sound-init
 
 pub open-sound : (v : View) → sound (opened v) ≡ sound v
 unfolding sound

@@ -2,14 +2,15 @@
 -- with the same data give equal answers, ids, refusals, record bytes and scans, and leave the two alike in the same words.
 use Prim.Native.Nat.{ℕ, _/_, _%_}
 use mathlib.Core.Path.{_≡_, sym, ap, _∙_, subst}
-use mathlib.Core.Bool.{cond, _&&_}
+use mathlib.Core.Bool.{true, cond, _&&_}
 use mathlib.Core.List.{List, [], _∷_}
 use lib.ListN.{length}
 use lib.Dec.{leb, eqb}
 use Rattle.store.specs.Numbers.{pageNo, slotNo}
 use Rattle.store.specs.Page.{view, sound}
 use Rattle.store.specs.Inventory.{Truth}
-use Rattle.store.specs.Segment.{SegView, segView, pageOf, partBy, noPart, locateStep}
+use Rattle.store.specs.Segment.{SegView, segView, pageOf, sizeOk, partBy, noPart, locateStep}
+use Rattle.store.specs.Records.{scanAll}
 use Rattle.store.specs.Calls.{Call, called, results}
 use Rattle.store.specs.Alike.{Alike, AlikeByKind, AlikeToRead, Same, AllSame}
 use Rattle.store.specs.SoundSegment.{Paired, classes, SoundSegment}
@@ -18,7 +19,7 @@ use Rattle.store.specs.Laws.SoundSegment.{sound-closed, seen-sound, seen
 use Rattle.store.specs.Laws.Plans.{planOf, called-plan, call-exacting}
 use Rattle.store.specs.Laws.Alike.{alike-seen, plan-like}
 use Rattle.store.specs.Promises.Sound.{call-right}
-use Rattle.store.specs.Promises.AlikeByKind.{same-call, read-same, scan-same}
+use Rattle.store.specs.Promises.AlikeByKind.{same-call, read-same, scan-same, scan-all-same}
 
 -- of two such segments, with one inventory, both are sound
 pub like-sound : (s t v : List ℕ) → SoundSegment s v → Alike s t → SoundSegment t v
@@ -58,6 +59,10 @@ pub read-alike : (s t v : List ℕ) → SoundSegment s v → Alike s t → Alike
 read-alike s t v h l =
     let a = alike-seen s t (sized s (h .whole)) l in
     record { alike = l; reads = λ i. read-same s t a i; places = λ i. locate-same s t a i; scans = λ p k. scan-same s t a p k }
+
+-- the whole scan's list, of right size
+pub scan-all-alike : (s t : List ℕ) → sizeOk s ≡ true → Alike s t → scanAll s ≡ scanAll t
+scan-all-alike s t e l = scan-all-same s t (alike-seen s t (sized s e) l)
 
 -- any sequence of calls, and every read and scan between them
 pub demand-3 : (cs : List Call) (s t v w : List ℕ) → SoundSegment s v → Alike s t → v ≡ w → AllSame AlikeToRead (results cs s v) (results cs t w)

@@ -2,12 +2,13 @@
 -- kind and values, so that free slots may differ in the bits that are ignored on reading), with equal inventories. The same calls with the
 -- same data give equal answers, ids and inventories and leave the two so; and reads and scans of them are equal.
 use Prim.Native.Nat.{ℕ, _/_, _%_}
-use mathlib.Core.Path.{_≡_, sym, _∙_, subst}
+use mathlib.Core.Path.{_≡_, sym, ap, _∙_, subst}
 use mathlib.Core.Bool.{cond, _&&_}
 use mathlib.Core.List.{List, [], _∷_}
 use lib.Dec.{ltb, leb, eqb}
 use Rattle.store.specs.Segment.{SegView, segView, Out, result, step, noRead, readPlan, readStep}
 use Rattle.store.specs.Scan.{without, overPage, scanPlan, scanStep}
+use Rattle.store.specs.Records.{entries, scanAll}
 use Rattle.store.specs.Calls.{Call, called, results}
 use Rattle.store.specs.Alike.{AlikeByKind, Same, AllSame}
 use Rattle.store.specs.Laws.Segments.{planned, same-answer, same-id, same-inv, left-alike}
@@ -41,6 +42,11 @@ module _ (s t : List ℕ) (alike : AlikeByKind s t) where
   unfolding scanStep
   scan-same p k = λ x. cond (ltb 32527 p) (without 0 p k)
       (cond (eqb (alike .long x % 16384) 0 && leb (alike .long x / 16384) 32527) (scanPlan (alike .seen x) p k) (without 1 overPage 0))
+
+  -- and so is the whole scan's list
+  pub scan-all-same : scanAll s ≡ scanAll t
+  unfolding scanAll
+  scan-all-same = ap entries (alike .seen)
 
 -- ---- any sequence of calls
 
