@@ -48,3 +48,4 @@ pub mod RepairEntries
 pub mod RepairList
 pub mod RepairSeen
 pub mod ManyRows
+pub mod ReportScan

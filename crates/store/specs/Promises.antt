@@ -24,3 +24,4 @@ pub mod ManyRowsCall
 pub mod ManyRowsSound
 pub mod ManyRowsAlike
 pub mod ManyRowsExamples
+pub mod ReportScan
