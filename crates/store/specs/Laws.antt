@@ -49,3 +49,4 @@ pub mod RepairList
 pub mod RepairSeen
 pub mod ManyRows
 pub mod ReportScan
+pub mod ReportClasses

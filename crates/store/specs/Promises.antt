@@ -25,3 +25,4 @@ pub mod ManyRowsSound
 pub mod ManyRowsAlike
 pub mod ManyRowsExamples
 pub mod ReportScan
+pub mod ReportInventory
