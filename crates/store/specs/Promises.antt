@@ -26,3 +26,4 @@ pub mod ManyRowsAlike
 pub mod ManyRowsExamples
 pub mod ReportScan
 pub mod ReportInventory
+pub mod ReportAlike
