@@ -5,12 +5,14 @@ use mathlib.Core.Path.{_≡_, refl, sym, ap, _∙_}
 use mathlib.Core.Bool.{cond}
 use mathlib.Core.List.{List, [], _∷_}
 use native.Mathlib.Omega.{arith}
-use lib.ListN.{getD}
+use lib.ListN.{getD, drop}
 use Rattle.store.specs.Segment.{Result, Located}
 use Rattle.store.specs.Scan.{Scanned}
 use Rattle.store.specs.ManyRows.{Rows}
-use Rattle.store.specs.Answers.{outcome, told, ByRow, located, scannedOf, repaired, Placed, givenPlace, NamedPage, namedPage}
+use Rattle.store.specs.Answers.{outcome, told, ByRow, located, scannedOf, repaired, numbers, reported, Placed, givenPlace, NamedPage, namedPage}
 use Rattle.store.specs.Repair.{Repaired}
+use Rattle.store.specs.Report.{Report}
+use Rattle.store.specs.ReportTold.{pagesIn, freshIn, slotsIn, recordsIn, recordBytesIn, forwardedIn, freeIn}
 use Rattle.store.specs.declared.Place.{Place}
 use Rattle.store.specs.declared.Place.the-variants as place
 use Rattle.store.specs.declared.Named.{Named}
@@ -25,6 +27,9 @@ use Rattle.store.specs.declared.Step.{Step}
 use Rattle.store.specs.declared.Step.the-variants as scan
 use Rattle.store.specs.declared.Repair.{Repair}
 use Rattle.store.specs.declared.Repair.the-variants as repair
+use Rattle.store.specs.declared.Tally.{Tally}
+use Rattle.store.specs.declared.Reported.{Reported}
+use Rattle.store.specs.declared.Reported.the-variants as fill
 
 -- what can be undone tells two apart
 undone : {A B : Type 0} (f : A → B) (back : B → A) → ((x : A) → back (f x) ≡ x) → (x y : A) → f x ≡ f y → x ≡ y
@@ -160,3 +165,31 @@ module _ (r r′ : Repair) (s s′ v v′ l l′ : List ℕ) where
       back (repair.Done n) t w m = refl
       back repair.Size t w m = refl
       back (repair.Room n) t w m = refl
+
+-- ---- a fill report
+
+module _ (r r′ : Reported) (t t′ : Tally) where
+  pub reported-single : reported r t ≡ reported r′ t′ → (r ≡ r′) × (t ≡ t′)
+  reported-single e = (sym (back r t) ∙ ap answer e ∙ back r′ t′, undone numbers tally (λ x. refl) t t′ (ap (λ (o : Report). o .tally) e))
+    where
+      answer : Report → Reported
+      answer o = getD (fill.Done ∷ fill.Size ∷ fill.Size ∷ fill.Size ∷ fill.Damaged ∷ []) (o .answer) fill.Tally
+
+      tally : List ℕ → Tally
+      tally n =
+          record {
+            pages = pagesIn n;
+            «fresh_pages» = freshIn n;
+            slots = slotsIn n;
+            records = recordsIn n;
+            «record_bytes» = recordBytesIn n;
+            forwarded = forwardedIn n;
+            «free_bytes» = freeIn n;
+            classes = drop 7 n;
+          }
+
+      back : (a : Reported) (x : Tally) → answer (reported a x) ≡ a
+      back fill.Done x = refl
+      back fill.Size x = refl
+      back fill.Damaged x = refl
+      back fill.Tally x = refl
