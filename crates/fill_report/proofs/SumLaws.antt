@@ -85,10 +85,10 @@ pub most-more : (a b : ℕ) (xs : List ℕ) → a ≤ b → AtMost a xs → AtMo
 most-more a b [] l h = tt
 most-more a b (x ∷ xs) l h = (omega arith, most-more a b xs l (h .1))
 
-pub most-added : (a b : ℕ) (xs ys : List ℕ) → AtMost a xs → AtMost b ys → AtMost (a + b) (added xs ys)
-most-added a b [] ys g h = tt
-most-added a b (x ∷ xs) [] g h = most-more a (a + b) (x ∷ xs) (omega arith) g
-most-added a b (x ∷ xs) (y ∷ ys) g h = (omega arith, most-added a b xs ys (g .1) (h .1))
+pub most-added : (a b m : ℕ) (xs ys : List ℕ) → a + b ≤ m → AtMost a xs → AtMost b ys → AtMost m (added xs ys)
+most-added a b m [] ys l g h = tt
+most-added a b m (x ∷ xs) [] l g h = most-more a m (x ∷ xs) (omega arith) g
+most-added a b m (x ∷ xs) (y ∷ ys) l g h = (omega arith, most-added a b m xs ys l (g .1) (h .1))
 
 -- ---- one more of a class
 
