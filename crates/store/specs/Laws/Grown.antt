@@ -5,8 +5,7 @@ use mathlib.Core.Bool.{Bool, true, false, cond}
 use mathlib.Core.List.{List, [], _∷_, _++_}
 use native.Mathlib.Omega.{arith}
 use native.Mathlib.Decide.{decLt}
-use lib.ListN.{length, take, drop, length-append, length-drop, length-replicate}
-use lib.Seq.{take-append-le, drop-append-le}
+use lib.ListN.{length, take, drop, length-append, length-replicate}
 use lib.Dec.{ltb}
 use borrow.Author.Tests.{lt-ltb, le-ltb}
 use Rattle.store.specs.Numbers.{cut, be, zeros, pageNo, slotNo}
@@ -17,6 +16,7 @@ use Rattle.store.specs.Inventory.{Lowest}
 use Rattle.store.specs.Segment.{SegView, segView, pageOf}
 use Rattle.store.specs.SoundSegment.{slotOn, Paired, nibbleOf, classes, SoundSegment}
 use Rattle.store.specs.Laws.SoundPage.{header-is}
+use Rattle.store.specs.Laws.Segments.{page-first}
 use Rattle.store.specs.Laws.Calls.{target-taken}
 use Rattle.store.specs.Laws.SoundSegment.{page-past, sized, seen-page, seen-pages}
 use Rattle.store.specs.declared.Slot.the-variants.{Free}
@@ -91,10 +91,7 @@ module _ (s v : List ℕ) (h : SoundSegment s v) where
     grown-seen = λ i. record { pages = page-count i; page = λ p. each p (decLt p (length s / 16384)) i }
       where
         each : (p : ℕ) → Dec (p < length s / 16384) → opened (view (pageOf (grown s k) p)) ≡ segView s .page p
-        each p (yes l) =
-            ap (λ (q : List ℕ). opened (view q))
-            (ap (take 16384) (drop-append-le (p * 16384) s (zeros (k * 16384)) (omega arith))
-            ∙ take-append-le 16384 (drop (p * 16384) s) (zeros (k * 16384)) (simp length-drop (omega arith)))
+        each p (yes l) = ap (λ (q : List ℕ). opened (view q)) (page-first s (zeros (k * 16384)) p (omega arith))
         each p (no l) =
             zero-page (pageOf (grown s k) p) (zero-take 16384 (drop (p * 16384) (grown s k))
             (zero-drop s (zeros (k * 16384)) (zero-zeros (k * 16384)) (p * 16384) (omega (arith, whole))))

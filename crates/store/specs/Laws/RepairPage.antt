@@ -23,7 +23,7 @@ use Rattle.store.specs.declared.Deed.the-variants.{Stays, RecordFreed, R
 use Rattle.store.specs.Laws.Cases.{by-test, not-in, or-in, or-out, or-true, or-false}
 use Rattle.store.specs.Laws.Slots.{Codable}
 use Rattle.store.specs.Laws.Edits.{Apart}
-use Rattle.store.specs.Laws.Views.{apart-flip, Sound, is-free, sum-ext, next-low, next-taken, next-free}
+use Rattle.store.specs.Laws.Views.{apart-flip, Sound, is-free, sum-ext, sum-zero, sum-turn, next-low, next-taken, next-free}
 use Rattle.store.specs.Laws.SoundPage.{and-both, and-in, or-right, two-apart}
 use Rattle.store.specs.declared.Slot.{Slot}
 use Rattle.store.specs.declared.Slot.the-variants.{Ordinary, Free, Redirect, Target}
@@ -276,18 +276,6 @@ covers-sum o l (suc m) = go (covers-sum o l m) (decLt m o) (decLt m (o + l))
     go ih (yes a) b = rw (lt-ltb m o a) (omega arith)
     go ih (no a) (yes b) = rw (le-ltb m o (omega arith), lt-ltb m (o + l) b) (omega arith)
     go ih (no a) (no b) = rw (le-ltb m o (omega arith), le-ltb m (o + l) (omega arith)) (omega arith)
-
-sum-zero : (n : ℕ) (f : ℕ → ℕ) → ((k : ℕ) → k < n → f k ≡ 0) → sum n f ≡ 0
-sum-zero zero f h = refl
-sum-zero (suc n) f h = omega (arith, h n (omega arith), sum-zero n f (λ k l. h k (omega arith)))
-
-sum-add : (n : ℕ) (f g : ℕ → ℕ) → sum n (λ k. f k + g k) ≡ sum n f + sum n g
-sum-add zero f g = refl
-sum-add (suc n) f g = omega (arith, sum-add n f g)
-
-sum-turn : (n m : ℕ) (g : ℕ → ℕ → ℕ) → sum n (λ k. sum m (g k)) ≡ sum m (λ x. sum n (λ k. g k x))
-sum-turn zero m g = sym (sum-zero m (λ x. 0) (λ k l. refl))
-sum-turn (suc n) m g = ap (λ (r : ℕ). sum m (g n) + r) (sum-turn n m g) ∙ sym (sum-add m (g n) (λ x. sum n (λ k. g k x)))
 
 sum-ones : (m a : ℕ) (f : ℕ → ℕ) → ((x : ℕ) → x < a → f x ≡ 0) → ((x : ℕ) → f x ≤ 1) → sum m f ≤ m - a
 sum-ones zero a f z o = omega arith

@@ -2,11 +2,12 @@
 use Prim.Native.Nat.{ℕ, _+_, _-_, _*_, _/_, _%_, _≤_, _<_}
 use mathlib.Core.Path.{_≡_, refl, sym, ap, _∙_}
 use mathlib.Core.Bool.{Bool, true, false, cond, not, _&&_}
-use mathlib.Core.List.{List, [], _∷_}
+use mathlib.Core.List.{List, [], _∷_, _++_}
 use mathlib.Core.Logic.{_⊎_, inl, inr, _≢_}
 use native.Mathlib.Omega.{arith}
 use native.Mathlib.Decide.{ℕ-discrete, decLt}
-use lib.ListN.{length, length-take, length-drop}
+use lib.ListN.{length, take, drop, length-take, length-drop}
+use lib.Seq.{take-append-le, drop-append-le, drop-append-add}
 use lib.Dec.{eqb, leb}
 use borrow.Author.Tests.{eq-eqb, ne-eqb}
 use Rattle.store.specs.Numbers.{cut, put, upd}
@@ -24,6 +25,17 @@ use Rattle.store.specs.Laws.Exact.{Exact, length-run}
 
 pub length-page : (s : List ℕ) (p : ℕ) → p * 16384 + 16384 ≤ length s → length (pageOf s p) ≡ 16384
 length-page s p h = simp (length-take, length-drop) (omega arith)
+
+-- of one segment and another behind it: a page of the first, and of the second
+pub page-first : (s r : List ℕ) (p : ℕ) → p * 16384 + 16384 ≤ length s → pageOf (s ++ r) p ≡ pageOf s p
+page-first s r p h =
+    ap (take 16384) (drop-append-le (p * 16384) s r (omega arith))
+    ∙ take-append-le 16384 (drop (p * 16384) s) r (simp length-drop (omega arith))
+
+pub page-second : (s r : List ℕ) (n p : ℕ) → length s ≡ n * 16384 → pageOf (s ++ r) (n + p) ≡ pageOf r p
+page-second s r n p h =
+    let e : (n + p) * 16384 ≡ length s + p * 16384 = omega arith in
+    ap (λ (i : ℕ). cut (s ++ r) i 16384) e ∙ ap (take 16384) (drop-append-add s r (p * 16384))
 
 module _ (s : List ℕ) (p : ℕ) (q : List ℕ) (whole : length q ≡ 16384) where
   pub page-same : p * 16384 + 16384 ≤ length s → pageOf (put s (p * 16384) q) p ≡ q

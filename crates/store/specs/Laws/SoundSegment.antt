@@ -7,7 +7,7 @@ use native.Mathlib.Omega.{arith}
 use native.Mathlib.Decide.{decLt}
 use lib.ListN.{length, length-take, length-drop}
 use lib.Dec.{eqb, ltb, leb}
-use borrow.Author.Tests.{leb-true, le-leb, eqb-true}
+use borrow.Author.Tests.{leb-true, le-leb, eqb-true, eq-eqb}
 use Rattle.store.specs.Numbers.{zeros, fit}
 use Rattle.store.specs.Page.{View, view, fresh, countFits, soundTests, passes, sound}
 use Rattle.store.specs.PageSteps.{initialised, opened, plan}
@@ -16,7 +16,7 @@ use Rattle.store.specs.Inventory.{foundIn}
 use Rattle.store.specs.Segment.{SegView, segView, pageOf, sizeOk, Out, carried, refuse, insertPlan, Read, noRead}
 use Rattle.store.specs.Laws.Cases.{or-in}
 use Rattle.store.specs.Laws.Views.{Sound}
-use Rattle.store.specs.Laws.SoundPage.{and-both, sound-init, sound-opened, sound-test}
+use Rattle.store.specs.Laws.SoundPage.{and-both, and-in, sound-init, sound-opened, sound-test}
 use Rattle.store.specs.Scan.{damagedAt}
 use Rattle.store.specs.Laws.Segments.{AllExact, AllSound, length-page, settled, carried-seen, settled-sound}
 use Rattle.store.specs.Laws.Calls.{by-test}
@@ -44,6 +44,9 @@ pub sized : (s : List ℕ) → sizeOk s ≡ true → Sized s
 sized s e =
     let b = and-both (eqb (length s % 16384) 0) (leb (length s / 16384) 32527) e in
     record { whole = eqb-true (length s % 16384) 0 (b .0); few = leb-true (length s / 16384) 32527 (b .1) }
+
+pub right-size : (s : List ℕ) → length s % 16384 ≡ 0 → length s / 16384 ≤ 32527 → sizeOk s ≡ true
+right-size s a b = and-in (eqb (length s % 16384) 0) (leb (length s / 16384) 32527) (eq-eqb (length s % 16384) 0 a) (le-leb (length s / 16384) 32527 b)
 
 -- every page that is seen is sound, those past the end too
 pub pages-sound : (s : List ℕ) → sizeOk s ≡ true → ((p : ℕ) → p < length s / 16384 → sound (view (pageOf s p)) ≡ true)

@@ -5,7 +5,7 @@ use mathlib.Core.Bool.{Bool, true, false, cond}
 use mathlib.Core.List.{List, []}
 use mathlib.Core.Logic.{_⊎_, inl, inr, ⊎-elim, _≢_}
 use native.Mathlib.Omega.{arith}
-use native.Mathlib.Nat.{not-suc-le-zero}
+use native.Mathlib.Nat.{not-suc-le-zero, add-zero, add-suc}
 use native.Mathlib.Decide.{ℕ-discrete, decLt}
 use lib.ListN.{length, length-replicate}
 use borrow.Author.Tests.{eq-eqb, ne-eqb}
@@ -61,6 +61,23 @@ upd-lens f g k x bs e h j = go (ℕ-discrete j k)
 pub sum-ext : (n : ℕ) (f g : ℕ → ℕ) → ((j : ℕ) → j < n → f j ≡ g j) → sum n f ≡ sum n g
 sum-ext zero f g h = refl
 sum-ext (suc n) f g h = omega (arith, h n (omega arith), sum-ext n f g (λ j l. h j (omega arith)))
+
+pub sum-zero : (n : ℕ) (f : ℕ → ℕ) → ((k : ℕ) → k < n → f k ≡ 0) → sum n f ≡ 0
+sum-zero zero f h = refl
+sum-zero (suc n) f h = omega (arith, h n (omega arith), sum-zero n f (λ k l. h k (omega arith)))
+
+pub sum-add : (n : ℕ) (f g : ℕ → ℕ) → sum n (λ k. f k + g k) ≡ sum n f + sum n g
+sum-add zero f g = refl
+sum-add (suc n) f g = omega (arith, sum-add n f g)
+
+pub sum-turn : (n m : ℕ) (g : ℕ → ℕ → ℕ) → sum n (λ k. sum m (g k)) ≡ sum m (λ x. sum n (λ k. g k x))
+sum-turn zero m g = sym (sum-zero m (λ x. 0) (λ k l. refl))
+sum-turn (suc n) m g = ap (λ (r : ℕ). sum m (g n) + r) (sum-turn n m g) ∙ sym (sum-add m (g n) (λ x. sum n (λ k. g k x)))
+
+-- the first n of m, and those from n on
+pub sum-join : (n m : ℕ) (f : ℕ → ℕ) → sum (n + m) f ≡ sum n f + sum m (λ k. f (n + k))
+sum-join n zero f = rw (add-zero n) (omega arith)
+sum-join n (suc m) f = rw (add-suc n m) (omega (arith, sum-join n m f))
 
 -- two that differ at k alone
 pub sum-swap : (n : ℕ) (f g : ℕ → ℕ) (k : ℕ) → k < n → ((j : ℕ) → j ≢ k → f j ≡ g j) → sum n f + g k ≡ sum n g + f k

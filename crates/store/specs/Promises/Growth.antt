@@ -5,7 +5,6 @@ use mathlib.Core.Path.{_≡_, sym, ap, _∙_, subst}
 use mathlib.Core.List.{List, _++_}
 use native.Mathlib.Omega.{arith}
 use lib.ListN.{length}
-use borrow.Author.Tests.{eq-eqb, le-leb}
 use Rattle.store.specs.Numbers.{zeros, pageNo}
 use Rattle.store.specs.Page.{view, sound}
 use Rattle.store.specs.Inventory.{Truth}
@@ -15,7 +14,7 @@ use Rattle.store.specs.SoundSegment.{bytesOn, Paired, classes, SoundSegm
 use Rattle.store.specs.Laws.Slots.{tag}
 use Rattle.store.specs.Laws.SoundPage.{sound-test}
 use Rattle.store.specs.Laws.Pairs.{tagOn, look}
-use Rattle.store.specs.Laws.SoundSegment.{seen-sound, sound-closed}
+use Rattle.store.specs.Laws.SoundSegment.{right-size, seen-sound, sound-closed}
 use Rattle.store.specs.Laws.Rows.{read-look}
 use Rattle.store.specs.Laws.Grown.{grown, long, whole, page-count, grown-seen, free-past, more-paired, more-classes, more-lowest}
 use Rattle.store.specs.declared.Slot.{Slot}
@@ -27,7 +26,7 @@ module _ (s v : List ℕ) (h : SoundSegment s v) (k : ℕ) (few : length s / 163
       let a : length (grown s k) % 16384 ≡ 0 = omega (arith, long s k, whole s v h) in
       let b : length (grown s k) / 16384 ≤ 32527 = omega (arith, page-count s v h k) in
       record {
-        whole = rw (eq-eqb (length (grown s k) % 16384) 0 a, le-leb (length (grown s k) / 16384) 32527 b);
+        whole = right-size (grown s k) a b;
         page = h .page;
         pages = λ p l. sound-closed (view (pageOf (grown s k) p))
             (ap (λ (u : SegView). sound (u .page p)) (grown-seen s v h k) ∙ sound-test (segView s .page p) (seen-sound s v h .sounds p));
