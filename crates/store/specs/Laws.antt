@@ -48,5 +48,6 @@ pub mod RepairEntries
 pub mod RepairList
 pub mod RepairSeen
 pub mod ManyRows
+pub mod Report
 pub mod ReportScan
 pub mod ReportClasses

@@ -24,6 +24,7 @@ pub mod ManyRowsCall
 pub mod ManyRowsSound
 pub mod ManyRowsAlike
 pub mod ManyRowsExamples
+pub mod Report
 pub mod ReportScan
 pub mod ReportInventory
 pub mod ReportAlike

@@ -1,7 +1,12 @@
 -- What is said of the fill report's tally: its 23 numbers by name (Promises/ReportScan, ReportInventory and others).
-use Prim.Native.Nat.{ℕ, _+_}
+use Prim.Native.Nat.{ℕ, _+_, _/_, _^_, _≤_, _<_}
+use mathlib.Core.Path.{_≡_}
+use mathlib.Core.Bool.{true, false}
 use mathlib.Core.List.{List}
-use lib.ListN.{getD}
+use lib.ListN.{length, getD}
+use Rattle.store.specs.Page.{view, sound}
+use Rattle.store.specs.Segment.{segView, pageOf}
+use Rattle.store.specs.Report.{figures}
 
 -- ---- the figures of a tally, in its order
 
@@ -29,3 +34,23 @@ freeIn t = getD t 6 0
 -- "pages per class 0 to 15"
 abbrev pub classAt : ℕ → List ℕ → ℕ
 classAt c t = getD t (7 + c) 0
+
+-- ---- what a call meets
+
+-- each page of the segment is sound; one of them is not
+abbrev pub PagesSound : List ℕ → Type 0
+PagesSound s = (p : ℕ) → p < length s / 16384 → sound (view (pageOf s p)) ≡ true
+
+pub record Damage (s : List ℕ) : Type 0 where
+  pub on : ℕ
+  pub below : on < length s / 16384
+  pub unsound : sound (view (pageOf s on)) ≡ false
+
+-- what figure j comes to, and "when a figure would pass 2^64 − 1"
+abbrev pub sumAt : List ℕ → List ℕ → ℕ → ℕ
+sumAt s t j = getD t j 0 + getD (figures (segView s)) j 0
+
+pub record Passes (s t : List ℕ) : Type 0 where
+  pub figure : ℕ
+  pub of : figure < 23
+  pub past : 2 ^ 64 ≤ sumAt s t figure

@@ -1,0 +1,74 @@
+-- Document 02, "Fill report over the whole archive": what the figures of a segment come to, what a call does to the tally that it is lent, and
+-- when it gives each answer. For all bytes, damaged ones too. A tally is 23 numbers, whatever they are.
+use Prim.Native.Nat.{ℕ, _+_, _^_, _<_}
+use mathlib.Core.Path.{_≡_, refl, ap}
+use mathlib.Core.Bool.{true, false}
+use mathlib.Core.List.{List}
+use mathlib.Core.Logic.{_↔_, _≢_, _⊎_, inl, inr}
+use native.Mathlib.Omega.{arith}
+use lib.ListN.{length, getD}
+use Rattle.store.specs.Refusals.{DONE, SIZE, DAMAGED, TALLY}
+use Rattle.store.specs.Segment.{segView, sizeOk}
+use Rattle.store.specs.Report.{figures, Report, reportStep}
+use Rattle.store.specs.ReportTold.{PagesSound, Damage, sumAt, Passes}
+use Rattle.store.specs.Laws.Report.{length-added, pages-sound, sound-pages, damage}
+use Rattle.store.specs.Laws.Report.{damaged, on-size, on-damage, on-tally, on-done, by-report, after-at, all-fits, fits-all, not-all}
+use Rattle.store.specs.Laws.Report.{all-not-fit}
+
+module _ (s t : List ℕ) where
+  -- ---- "1 and 4 as in 01, then 9 TALLY when a figure would pass 2^64 − 1"
+
+  pub answers : let a = reportStep s t .answer in (a ≡ DONE) ⊎ (a ≡ SIZE) ⊎ (a ≡ DAMAGED) ⊎ (a ≡ TALLY)
+  answers =
+      by-report s t (λ (r : Report). (r .answer ≡ DONE) ⊎ (r .answer ≡ SIZE) ⊎ (r .answer ≡ DAMAGED) ⊎ (r .answer ≡ TALLY)) (λ e. inr (inl refl))
+      (λ e f. inr (inr (inl refl))) (λ e f g. inr (inr (inr refl))) (λ e f g. inl refl)
+
+  -- 1 exactly if the segment is not 0 to 32,527 whole pages
+  pub size-exactly : (reportStep s t .answer ≡ SIZE) ↔ (sizeOk s ≡ false)
+  size-exactly = (
+    by-report s t (λ (r : Report). r .answer ≡ SIZE → sizeOk s ≡ false) (λ e z. e) (λ e f z. absurd (omega arith)) (λ e f g z. absurd (omega arith))
+        (λ e f g z. absurd (omega arith)),
+    λ e. ap (λ (r : Report). r .answer) (on-size s t e),
+  )
+
+  -- 4 exactly if it is, and some page of it is not sound
+  pub damaged-exactly : (reportStep s t .answer ≡ DAMAGED) ↔ ((sizeOk s ≡ true) × Damage s)
+  damaged-exactly = (
+    by-report s t (λ (r : Report). r .answer ≡ DAMAGED → (sizeOk s ≡ true) × Damage s) (λ e z. absurd (omega arith)) (λ e f z. (e, damage s f))
+        (λ e f g z. absurd (omega arith)) (λ e f g z. absurd (omega arith)),
+    λ x. ap (λ (r : Report). r .answer) (on-damage s t (x .0) (damaged s (x .1))),
+  )
+
+  -- "A refused segment adds nothing": all 23 figures are as they were
+  pub refused-keeps : reportStep s t .answer ≢ DONE → reportStep s t .tally ≡ t
+  refused-keeps =
+      by-report s t (λ (r : Report). r .answer ≢ DONE → r .tally ≡ t) (λ e n. refl) (λ e f n. refl) (λ e f g n. refl) (λ e f g n. absurd (n refl))
+
+  pub length-kept : length (reportStep s t .tally) ≡ length t
+  length-kept =
+      by-report s t (λ (r : Report). length (r .tally) ≡ length t) (λ e. refl) (λ e f. refl) (λ e f g. refl)
+      (λ e f g. length-added t (figures (segView s)))
+
+  module _ (long : length t ≡ 23) where
+    -- 9 exactly if the segment is right, every page is sound, and some figure's sum is 2^64 or more
+    pub tally-exactly : (reportStep s t .answer ≡ TALLY) ↔ ((sizeOk s ≡ true) × PagesSound s × Passes s t)
+    tally-exactly = (
+      by-report s t (λ (r : Report). r .answer ≡ TALLY → (sizeOk s ≡ true) × PagesSound s × Passes s t) (λ e z. absurd (omega arith))
+          (λ e f z. absurd (omega arith)) (λ e f g z. (e, pages-sound s f, not-all s t long g)) (λ e f g z. absurd (omega arith)),
+      λ x. ap (λ (r : Report). r .answer) (on-tally s t (x .0) (sound-pages s (x .1)) (all-not-fit s t long (x .2))),
+    )
+
+    -- 0 exactly if none is
+    pub done-exactly : (reportStep s t .answer ≡ DONE) ↔ ((sizeOk s ≡ true) × PagesSound s × ((j : ℕ) → j < 23 → sumAt s t j < 2 ^ 64))
+    done-exactly = (
+      by-report s t (λ (r : Report). r .answer ≡ DONE → (sizeOk s ≡ true) × PagesSound s × ((j : ℕ) → j < 23 → sumAt s t j < 2 ^ 64))
+          (λ e z. absurd (omega arith)) (λ e f z. absurd (omega arith)) (λ e f g z. absurd (omega arith))
+          (λ e f g z. (e, pages-sound s f, all-fits s t long g)),
+      λ x. ap (λ (r : Report). r .answer) (on-done s t (x .0) (sound-pages s (x .1)) (fits-all s t long (x .2))),
+    )
+
+    -- and then each of the 23 is what it was and the segment's
+    pub done-adds : reportStep s t .answer ≡ DONE → (j : ℕ) → j < 23 → getD (reportStep s t .tally) j 0 ≡ getD t j 0 + getD (figures (segView s)) j 0
+    done-adds =
+        by-report s t (λ (r : Report). r .answer ≡ DONE → (j : ℕ) → j < 23 → getD (r .tally) j 0 ≡ sumAt s t j) (λ e z. absurd (omega arith))
+        (λ e f z. absurd (omega arith)) (λ e f g z. absurd (omega arith)) (λ e f g z. after-at s t long)
