@@ -1,5 +1,5 @@
 -- What is said of the fill report's tally: its 23 numbers by name (Promises/ReportScan, ReportInventory and others).
-use Prim.Native.Nat.{ℕ, _+_, _/_, _^_, _≤_, _<_}
+use Prim.Native.Nat.{ℕ, _+_, _-_, _*_, _/_, _^_, _≤_, _<_}
 use mathlib.Core.Path.{_≡_}
 use mathlib.Core.Bool.{true, false}
 use mathlib.Core.List.{List}
@@ -34,6 +34,16 @@ freeIn t = getD t 6 0
 -- "pages per class 0 to 15"
 abbrev pub classAt : ℕ → List ℕ → ℕ
 classAt c t = getD t (7 + c) 0
+
+-- ---- what its figures must come to
+
+abbrev pub usedIn : List ℕ → ℕ
+usedIn t = pagesIn t - freshIn t
+
+-- "12 each, 8 per slot, record bytes, 8 per forwarded record and free bytes must sum to 16,384 per page": of the pages in use
+pub record AddsUp (t : List ℕ) : Type 0 where
+  pub fresh : freshIn t ≤ pagesIn t
+  pub sums : 12 * usedIn t + 8 * slotsIn t + recordBytesIn t + 8 * forwardedIn t + freeIn t ≡ 16384 * usedIn t
 
 -- ---- what a call meets
 

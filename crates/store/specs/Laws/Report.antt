@@ -1,24 +1,83 @@
 -- The fill report: what its figures come to, and how they are added.
-use Prim.Native.Nat.{ℕ, zero, suc, _+_, _^_, _≤_, _<_}
+use Prim.Native.Nat.{ℕ, zero, suc, _+_, _-_, _*_, _^_, _≤_, _<_}
 use mathlib.Core.Path.{_≡_, refl, sym, ap, _∙_}
-use mathlib.Core.Bool.{Bool, true, false, _&&_}
+use mathlib.Core.Bool.{Bool, true, false, cond, not, _&&_}
 use mathlib.Core.List.{List, [], _∷_}
 use native.Mathlib.Omega.{arith}
 use lib.ListN.{length, getD}
 use lib.Dec.{ltb}
 use borrow.Author.Tests.{ltb-true, ltb-false, lt-ltb}
-use Rattle.store.specs.Numbers.{all}
-use Rattle.store.specs.Page.{view, sound}
+use Rattle.store.specs.Numbers.{sum, all}
+use Rattle.store.specs.Slots.{len, isTarget}
+use Rattle.store.specs.Page.{View, view, fresh, sound}
 use Rattle.store.specs.Refusals.{DONE, SIZE, DAMAGED, TALLY}
 use Rattle.store.specs.Segment.{SegView, segView, pageOf, sizeOk}
-use Rattle.store.specs.Report.{figuresTo, figures, added, allFit}
+use Rattle.store.specs.Report.{one, freshOf, slotsOf, bytesIn, bytesOf, forwardedOf, freeOf, over, figuresTo, figures, added, allFit}
 use Rattle.store.specs.Report.{Report, report, allSound, reportStep}
-use Rattle.store.specs.ReportTold.{PagesSound, Damage, sumAt, Passes}
+use Rattle.store.specs.ReportTold.{AddsUp, PagesSound, Damage, sumAt, Passes}
 use Rattle.store.specs.Laws.Cases.{never, false-by}
-use Rattle.store.specs.Laws.Views.{Sound}
-use Rattle.store.specs.Laws.SoundPage.{and-both, and-in, all-at, all-in, sound-opened}
+use Rattle.store.specs.Laws.Views.{Sound, sum-zero}
+use Rattle.store.specs.Laws.SoundPage.{and-both, and-in, all-at, all-in, fresh-none, sound-opened}
 use Rattle.store.specs.Laws.Segments.{length-page}
 use Rattle.store.specs.Laws.SoundSegment.{sized, open-sound, seen-page, seen-pages}
+
+-- ---- the sum law of a page
+
+-- the lengths of n slots are their record bytes and 8 for each target
+split : (v : View) (n : ℕ) → ((k : ℕ) → isTarget (v .at k) ≡ true → 8 ≤ len (v .at k))
+    → sum n (λ k. len (v .at k)) ≡ sum n (bytesIn v) + 8 * sum n (λ k. one (isTarget (v .at k)))
+split v zero h = omega arith
+split v (suc n) h = omega (arith, one-slot (isTarget (v .at n)) refl, split v n h)
+  where
+    one-slot : (b : Bool) → isTarget (v .at n) ≡ b → len (v .at n) ≡ cond b (len (v .at n) - 8) (len (v .at n)) + 8 * one b
+    one-slot true e = omega (arith, h n e)
+    one-slot false e = omega arith
+
+abbrev pub usedOf : View → ℕ
+usedOf v = one (not (fresh v))
+
+page-sums : (v : View) → Sound v → 12 * usedOf v + 8 * slotsOf v + bytesOf v + 8 * forwardedOf v + freeOf v ≡ 16384 * usedOf v
+page-sums v s = go (fresh v) refl
+  where
+    none : v .slotCount ≡ 0 → (f : ℕ → ℕ) → sum (v .slotCount) f ≡ 0
+    none z f = sum-zero (v .slotCount) f (λ k l. absurd (omega arith))
+
+    go : (b : Bool) → fresh v ≡ b → 12 * one (not b) + 8 * slotsOf v + bytesOf v + 8 * forwardedOf v + cond b 0 (v .freeSpace) ≡ 16384 * one (not b)
+    go true e = let z = fresh-none v e in omega (arith, none z (bytesIn v), none z (λ k. one (isTarget (v .at k))))
+    go false e = omega (arith, s .sums, split v (v .slotCount) (s .targets))
+
+-- ---- of a segment
+
+-- five sums that agree at each number agree
+five : (n : ℕ) (a b c d e : ℕ → ℕ) → ((p : ℕ) → p < n → 12 * a p + 8 * b p + c p + 8 * d p + e p ≡ 16384 * a p)
+    → 12 * sum n a + 8 * sum n b + sum n c + 8 * sum n d + sum n e ≡ 16384 * sum n a
+five zero a b c d e h = omega arith
+five (suc n) a b c d e h = omega (arith, h n (omega arith), five n a b c d e (λ p l. h p (omega arith)))
+
+segment-sums : (u : SegView) (n : ℕ) → ((p : ℕ) → p < n → Sound (u .page p))
+    → 12 * over u n usedOf + 8 * over u n slotsOf + over u n bytesOf + 8 * over u n forwardedOf + over u n freeOf ≡ 16384 * over u n usedOf
+segment-sums u n h =
+    five n (λ p. usedOf (u .page p)) (λ p. slotsOf (u .page p)) (λ p. bytesOf (u .page p)) (λ p. forwardedOf (u .page p)) (λ p. freeOf (u .page p))
+    (λ p l. page-sums (u .page p) (h p l))
+
+-- pages in use and fresh ones are all pages
+used-and-fresh : (u : SegView) (n : ℕ) → over u n usedOf + over u n freshOf ≡ n
+used-and-fresh u zero = refl
+used-and-fresh u (suc n) = omega (arith, both (fresh (u .page n)), used-and-fresh u n)
+  where
+    both : (b : Bool) → one (not b) + one b ≡ 1
+    both true = refl
+    both false = refl
+
+pub pages-all : (n : ℕ) → sum n (λ p. 1) ≡ n
+pages-all zero = refl
+pages-all (suc n) = omega (arith, pages-all n)
+
+pub figures-sum : (u : SegView) → ((p : ℕ) → p < u .pages → Sound (u .page p)) → AddsUp (figures u)
+unfolding figuresTo
+figures-sum u h =
+    let n = u .pages in
+    record { fresh = omega (arith, used-and-fresh u n, pages-all n); sums = omega (arith, segment-sums u n h, used-and-fresh u n, pages-all n) }
 
 -- ---- figures added
 
@@ -27,6 +86,17 @@ getD-added [] x j l = absurd (omega arith)
 getD-added (a ∷ t) [] j l = omega arith
 getD-added (a ∷ t) (b ∷ x) zero l = refl
 getD-added (a ∷ t) (b ∷ x) (suc j) l = getD-added t x j (omega arith)
+
+module _ (t x : List ℕ) (long : length t ≡ 23) where
+  pub added-sum : AddsUp t → AddsUp x → AddsUp (added t x)
+  added-sum a b =
+      let pages = getD-added t x 0 (omega arith) in
+      let fresh = getD-added t x 1 (omega arith) in
+      let slots = getD-added t x 2 (omega arith) in
+      let bytes = getD-added t x 4 (omega arith) in
+      let forwarded = getD-added t x 5 (omega arith) in
+      let free = getD-added t x 6 (omega arith) in
+      record { fresh = omega arith; sums = omega arith }
 
 pub length-added : (t x : List ℕ) → length (added t x) ≡ length t
 length-added [] x = refl

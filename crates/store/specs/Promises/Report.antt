@@ -8,12 +8,23 @@ use mathlib.Core.Logic.{_↔_, _≢_, _⊎_, inl, inr}
 use native.Mathlib.Omega.{arith}
 use lib.ListN.{length, getD}
 use Rattle.store.specs.Refusals.{DONE, SIZE, DAMAGED, TALLY}
-use Rattle.store.specs.Segment.{segView, sizeOk}
-use Rattle.store.specs.Report.{figures, Report, reportStep}
-use Rattle.store.specs.ReportTold.{PagesSound, Damage, sumAt, Passes}
-use Rattle.store.specs.Laws.Report.{length-added, pages-sound, sound-pages, damage}
-use Rattle.store.specs.Laws.Report.{damaged, on-size, on-damage, on-tally, on-done, by-report, after-at, all-fits, fits-all, not-all}
+use Rattle.store.specs.Segment.{SegView, segView, sizeOk}
+use Rattle.store.specs.Report.{figuresTo, figures, Report, reportStep}
+use Rattle.store.specs.ReportTold.{pagesIn, AddsUp, PagesSound, Damage, sumAt, Passes}
+use Rattle.store.specs.Laws.Report.{pages-all, figures-sum, added-sum, length-added, pages-sound, sound-pages, damage}
+use Rattle.store.specs.Laws.Report.{damaged, seen-sounds, on-size, on-damage, on-tally, on-done, by-report, after-at, all-fits, fits-all, not-all}
 use Rattle.store.specs.Laws.Report.{all-not-fit}
+
+-- ---- the figures of a segment
+
+-- "12 each, 8 per slot, record bytes, 8 per forwarded record and free bytes must sum to 16,384 per page"
+pub sums : (s : List ℕ) → sizeOk s ≡ true → PagesSound s → AddsUp (figures (segView s))
+sums s e h = figures-sum (segView s) (seen-sounds s e h)
+
+-- "pages" is n
+pub counts-pages : (u : SegView) → pagesIn (figures u) ≡ u .pages
+unfolding figuresTo
+counts-pages u = pages-all (u .pages)
 
 module _ (s t : List ℕ) where
   -- ---- "1 and 4 as in 01, then 9 TALLY when a figure would pass 2^64 − 1"
@@ -72,3 +83,10 @@ module _ (s t : List ℕ) where
     done-adds =
         by-report s t (λ (r : Report). r .answer ≡ DONE → (j : ℕ) → j < 23 → getD (r .tally) j 0 ≡ sumAt s t j) (λ e z. absurd (omega arith))
         (λ e f z. absurd (omega arith)) (λ e f g z. absurd (omega arith)) (λ e f g z. after-at s t long)
+
+    -- ---- a tally that has these laws has them after the call
+
+    pub sums-kept : AddsUp t → AddsUp (reportStep s t .tally)
+    sums-kept h =
+        by-report s t (λ (r : Report). AddsUp (r .tally)) (λ e. h) (λ e f. h) (λ e f g. h)
+        (λ e f g. added-sum t (figures (segView s)) long h (sums s e (pages-sound s f)))
