@@ -4,6 +4,7 @@ use mathlib.Core.Path.{_≡_}
 use mathlib.Core.Bool.{true, false}
 use mathlib.Core.List.{List}
 use lib.ListN.{length, getD}
+use Rattle.store.specs.Numbers.{sum}
 use Rattle.store.specs.Page.{view, sound}
 use Rattle.store.specs.Segment.{segView, pageOf}
 use Rattle.store.specs.Report.{figures}
@@ -44,6 +45,11 @@ usedIn t = pagesIn t - freshIn t
 pub record AddsUp (t : List ℕ) : Type 0 where
   pub fresh : freshIn t ≤ pagesIn t
   pub sums : 12 * usedIn t + 8 * slotsIn t + recordBytesIn t + 8 * forwardedIn t + freeIn t ≡ 16384 * usedIn t
+
+-- "the 16 class figures sum to pages; class 0 is fresh pages"
+pub record ClassesAddUp (t : List ℕ) : Type 0 where
+  pub all : sum 16 (λ c. classAt c t) ≡ pagesIn t
+  pub fresh : classAt 0 t ≡ freshIn t
 
 -- ---- what a call meets
 

@@ -4,19 +4,23 @@ use mathlib.Core.Path.{_≡_, refl, sym, ap, _∙_}
 use mathlib.Core.Bool.{Bool, true, false, cond, not, _&&_}
 use mathlib.Core.List.{List, [], _∷_}
 use native.Mathlib.Omega.{arith}
+use native.Mathlib.Decide.{ℕ-discrete}
 use lib.ListN.{length, getD}
-use lib.Dec.{ltb}
-use borrow.Author.Tests.{ltb-true, ltb-false, lt-ltb}
+use lib.Dec.{eqb, ltb}
+use borrow.Author.Tests.{ltb-true, ltb-false, lt-ltb, eq-eqb, ne-eqb}
 use Rattle.store.specs.Numbers.{sum, all}
 use Rattle.store.specs.Slots.{len, isTarget}
 use Rattle.store.specs.Page.{View, view, fresh, sound}
+use Rattle.store.specs.Inventory.{classOf}
 use Rattle.store.specs.Refusals.{DONE, SIZE, DAMAGED, TALLY}
 use Rattle.store.specs.Segment.{SegView, segView, pageOf, sizeOk}
-use Rattle.store.specs.Report.{one, freshOf, slotsOf, bytesIn, bytesOf, forwardedOf, freeOf, over, figuresTo, figures, added, allFit}
+use Rattle.store.specs.SoundSegment.{nibbleOf}
+use Rattle.store.specs.Report.{one, freshOf, slotsOf, bytesIn, bytesOf, forwardedOf, freeOf, ofClass, over, figuresTo, figures, added, allFit}
 use Rattle.store.specs.Report.{Report, report, allSound, reportStep}
-use Rattle.store.specs.ReportTold.{AddsUp, PagesSound, Damage, sumAt, Passes}
-use Rattle.store.specs.Laws.Cases.{never, false-by}
-use Rattle.store.specs.Laws.Views.{Sound, sum-zero}
+use Rattle.store.specs.ReportTold.{classAt, AddsUp, ClassesAddUp, PagesSound, Damage, sumAt, Passes}
+use Rattle.store.specs.Laws.Cases.{by-test, never, false-by}
+use Rattle.store.specs.Laws.Views.{Sound, sum-ext, sum-zero, sum-add, sum-turn}
+use Rattle.store.specs.Laws.Classes.{class-low, class-top}
 use Rattle.store.specs.Laws.SoundPage.{and-both, and-in, all-at, all-in, fresh-none, sound-opened}
 use Rattle.store.specs.Laws.Segments.{length-page}
 use Rattle.store.specs.Laws.SoundSegment.{sized, open-sound, seen-page, seen-pages}
@@ -79,6 +83,42 @@ figures-sum u h =
     let n = u .pages in
     record { fresh = omega (arith, used-and-fresh u n, pages-all n); sums = omega (arith, segment-sums u n h, used-and-fresh u n, pages-all n) }
 
+-- ---- classes
+
+-- one class of m is k
+class-one : (m k : ℕ) → k < m → sum m (λ c. one (eqb k c)) ≡ 1
+class-one zero k l = absurd (omega arith)
+class-one (suc m) k l = go (class-one m k) (ℕ-discrete k m)
+  where
+    go : (k < m → sum m (λ c. one (eqb k c)) ≡ 1) → Dec (k ≡ m) → one (eqb k m) + sum m (λ c. one (eqb k c)) ≡ 1
+    go ih (yes e) =
+        rw (eq-eqb k m e) (omega (arith, sum-zero m (λ c. one (eqb k c)) (λ c h. ap one (ne-eqb k c (λ (q : k ≡ c). absurd (omega arith))))))
+    go ih (no n) = rw (ne-eqb k m n) (omega (arith, ih (omega arith)))
+
+nibble-small : (v : View) → nibbleOf v < 16
+nibble-small v = by-test (λ (c : ℕ). c < 16) (fresh v) 0 (classOf (16372 - v .freeSpace)) (λ e. omega arith)
+    (λ e. omega (arith, class-top (16372 - v .freeSpace)))
+
+class-fresh : (v : View) → ofClass 0 v ≡ freshOf v
+class-fresh v = go (fresh v)
+  where
+    c : ℕ
+    c = classOf (16372 - v .freeSpace)
+
+    go : (b : Bool) → one (eqb (cond b 0 c) 0) ≡ one b
+    go true = refl
+    go false = ap one (ne-eqb c 0 (λ (q : c ≡ 0). absurd (omega (arith, class-low (16372 - v .freeSpace)))))
+
+pub figures-classes : (u : SegView) → ClassesAddUp (figures u)
+unfolding figuresTo
+figures-classes u =
+    let n = u .pages in
+    record {
+      all = sum-turn 16 n (λ c p. ofClass c (u .page p)) ∙ sum-ext n (λ p. sum 16 (λ c. ofClass c (u .page p))) (λ p. 1)
+          (λ p l. class-one 16 (nibbleOf (u .page p)) (nibble-small (u .page p)));
+      fresh = sum-ext n (λ p. ofClass 0 (u .page p)) (λ p. freshOf (u .page p)) (λ p l. class-fresh (u .page p));
+    }
+
 -- ---- figures added
 
 pub getD-added : (t x : List ℕ) (j : ℕ) → j < length t → getD (added t x) j 0 ≡ getD t j 0 + getD x j 0
@@ -97,6 +137,15 @@ module _ (t x : List ℕ) (long : length t ≡ 23) where
       let forwarded = getD-added t x 5 (omega arith) in
       let free = getD-added t x 6 (omega arith) in
       record { fresh = omega arith; sums = omega arith }
+
+  pub added-classes : ClassesAddUp t → ClassesAddUp x → ClassesAddUp (added t x)
+  added-classes a b =
+      record {
+        all =
+            sum-ext 16 (λ c. classAt c (added t x)) (λ c. classAt c t + classAt c x) (λ c l. getD-added t x (7 + c) (omega arith))
+            ∙ sum-add 16 (λ c. classAt c t) (λ c. classAt c x) ∙ omega (arith, a .all, b .all, getD-added t x 0 (omega arith));
+        fresh = omega (arith, getD-added t x 7 (omega arith), getD-added t x 1 (omega arith), a .fresh, b .fresh);
+      }
 
 pub length-added : (t x : List ℕ) → length (added t x) ≡ length t
 length-added [] x = refl

@@ -10,8 +10,8 @@ use lib.ListN.{length, getD}
 use Rattle.store.specs.Refusals.{DONE, SIZE, DAMAGED, TALLY}
 use Rattle.store.specs.Segment.{SegView, segView, sizeOk}
 use Rattle.store.specs.Report.{figuresTo, figures, Report, reportStep}
-use Rattle.store.specs.ReportTold.{pagesIn, AddsUp, PagesSound, Damage, sumAt, Passes}
-use Rattle.store.specs.Laws.Report.{pages-all, figures-sum, added-sum, length-added, pages-sound, sound-pages, damage}
+use Rattle.store.specs.ReportTold.{pagesIn, AddsUp, ClassesAddUp, PagesSound, Damage, sumAt, Passes}
+use Rattle.store.specs.Laws.Report.{pages-all, figures-sum, figures-classes, added-sum, added-classes, length-added, pages-sound, sound-pages, damage}
 use Rattle.store.specs.Laws.Report.{damaged, seen-sounds, on-size, on-damage, on-tally, on-done, by-report, after-at, all-fits, fits-all, not-all}
 use Rattle.store.specs.Laws.Report.{all-not-fit}
 
@@ -21,10 +21,13 @@ use Rattle.store.specs.Laws.Report.{all-not-fit}
 pub sums : (s : List ℕ) → sizeOk s ≡ true → PagesSound s → AddsUp (figures (segView s))
 sums s e h = figures-sum (segView s) (seen-sounds s e h)
 
--- "pages" is n
+-- "pages" is n; "the 16 class figures sum to pages; class 0 is fresh pages", damaged pages too
 pub counts-pages : (u : SegView) → pagesIn (figures u) ≡ u .pages
 unfolding figuresTo
 counts-pages u = pages-all (u .pages)
+
+pub classes : (u : SegView) → ClassesAddUp (figures u)
+classes = figures-classes
 
 module _ (s t : List ℕ) where
   -- ---- "1 and 4 as in 01, then 9 TALLY when a figure would pass 2^64 − 1"
@@ -90,3 +93,8 @@ module _ (s t : List ℕ) where
     sums-kept h =
         by-report s t (λ (r : Report). AddsUp (r .tally)) (λ e. h) (λ e f. h) (λ e f g. h)
         (λ e f g. added-sum t (figures (segView s)) long h (sums s e (pages-sound s f)))
+
+    pub classes-kept : ClassesAddUp t → ClassesAddUp (reportStep s t .tally)
+    classes-kept h =
+        by-report s t (λ (r : Report). ClassesAddUp (r .tally)) (λ e. h) (λ e f. h) (λ e f g. h)
+        (λ e f g. added-classes t (figures (segView s)) long h (classes (segView s)))
