@@ -1,13 +1,15 @@
 -- What is said of the fill report's tally: its 23 numbers by name (Promises/ReportScan, ReportInventory and others).
 use Prim.Native.Nat.{ℕ, _+_, _-_, _*_, _/_, _^_, _≤_, _<_}
 use mathlib.Core.Path.{_≡_}
-use mathlib.Core.Bool.{true, false}
-use mathlib.Core.List.{List}
+use mathlib.Core.Bool.{true, false, cond}
+use mathlib.Core.List.{List, [], _∷_}
 use lib.ListN.{length, getD}
-use Rattle.store.specs.Numbers.{sum}
+use lib.Dec.{eqb}
+use Rattle.store.specs.Numbers.{zeros, sum}
 use Rattle.store.specs.Page.{view, sound}
+use Rattle.store.specs.Refusals.{DONE}
 use Rattle.store.specs.Segment.{segView, pageOf}
-use Rattle.store.specs.Report.{figures}
+use Rattle.store.specs.Report.{figures, added, reportStep}
 
 -- ---- the figures of a tally, in its order
 
@@ -70,3 +72,32 @@ pub record Passes (s t : List ℕ) : Type 0 where
   pub figure : ℕ
   pub of : figure < 23
   pub past : 2 ^ 64 ≤ sumAt s t figure
+
+-- ---- "exact figures over any number of segments": one call for each, on one tally
+
+-- the tally that the calls leave, one after the other
+abbrev pub tallyAfter : List (List ℕ) → List ℕ → List ℕ
+tallyAfter [] t = t
+tallyAfter (s ∷ ss) t = tallyAfter ss (reportStep s t .tally)
+
+-- each of them answers 0
+abbrev pub AllDone : List (List ℕ) → List ℕ → Type 0
+AllDone [] t = Unit {0}
+AllDone (s ∷ ss) t = (reportStep s t .answer ≡ DONE) × AllDone ss (reportStep s t .tally)
+
+-- the segments whose calls answer 0
+abbrev pub counted : List (List ℕ) → List ℕ → List (List ℕ)
+counted [] t = []
+counted (s ∷ ss) t = let r = counted ss (reportStep s t .tally) in cond (eqb (reportStep s t .answer) DONE) (s ∷ r) r
+
+-- "the sum of the segments' figures"
+abbrev pub total : List (List ℕ) → List ℕ
+total [] = zeros 23
+total (s ∷ ss) = added (figures (segView s)) (total ss)
+
+-- "in any order"
+pub data Permuted : List (List ℕ) → List (List ℕ) → Type 0 where
+  nil : Permuted [] []
+  keep : {s : List ℕ} {ss rs : List (List ℕ)} → Permuted ss rs → Permuted (s ∷ ss) (s ∷ rs)
+  swap : {s r : List ℕ} {ss : List (List ℕ)} → Permuted (s ∷ r ∷ ss) (r ∷ s ∷ ss)
+  then : {ss rs qs : List (List ℕ)} → Permuted ss rs → Permuted rs qs → Permuted ss qs

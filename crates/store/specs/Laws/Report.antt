@@ -1,29 +1,32 @@
 -- The fill report: what its figures come to, and how they are added.
-use Prim.Native.Nat.{ℕ, zero, suc, _+_, _-_, _*_, _^_, _≤_, _<_}
-use mathlib.Core.Path.{_≡_, refl, sym, ap, _∙_}
+use Prim.Native.Nat.{ℕ, zero, suc, _+_, _-_, _*_, _/_, _%_, _^_, _≤_, _<_}
+use mathlib.Core.Path.{_≡_, refl, sym, ap, _∙_, subst}
 use mathlib.Core.Bool.{Bool, true, false, cond, not, _&&_}
-use mathlib.Core.List.{List, [], _∷_}
+use mathlib.Core.List.{List, [], _∷_, _++_, map}
 use native.Mathlib.Omega.{arith}
-use native.Mathlib.Decide.{ℕ-discrete}
-use lib.ListN.{length, getD}
+use native.Mathlib.Nat.{add-zero, add-assoc}
+use native.Mathlib.Decide.{ℕ-discrete, decLt}
+use lib.ListN.{length, getD, length-append}
 use lib.Dec.{eqb, ltb}
 use borrow.Author.Tests.{ltb-true, ltb-false, lt-ltb, eq-eqb, ne-eqb}
-use Rattle.store.specs.Numbers.{sum, all}
+use Rattle.store.specs.Numbers.{zeros, sum, all}
 use Rattle.store.specs.Slots.{len, isTarget}
 use Rattle.store.specs.Page.{View, view, fresh, sound}
+use Rattle.store.specs.PageSteps.{opened}
 use Rattle.store.specs.Inventory.{classOf}
 use Rattle.store.specs.Refusals.{DONE, SIZE, DAMAGED, TALLY}
 use Rattle.store.specs.Segment.{SegView, segView, pageOf, sizeOk}
 use Rattle.store.specs.SoundSegment.{nibbleOf}
-use Rattle.store.specs.Report.{one, freshOf, slotsOf, bytesIn, bytesOf, forwardedOf, freeOf, ofClass, over, figuresTo, figures, added, allFit}
+use Rattle.store.specs.Report.{one, freshOf, slotsOf, bytesIn, bytesOf, forwardedOf, freeOf, ofClass, meanings, over, figuresTo, figures, added, allFit}
 use Rattle.store.specs.Report.{Report, report, allSound, reportStep}
-use Rattle.store.specs.ReportTold.{classAt, AddsUp, ClassesAddUp, PagesSound, Damage, sumAt, Passes}
+use Rattle.store.specs.ReportTold.{classAt, AddsUp, ClassesAddUp, PagesSound, Damage, sumAt, Passes, tallyAfter, AllDone}
+use Rattle.store.specs.ReportTold.{counted, total, Permuted, nil, keep, swap, then}
 use Rattle.store.specs.Laws.Cases.{by-test, never, false-by}
-use Rattle.store.specs.Laws.Views.{Sound, sum-ext, sum-zero, sum-add, sum-turn}
+use Rattle.store.specs.Laws.Views.{Sound, sum-ext, sum-zero, sum-add, sum-turn, sum-join}
 use Rattle.store.specs.Laws.Classes.{class-low, class-top}
 use Rattle.store.specs.Laws.SoundPage.{and-both, and-in, all-at, all-in, fresh-none, sound-opened}
-use Rattle.store.specs.Laws.Segments.{length-page}
-use Rattle.store.specs.Laws.SoundSegment.{sized, open-sound, seen-page, seen-pages}
+use Rattle.store.specs.Laws.Segments.{length-page, page-first, page-second}
+use Rattle.store.specs.Laws.SoundSegment.{sized, right-size, open-sound, seen-page, seen-pages}
 
 -- ---- the sum law of a page
 
@@ -267,3 +270,175 @@ module _ (s t : List ℕ) where
 
     pub all-not-fit : Passes s t → allFit after ≡ false
     all-not-fit p = false-by (allFit after) (λ e. omega (arith, all-fits e (p .figure) (p .of)))
+
+-- ---- calls one after the other
+
+added-zeros : (t : List ℕ) (n : ℕ) → added t (zeros n) ≡ t
+added-zeros [] n = refl
+added-zeros (a ∷ t) zero = refl
+added-zeros (a ∷ t) (suc n) = λ i. add-zero a i ∷ added-zeros t n i
+
+pub added-assoc : (t x y : List ℕ) → length x ≡ length y → added (added t x) y ≡ added t (added x y)
+added-assoc [] x y e = refl
+added-assoc (a ∷ t) [] [] e = refl
+added-assoc (a ∷ t) [] (c ∷ y) e = absurd (omega arith)
+added-assoc (a ∷ t) (b ∷ x) [] e = refl
+added-assoc (a ∷ t) (b ∷ x) (c ∷ y) e = λ i. add-assoc a b c i ∷ added-assoc t x y (omega arith) i
+
+added-swap : (t x y : List ℕ) → added (added t x) y ≡ added (added t y) x
+added-swap [] x y = refl
+added-swap (a ∷ t) [] [] = refl
+added-swap (a ∷ t) [] (c ∷ y) = refl
+added-swap (a ∷ t) (b ∷ x) [] = refl
+added-swap (a ∷ t) (b ∷ x) (c ∷ y) = let e : a + b + c ≡ a + c + b = omega arith in λ i. e i ∷ added-swap t x y i
+
+-- figures only rise
+pub fits-less : (t x : List ℕ) → allFit (added t x) ≡ true → allFit t ≡ true
+fits-less [] x e = refl
+fits-less (a ∷ t) [] e = e
+fits-less (a ∷ t) (b ∷ x) e =
+    let r = and-both (ltb (a + b) (2 ^ 64)) (allFit (added t x)) e in
+    and-in (ltb a (2 ^ 64)) (allFit t) (lt-ltb a (2 ^ 64) (omega (arith, ltb-true (a + b) (2 ^ 64) (r .0)))) (fits-less t x (r .1))
+
+length-total : (ss : List (List ℕ)) → length (total ss) ≡ 23
+length-total [] = refl
+length-total (s ∷ ss) = length-added (figures (segView s)) (total ss) ∙ length-figures (segView s)
+
+-- a run of any calls: those that are refused add nothing
+pub run-adds : (ss : List (List ℕ)) (t : List ℕ) → tallyAfter ss t ≡ added t (total (counted ss t))
+run-adds [] t = sym (added-zeros t 23)
+run-adds (s ∷ ss) t =
+    by-report s t
+    (λ (r : Report). tallyAfter ss (r .tally) ≡ added t (total (cond (eqb (r .answer) DONE) (s ∷ counted ss (r .tally)) (counted ss (r .tally)))))
+    (λ e. run-adds ss t) (λ e f. run-adds ss t) (λ e f g. run-adds ss t)
+    (λ e f g.
+    run-adds ss (after s t)
+    ∙ added-assoc t (figures (segView s)) (total (counted ss (after s t))) (length-figures (segView s) ∙ sym (length-total (counted ss (after s t)))))
+
+pub all-counted : (ss : List (List ℕ)) (t : List ℕ) → AllDone ss t → counted ss t ≡ ss
+all-counted [] t d = refl
+all-counted (s ∷ ss) t d = rw (eq-eqb (reportStep s t .answer) DONE (d .0)) (ap (λ (r : List (List ℕ)). s ∷ r) (all-counted ss (reportStep s t .tally) (d .1)))
+
+-- what an answer 0 tells
+pub record Done (s t : List ℕ) : Type 0 where
+  pub size : sizeOk s ≡ true
+  pub pages : allSound (segView s) ≡ true
+  pub fits : allFit (after s t) ≡ true
+
+pub done-tells : (s t : List ℕ) → reportStep s t .answer ≡ DONE → Done s t
+done-tells s t =
+    by-report s t (λ (r : Report). r .answer ≡ DONE → Done s t) (λ e z. absurd (omega arith)) (λ e f z. absurd (omega arith))
+    (λ e f g z. absurd (omega arith)) (λ e f g z. record { size = e; pages = f; fits = g })
+
+pub tells-done : (s t : List ℕ) → Done s t → reportStep s t ≡ report DONE (after s t)
+tells-done s t d = on-done s t (d .size) (d .pages) (d .fits)
+
+-- two calls the other way round
+module _ (a b t : List ℕ) (d : reportStep a t .answer ≡ DONE) (e : reportStep b (reportStep a t .tally) .answer ≡ DONE) where
+  first : reportStep a t ≡ report DONE (after a t)
+  first = tells-done a t (done-tells a t d)
+
+  second : Done b (after a t)
+  second = subst (λ (r : Report). Done b (r .tally)) first (done-tells b (reportStep a t .tally) e)
+
+  both-fit : allFit (after a (after b t)) ≡ true
+  both-fit = ap allFit (added-swap t (figures (segView b)) (figures (segView a))) ∙ second .fits
+
+  other-first : reportStep b t ≡ report DONE (after b t)
+  other-first = tells-done b t (record { size = second .size; pages = second .pages; fits = fits-less (after b t) (figures (segView a)) both-fit })
+
+  other-second : reportStep a (after b t) ≡ report DONE (after a (after b t))
+  other-second = let f = done-tells a t d in tells-done a (after b t) (record { size = f .size; pages = f .pages; fits = both-fit })
+
+  pub swapped-first : reportStep b t .answer ≡ DONE
+  swapped-first = ap (λ (r : Report). r .answer) other-first
+
+  pub swapped-second : reportStep a (reportStep b t .tally) .answer ≡ DONE
+  swapped-second = rw other-first (ap (λ (r : Report). r .answer) other-second)
+
+  pub swapped-same : reportStep a (reportStep b t .tally) .tally ≡ reportStep b (reportStep a t .tally) .tally
+  swapped-same =
+      (λ i. reportStep a (other-first i .tally) .tally) ∙ ap (λ (r : Report). r .tally) other-second
+      ∙ added-swap t (figures (segView b)) (figures (segView a))
+      ∙ sym ((λ i. reportStep b (first i .tally) .tally) ∙ ap (λ (r : Report). r .tally) (tells-done b (after a t) second))
+
+pub permuted : {ss rs : List (List ℕ)} → Permuted ss rs → (t : List ℕ) → AllDone ss t → AllDone rs t × (tallyAfter rs t ≡ tallyAfter ss t)
+permuted nil t d = (d, refl)
+permuted (keep {s = s} p) t d = let r = permuted p (reportStep s t .tally) (d .1) in ((d .0, r .0), r .1)
+permuted (swap {s = a} {r = b} {ss = ss}) t d =
+    let same = swapped-same a b t (d .0) (d .1 .0) in
+    ((swapped-first a b t (d .0) (d .1 .0), (swapped-second a b t (d .0) (d .1 .0), subst (AllDone ss) (sym same) (d .1 .1))), ap (tallyAfter ss) same)
+permuted (then p q) t d = let x = permuted p t d in let y = permuted q t (x .0) in (y .0, y .1 ∙ x .1)
+
+-- ---- a segment's first pages and its last
+
+-- figures over the pages of u are those over the pages of v and of w, one by one
+over-both : (u v w : SegView) (n m : ℕ) → ((p : ℕ) → p < n → u .page p ≡ v .page p) → ((p : ℕ) → p < m → u .page (n + p) ≡ w .page p) → (f : View → ℕ)
+    → over u (n + m) f ≡ over v n f + over w m f
+over-both u v w n m a b f =
+    let x = sum-ext n (λ p. f (u .page p)) (λ p. f (v .page p)) (λ p l. ap f (a p l)) in
+    let y = sum-ext m (λ p. f (u .page (n + p))) (λ p. f (w .page p)) (λ p l. ap f (b p l)) in
+    omega (arith, sum-join n m (λ p. f (u .page p)))
+
+map-both : (f g h : (View → ℕ) → ℕ) → ((x : View → ℕ) → f x ≡ g x + h x) → (xs : List (View → ℕ)) → map f xs ≡ added (map g xs) (map h xs)
+map-both f g h e [] = refl
+map-both f g h e (x ∷ xs) = λ i. e x i ∷ map-both f g h e xs i
+
+module _ (s r : List ℕ) (a : length s % 16384 ≡ 0) (b : length r % 16384 ≡ 0) where
+  pub first-page : (p : ℕ) → p < length s / 16384 → pageOf (s ++ r) p ≡ pageOf s p
+  first-page p l = page-first s r p (omega arith)
+
+  pub last-page : (p : ℕ) → pageOf (s ++ r) (length s / 16384 + p) ≡ pageOf r p
+  last-page p = page-second s r (length s / 16384) p (omega arith)
+
+  pub page-sum : length (s ++ r) / 16384 ≡ length s / 16384 + length r / 16384
+  page-sum = omega (arith, length-append s r)
+
+  pub joined-figures : figures (segView (s ++ r)) ≡ added (figures (segView s)) (figures (segView r))
+  unfolding figuresTo segView
+  joined-figures =
+      let n = length s / 16384 in
+      let m = length r / 16384 in
+      ap (λ (k : ℕ). map (over (segView (s ++ r)) k) meanings) page-sum
+      ∙ map-both (over (segView (s ++ r)) (n + m)) (over (segView s) n) (over (segView r) m)
+      (over-both (segView (s ++ r)) (segView s) (segView r) n m (λ p l. ap (λ (q : List ℕ). opened (view q)) (first-page p l))
+      (λ p l. ap (λ (q : List ℕ). opened (view q)) (last-page p))) meanings
+
+  pub both-after : (t : List ℕ) → after (s ++ r) t ≡ after r (after s t)
+  both-after t =
+      ap (added t) joined-figures
+      ∙ sym (added-assoc t (figures (segView s)) (figures (segView r)) (length-figures (segView s) ∙ sym (length-figures (segView r))))
+
+  -- the one call answers 0 exactly if the two do
+  pub done-parts : (t : List ℕ) → Done (s ++ r) t → Done s t × Done r (after s t)
+  done-parts t d =
+      let few = sized (s ++ r) (d .size) .few in
+      let h = pages-sound (s ++ r) (d .pages) in
+      let fits : allFit (after r (after s t)) ≡ true = ap allFit (sym (both-after t)) ∙ d .fits in (
+        record {
+          size = right-size s a (omega (arith, page-sum));
+          pages = sound-pages s (λ p l. ap (λ (q : List ℕ). sound (view q)) (sym (first-page p l)) ∙ h p (omega (arith, page-sum)));
+          fits = fits-less (after s t) (figures (segView r)) fits;
+        },
+        record {
+          size = right-size r b (omega (arith, page-sum));
+          pages = sound-pages r (λ p l. ap (λ (q : List ℕ). sound (view q)) (sym (last-page p)) ∙ h (length s / 16384 + p) (omega (arith, page-sum)));
+          fits = fits;
+        },
+      )
+
+  pub parts-done : (t : List ℕ) → length s / 16384 + length r / 16384 ≤ 32527 → Done s t → Done r (after s t) → Done (s ++ r) t
+  parts-done t few d e =
+      record {
+        size = right-size (s ++ r) (omega (arith, length-append s r)) (omega (arith, page-sum));
+        pages = sound-pages (s ++ r) (λ p l. each p l (decLt p (length s / 16384)));
+        fits = ap allFit (both-after t) ∙ e .fits;
+      }
+    where
+      each : (p : ℕ) → p < length (s ++ r) / 16384 → Dec (p < length s / 16384) → sound (view (pageOf (s ++ r) p)) ≡ true
+      each p l (yes h) = ap (λ (q : List ℕ). sound (view q)) (first-page p h) ∙ pages-sound s (d .pages) p h
+      each p l (no h) =
+          let n = length s / 16384 in
+          let k : p ≡ n + (p - n) = omega arith in
+          ap (λ (q : ℕ). sound (view (pageOf (s ++ r) q))) k
+          ∙ ap (λ (q : List ℕ). sound (view q)) (last-page (p - n)) ∙ pages-sound r (e .pages) (p - n) (omega (arith, page-sum))

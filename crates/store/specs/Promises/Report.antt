@@ -1,19 +1,22 @@
 -- Document 02, "Fill report over the whole archive": what the figures of a segment come to, what a call does to the tally that it is lent, and
 -- when it gives each answer. For all bytes, damaged ones too. A tally is 23 numbers, whatever they are.
-use Prim.Native.Nat.{ℕ, _+_, _^_, _<_}
-use mathlib.Core.Path.{_≡_, refl, ap}
+use Prim.Native.Nat.{ℕ, _+_, _%_, _^_, _<_}
+use mathlib.Core.Path.{_≡_, refl, sym, ap, _∙_, subst}
 use mathlib.Core.Bool.{true, false}
-use mathlib.Core.List.{List}
+use mathlib.Core.List.{List, [], _∷_, _++_}
 use mathlib.Core.Logic.{_↔_, _≢_, _⊎_, inl, inr}
 use native.Mathlib.Omega.{arith}
 use lib.ListN.{length, getD}
+use Rattle.store.specs.Numbers.{zeros}
 use Rattle.store.specs.Refusals.{DONE, SIZE, DAMAGED, TALLY}
 use Rattle.store.specs.Segment.{SegView, segView, sizeOk}
-use Rattle.store.specs.Report.{figuresTo, figures, Report, reportStep}
-use Rattle.store.specs.ReportTold.{pagesIn, AddsUp, ClassesAddUp, PagesSound, Damage, sumAt, Passes}
+use Rattle.store.specs.Report.{figuresTo, figures, added, Report, reportStep}
+use Rattle.store.specs.ReportTold.{pagesIn, AddsUp, ClassesAddUp, PagesSound, Damage, sumAt, Passes, tallyAfter, AllDone, counted, total, Permuted}
+use Rattle.store.specs.Laws.SoundSegment.{sized}
 use Rattle.store.specs.Laws.Report.{pages-all, figures-sum, figures-classes, added-sum, added-classes, length-added, pages-sound, sound-pages, damage}
 use Rattle.store.specs.Laws.Report.{damaged, seen-sounds, on-size, on-damage, on-tally, on-done, by-report, after-at, all-fits, fits-all, not-all}
-use Rattle.store.specs.Laws.Report.{all-not-fit}
+use Rattle.store.specs.Laws.Report.{all-not-fit, after, run-adds, all-counted, Done, done-tells, tells-done, permuted, page-sum, joined-figures}
+use Rattle.store.specs.Laws.Report.{both-after, done-parts, parts-done}
 
 -- ---- the figures of a segment
 
@@ -98,3 +101,48 @@ module _ (s t : List ℕ) where
     classes-kept h =
         by-report s t (λ (r : Report). ClassesAddUp (r .tally)) (λ e. h) (λ e f. h) (λ e f g. h)
         (λ e f g. added-classes t (figures (segView s)) long h (classes (segView s)))
+
+-- ---- "exact figures over any number of segments"
+
+-- so does any run of calls; and a tally that is set to 0 before the first has them
+pub laws-kept : (ss : List (List ℕ)) (t : List ℕ) → length t ≡ 23 → AddsUp t → ClassesAddUp t → AddsUp (tallyAfter ss t) × ClassesAddUp (tallyAfter ss t)
+laws-kept [] t long a c = (a, c)
+laws-kept (s ∷ ss) t long a c = laws-kept ss (reportStep s t .tally) (length-kept s t ∙ long) (sums-kept s t long a) (classes-kept s t long c)
+
+pub from-zeros : (ss : List (List ℕ)) → AddsUp (tallyAfter ss (zeros 23)) × ClassesAddUp (tallyAfter ss (zeros 23))
+from-zeros ss = laws-kept ss (zeros 23) refl (record { fresh = omega arith; sums = refl }) (record { all = refl; fresh = refl })
+
+-- "The tally after many segments is the sum of the tallies of each"
+pub run-sums : (ss : List (List ℕ)) (t : List ℕ) → AllDone ss t → tallyAfter ss t ≡ added t (total ss)
+run-sums ss t d = run-adds ss t ∙ ap (λ (rs : List (List ℕ)). added t (total rs)) (all-counted ss t d)
+
+-- whichever calls are refused, it is the sum over the others
+pub run-counts : (ss : List (List ℕ)) (t : List ℕ) → tallyAfter ss t ≡ added t (total (counted ss t))
+run-counts = run-adds
+
+-- in any order: the calls answer 0 as well, and leave the same tally
+pub any-order : (ss rs : List (List ℕ)) → Permuted ss rs → (t : List ℕ) → AllDone ss t → AllDone rs t × (tallyAfter rs t ≡ tallyAfter ss t)
+any-order ss rs = permuted
+
+-- "a segment of a + b pages counts as its first a pages and its last b"
+module _ (s r : List ℕ) (a : length s % 16384 ≡ 0) (b : length r % 16384 ≡ 0) where
+  pub parts-count : figures (segView (s ++ r)) ≡ added (figures (segView s)) (figures (segView r))
+  parts-count = joined-figures s r a b
+
+  -- a call for both answers 0 exactly if one for each does, and leaves the same
+  pub parts-called : (t : List ℕ) → sizeOk (s ++ r) ≡ true → (reportStep (s ++ r) t .answer ≡ DONE) ↔ AllDone (s ∷ r ∷ []) t
+  parts-called t e = (
+    λ d. let p = done-parts s r a b t (done-tells (s ++ r) t d) in
+        let f = tells-done s t (p .0) in
+        (ap (λ (x : Report). x .answer) f, (rw f (ap (λ (x : Report). x .answer) (tells-done r (after s t) (p .1))), tt)),
+    λ d. let f = done-tells s t (d .0) in
+        let g = subst (λ (x : Report). Done r (x .tally)) (tells-done s t f) (done-tells r (reportStep s t .tally) (d .1 .0)) in
+        ap (λ (x : Report). x .answer) (tells-done (s ++ r) t (parts-done s r a b t (omega (arith, page-sum s r a b, sized (s ++ r) e .few)) f g)),
+  )
+
+  pub parts-left : (t : List ℕ) → reportStep (s ++ r) t .answer ≡ DONE → tallyAfter (s ∷ r ∷ []) t ≡ reportStep (s ++ r) t .tally
+  parts-left t d =
+      let w = done-tells (s ++ r) t d in
+      let p = done-parts s r a b t w in
+      (λ i. reportStep r (tells-done s t (p .0) i .tally) .tally) ∙ ap (λ (x : Report). x .tally) (tells-done r (after s t) (p .1))
+      ∙ sym (both-after s r a b t) ∙ ap (λ (x : Report). x .tally) (sym (tells-done (s ++ r) t w))
