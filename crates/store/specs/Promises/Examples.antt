@@ -24,7 +24,7 @@ into n v = go (allocate v n)
     go noRoom = v
     go (got k a) = a .after
 
-without : ℕ → View → View
+unfoldable pub without : ℕ → View → View
 without k v = erase v k .after
 
 -- count, first free, data start and free space
@@ -56,27 +56,27 @@ onHoled v = packed v ∷ unpacked v ∷ []
 
 -- ---- a segment: what is seen of it, and the inventory
 
-record State : Type 0 where
-  seen : SegView
-  inv : List ℕ
+pub record State : Type 0 where
+  pub seen : SegView
+  pub inv : List ℕ
 
 -- n fresh pages, and an inventory all zero
-start : ℕ → State
+unfoldable pub start : ℕ → State
 start n = record { seen = record { pages = n; page = λ p. initialised }; inv = zeros 16384 }
 
-did : State → (SegView → List ℕ → Out) → Out
+unfoldable pub did : State → (SegView → List ℕ → Out) → Out
 did s plan = plan (s .seen) (s .inv)
 
-then : State → (SegView → List ℕ → Out) → State
+unfoldable pub then : State → (SegView → List ℕ → Out) → State
 then s plan = record { seen = settled (did s plan .steps) (s .seen); inv = did s plan .inv }
 
 -- "n = 3: insert 16,000 at (0,0), 100 at (1,0), 12,000 at (1,1)."
-three : State
+unfoldable pub three : State
 three = then (then (then (start 3) (λ u v. insertPlan foundIn u v (zeros 16000))) (λ u v. insertPlan foundIn u v (zeros 100)))
     (λ u v. insertPlan foundIn u v (zeros 12000))
 
 -- "Write 5,000 to (1,0)"
-forwarded : State
+unfoldable pub forwarded : State
 forwarded = then three (λ u v. writePlan foundIn u v (idOf 1 0) (zeros 5000))
 
 -- "16,365: 3."

@@ -3,14 +3,16 @@
 use Prim.Native.Nat.{ℕ, _+_, _%_, _^_, _<_}
 use mathlib.Core.Path.{_≡_, refl, sym, ap, _∙_, subst}
 use mathlib.Core.Bool.{true, false}
-use mathlib.Core.List.{List, [], _∷_, _++_}
+use mathlib.Core.List.{List, [], _∷_, _++_, map}
 use mathlib.Core.Logic.{_↔_, _≢_, _⊎_, inl, inr}
 use native.Mathlib.Omega.{arith}
 use lib.ListN.{length, getD}
 use Rattle.store.specs.Numbers.{zeros}
+use Rattle.store.specs.Page.{View, fresh}
+use Rattle.store.specs.PageSteps.{opened}
 use Rattle.store.specs.Refusals.{DONE, SIZE, DAMAGED, TALLY}
 use Rattle.store.specs.Segment.{SegView, segView, sizeOk}
-use Rattle.store.specs.Report.{figuresTo, figures, added, Report, reportStep}
+use Rattle.store.specs.Report.{meanings, figuresTo, figures, added, Report, reportStep}
 use Rattle.store.specs.ReportTold.{pagesIn, AddsUp, ClassesAddUp, PagesSound, Damage, sumAt, Passes, tallyAfter, AllDone, counted, total, Permuted}
 use Rattle.store.specs.Laws.SoundSegment.{sized}
 use Rattle.store.specs.Laws.Report.{pages-all, figures-sum, figures-classes, added-sum, added-classes, length-added, pages-sound, sound-pages, damage}
@@ -31,6 +33,10 @@ counts-pages u = pages-all (u .pages)
 
 pub classes : (u : SegView) → ClassesAddUp (figures u)
 classes = figures-classes
+
+-- "a fresh page adds 1 to pages, fresh pages and class 0 and nothing else, whatever its other bytes are"
+pub fresh-page : (v : View) → fresh v ≡ true → map (λ (f : View → ℕ). f (opened v)) meanings ≡ 1 ∷ 1 ∷ zeros 5 ++ (1 ∷ zeros 15)
+fresh-page v e = rw e
 
 module _ (s t : List ℕ) where
   -- ---- "1 and 4 as in 01, then 9 TALLY when a figure would pass 2^64 − 1"
