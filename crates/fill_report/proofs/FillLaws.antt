@@ -15,7 +15,7 @@ use Rattle.store.specs.Report.{one, over, meanings, figuresTo, added, allSound}
 use Rattle.store.specs.Answers.{numbers}
 use Rattle.store.specs.Laws.Cases.{never}
 use Rattle.store.specs.Laws.SoundPage.{and-in, all-at}
-use Rattle.store.specs.Laws.SoundSegment.{open-sound}
+use Rattle.store.specs.Laws.Report.{seen-same}
 use Rattle.store.specs.declared.Tally.{Tally}
 use Rattle.fill_report.specs.Words.{SmallFill, Fills, Filled, AtMost, classIs, counts}
 use Rattle.fill_report.specs.declared.page.Fill.{Fill}
@@ -58,10 +58,6 @@ zeros-most : (n : ℕ) → AtMost 0 (zeros n)
 zeros-most zero = tt
 zeros-most (suc n) = (omega arith, zeros-most n)
 
-seen : (s : List ℕ) (p : ℕ) → sound (segView s .page p) ≡ sound (view (pageOf s p))
-unfolding segView
-seen s p = open-sound (view (pageOf s p))
-
 module _ (s : List ℕ) where
   pub filled-none : (t : Tally) → numbers t ≡ zeros 23 → FilledTo s 0 t
   unfolding figuresTo
@@ -75,7 +71,7 @@ module _ (s : List ℕ) where
         → (r : Tally) → numbers r ≡ added (numbers t) (counts f) → FilledTo s (p + 1) r
     unfolding segView
     filled-more f g ok r e = record {
-      sounds = rw add-one (and-in (sound (segView s .page p)) (all p (λ q. sound (segView s .page q))) (seen s p ∙ ok) (h .sounds));
+      sounds = rw add-one (and-in (sound (segView s .page p)) (all p (λ q. sound (segView s .page q))) (seen-same s p ∙ ok) (h .sounds));
       tally = e ∙ ap (λ (l : List ℕ). added l (counts f)) (h .tally) ∙ figures-more (segView s) p g;
       most =
           subst (AtMost ((p + 1) * 65536)) (sym e)
@@ -87,7 +83,7 @@ module _ (s : List ℕ) where
   filled-stops p t l d = record { sound = go (allSound (segView s)) refl; tally = λ e. never e refl }
     where
       go : (b : Bool) → allSound (segView s) ≡ b → false ≡ b
-      go true h = never (all-at (segView s .pages) (λ q. sound (segView s .page q)) h p l) (seen s p ∙ d)
+      go true h = never (all-at (segView s .pages) (λ q. sound (segView s .page q)) h p l) (seen-same s p ∙ d)
       go false h = refl
 
   pub filled-all : (t : Tally) → FilledTo s (length s / 16384) t → Filled (segView s) record { sound = true; tally = t }

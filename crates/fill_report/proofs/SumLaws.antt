@@ -4,34 +4,23 @@ use mathlib.Core.Path.{_≡_, refl, sym, ap, _∙_}
 use mathlib.Core.Bool.{Bool, true, false, not, _&&_}
 use mathlib.Core.List.{List, [], _∷_}
 use mathlib.Core.Logic.{⊎-elim}
-use native.Mathlib.Nat.{not-suc-le-zero, le-of-suc-le-suc}
 use native.Mathlib.Numerals.{add-one}
 use native.Mathlib.Omega.{arith}
 use lib.ListN.{length, getD, set, drop}
 use lib.Seq.{ext-getD, getD-set-same, getD-set-other}
 use lib.Dec.{ltb, leb}
-use borrow.Author.Tests.{lt-ltb, le-ltb, le-leb, lt-leb, ltb-true, eq-eqb, ne-eqb, not-true, not-false}
+use borrow.Author.Tests.{lt-ltb, le-ltb, le-leb, lt-leb, eq-eqb, ne-eqb, not-true, not-false}
 use Rattle.store.specs.Report.{added, allFit}
 use Rattle.store.specs.Laws.Cases.{lt-or-le, eq-or-ne}
 use Rattle.store.specs.Laws.SoundPage.{and-both}
+use Rattle.store.specs.Laws.Report.{length-added, getD-added}
 use Rattle.fill_report.specs.Words.{AtMost, classIs}
 
 -- ---- the sum
 
-pub added-length : (xs ys : List ℕ) → length (added xs ys) ≡ length xs
-added-length [] ys = refl
-added-length (x ∷ xs) [] = refl
-added-length (x ∷ xs) (y ∷ ys) = ap suc (added-length xs ys)
-
-pub added-at : (xs ys : List ℕ) (i : ℕ) → i < length xs → getD (added xs ys) i 0 ≡ getD xs i 0 + getD ys i 0
-added-at [] ys i h = absurd (not-suc-le-zero h)
-added-at (x ∷ xs) [] i h = omega arith
-added-at (x ∷ xs) (y ∷ ys) zero h = refl
-added-at (x ∷ xs) (y ∷ ys) (suc i) h = added-at xs ys i (le-of-suc-le-suc h)
-
 -- a list that has each sum is theirs; one turn of the loop that writes it
 pub added-is : (xs ys r : List ℕ) → length r ≡ length xs → ((i : ℕ) → i < length xs → getD r i 0 ≡ getD xs i 0 + getD ys i 0) → r ≡ added xs ys
-added-is xs ys r l h = ext-getD 0 r (added xs ys) (l ∙ sym (added-length xs ys)) (λ i m. omega (arith, h i (omega arith), added-at xs ys i (omega arith)))
+added-is xs ys r l h = ext-getD 0 r (added xs ys) (l ∙ sym (length-added xs ys)) (λ i m. omega (arith, h i (omega arith), getD-added xs ys i (omega arith)))
 
 pub added-turn : (a b r : List ℕ) (i : ℕ) → i < length r → ((k : ℕ) → k < i → getD r k 0 ≡ getD a k 0 + getD b k 0)
     → (k : ℕ) → k < i + 1 → getD (set r i (getD a i 0 + getD b i 0)) k 0 ≡ getD a k 0 + getD b k 0
@@ -63,11 +52,6 @@ module _ {b : Bool} (l : List ℕ) (i : ℕ) (h : Passed l i) (e : b ≡ ltb (ge
 
   pub fit-out : not b ≡ true → false ≡ allFit l
   fit-out n = sym (h ∙ fit-turn l i ∙ rw (sym e ∙ not-true b n))
-
-pub fit-at : (xs : List ℕ) (i : ℕ) → allFit xs ≡ true → getD xs i 0 < 2 ^ 64
-fit-at [] i e = omega arith
-fit-at (x ∷ xs) zero e = ltb-true x (2 ^ 64) (and-both (ltb x (2 ^ 64)) (allFit xs) e .0)
-fit-at (x ∷ xs) (suc i) e = fit-at xs i (and-both (ltb x (2 ^ 64)) (allFit xs) e .1)
 
 pub fit-rest : (i : ℕ) (xs : List ℕ) → allFit xs ≡ true → allFit (drop i xs) ≡ true
 fit-rest zero xs e = e

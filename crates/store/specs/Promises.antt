@@ -25,7 +25,7 @@ pub mod ManyRowsSound
 pub mod ManyRowsAlike
 pub mod ManyRowsExamples
 pub mod Report
-pub mod ReportExamples
 pub mod ReportScan
 pub mod ReportInventory
 pub mod ReportAlike
+pub mod ReportExamples

@@ -1,7 +1,8 @@
--- What is said of the fill report's tally: its 23 numbers by name (Promises/ReportScan, ReportInventory and others).
+-- What is said of the fill report: its tally's 23 numbers by name, what they must come to, what a call meets, and calls one after the other
+-- (Promises/Report, ReportScan, ReportInventory).
 use Prim.Native.Nat.{ℕ, _+_, _-_, _*_, _/_, _^_, _≤_, _<_}
 use mathlib.Core.Path.{_≡_}
-use mathlib.Core.Bool.{true, false, cond}
+use mathlib.Core.Bool.{false, cond}
 use mathlib.Core.List.{List, [], _∷_}
 use lib.ListN.{length, getD}
 use lib.Dec.{eqb}
@@ -55,10 +56,7 @@ pub record ClassesAddUp (t : List ℕ) : Type 0 where
 
 -- ---- what a call meets
 
--- each page of the segment is sound; one of them is not
-abbrev pub PagesSound : List ℕ → Type 0
-PagesSound s = (p : ℕ) → p < length s / 16384 → sound (view (pageOf s p)) ≡ true
-
+-- one of the segment's pages is not sound
 pub record Damage (s : List ℕ) : Type 0 where
   pub on : ℕ
   pub below : on < length s / 16384
@@ -91,9 +89,9 @@ counted [] t = []
 counted (s ∷ ss) t = let r = counted ss (reportStep s t .tally) in cond (eqb (reportStep s t .answer) DONE) (s ∷ r) r
 
 -- "the sum of the segments' figures"
-abbrev pub total : List (List ℕ) → List ℕ
-total [] = zeros 23
-total (s ∷ ss) = added (figures (segView s)) (total ss)
+abbrev pub totals : List (List ℕ) → List ℕ
+totals [] = zeros 23
+totals (s ∷ ss) = added (figures (segView s)) (totals ss)
 
 -- "in any order"
 pub data Permuted : List (List ℕ) → List (List ℕ) → Type 0 where

@@ -61,10 +61,14 @@ nibbleOf v = cond (fresh v) 0 (classOf (16372 - v .freeSpace))
 abbrev pub classes : SegView → ℕ → ℕ
 classes u p = cond (ltb p (u .pages)) (nibbleOf (u .page p)) 0
 
--- "Every page is sound. .. The inventory is true .. entry c (0 to 14) is the lowest page whose nibble is at most c, so n if there is none."
+-- "Every page is sound."
+abbrev pub PagesSound : List ℕ → Type 0
+PagesSound s = (p : ℕ) → p < length s / 16384 → sound (view (pageOf s p)) ≡ true
+
+-- "The inventory is true .. entry c (0 to 14) is the lowest page whose nibble is at most c, so n if there is none."
 pub record SoundSegment (s v : List ℕ) : Type 0 where
   pub whole : sizeOk s ≡ true
   pub page : invOk v ≡ true
-  pub pages : (p : ℕ) → p < length s / 16384 → sound (view (pageOf s p)) ≡ true
+  pub pages : PagesSound s
   pub pairs : Paired (segView s)
   pub inventory : Truth (classes (segView s)) (length s / 16384) v

@@ -16,16 +16,16 @@ use Rattle.store.specs.PageSteps.{opened}
 use Rattle.store.specs.Inventory.{classOf}
 use Rattle.store.specs.Refusals.{DONE, SIZE, DAMAGED, TALLY}
 use Rattle.store.specs.Segment.{SegView, segView, pageOf, sizeOk}
-use Rattle.store.specs.SoundSegment.{nibbleOf}
+use Rattle.store.specs.SoundSegment.{nibbleOf, PagesSound}
 use Rattle.store.specs.Report.{one, freshOf, slotsOf, bytesIn, bytesOf, forwardedOf, freeOf, ofClass, meanings, over, figuresTo, figures, added, allFit}
 use Rattle.store.specs.Report.{Report, report, allSound, reportStep}
-use Rattle.store.specs.ReportTold.{classAt, AddsUp, ClassesAddUp, PagesSound, Damage, sumAt, Passes, tallyAfter, AllDone}
-use Rattle.store.specs.ReportTold.{counted, total, Permuted, nil, keep, swap, then}
+use Rattle.store.specs.ReportTold.{classAt, AddsUp, ClassesAddUp, Damage, sumAt, Passes, tallyAfter, AllDone}
+use Rattle.store.specs.ReportTold.{counted, totals, Permuted, nil, keep, swap, then}
 use Rattle.store.specs.Laws.Cases.{by-test, never, false-by}
 use Rattle.store.specs.Laws.Views.{Sound, sum-ext, sum-zero, sum-add, sum-turn, sum-join}
 use Rattle.store.specs.Laws.Classes.{class-low, class-top}
-use Rattle.store.specs.Laws.SoundPage.{and-both, and-in, all-at, all-in, fresh-none, sound-opened}
-use Rattle.store.specs.Laws.Segments.{length-page, page-first, page-second}
+use Rattle.store.specs.Laws.SoundPage.{and-both, and-in, all-at, all-in, fresh-none}
+use Rattle.store.specs.Laws.Segments.{page-first, page-second}
 use Rattle.store.specs.Laws.SoundSegment.{sized, right-size, open-sound, seen-page, seen-pages}
 
 -- ---- the sum law of a page
@@ -56,16 +56,16 @@ page-sums v s = go (fresh v) refl
 -- ---- of a segment
 
 -- five sums that agree at each number agree
-five : (n : ℕ) (a b c d e : ℕ → ℕ) → ((p : ℕ) → p < n → 12 * a p + 8 * b p + c p + 8 * d p + e p ≡ 16384 * a p)
+five : (n : ℕ) (a b c d e : ℕ → ℕ) → ((p : ℕ) → 12 * a p + 8 * b p + c p + 8 * d p + e p ≡ 16384 * a p)
     → 12 * sum n a + 8 * sum n b + sum n c + 8 * sum n d + sum n e ≡ 16384 * sum n a
 five zero a b c d e h = omega arith
-five (suc n) a b c d e h = omega (arith, h n (omega arith), five n a b c d e (λ p l. h p (omega arith)))
+five (suc n) a b c d e h = omega (arith, h n, five n a b c d e h)
 
-segment-sums : (u : SegView) (n : ℕ) → ((p : ℕ) → p < n → Sound (u .page p))
+segment-sums : (u : SegView) (n : ℕ) → ((p : ℕ) → Sound (u .page p))
     → 12 * over u n usedOf + 8 * over u n slotsOf + over u n bytesOf + 8 * over u n forwardedOf + over u n freeOf ≡ 16384 * over u n usedOf
 segment-sums u n h =
     five n (λ p. usedOf (u .page p)) (λ p. slotsOf (u .page p)) (λ p. bytesOf (u .page p)) (λ p. forwardedOf (u .page p)) (λ p. freeOf (u .page p))
-    (λ p l. page-sums (u .page p) (h p l))
+    (λ p. page-sums (u .page p) (h p))
 
 -- pages in use and fresh ones are all pages
 used-and-fresh : (u : SegView) (n : ℕ) → over u n usedOf + over u n freshOf ≡ n
@@ -80,7 +80,7 @@ pub pages-all : (n : ℕ) → sum n (λ p. 1) ≡ n
 pages-all zero = refl
 pages-all (suc n) = omega (arith, pages-all n)
 
-pub figures-sum : (u : SegView) → ((p : ℕ) → p < u .pages → Sound (u .page p)) → AddsUp (figures u)
+pub figures-sum : (u : SegView) → ((p : ℕ) → Sound (u .page p)) → AddsUp (figures u)
 unfolding figuresTo
 figures-sum u h =
     let n = u .pages in
@@ -161,10 +161,10 @@ length-figures u = refl
 
 -- ---- which figures fit
 
-pub fits-at : (t : List ℕ) → allFit t ≡ true → (j : ℕ) → j < length t → getD t j 0 < 2 ^ 64
-fits-at [] e j l = absurd (omega arith)
-fits-at (a ∷ t) e zero l = ltb-true a (2 ^ 64) (and-both (ltb a (2 ^ 64)) (allFit t) e .0)
-fits-at (a ∷ t) e (suc j) l = fits-at t (and-both (ltb a (2 ^ 64)) (allFit t) e .1) j (omega arith)
+pub fits-at : (t : List ℕ) → allFit t ≡ true → (j : ℕ) → getD t j 0 < 2 ^ 64
+fits-at [] e j = omega arith
+fits-at (a ∷ t) e zero = ltb-true a (2 ^ 64) (and-both (ltb a (2 ^ 64)) (allFit t) e .0)
+fits-at (a ∷ t) e (suc j) = fits-at t (and-both (ltb a (2 ^ 64)) (allFit t) e .1) j
 
 pub fits-in : (t : List ℕ) → ((j : ℕ) → j < length t → getD t j 0 < 2 ^ 64) → allFit t ≡ true
 fits-in [] h = refl
@@ -192,14 +192,14 @@ all-not (suc n) f e = go (all-not n f) (f n) refl e
 
 module _ (s : List ℕ) where
   -- what is seen of a page is sound if the page is
-  seen-same : (p : ℕ) → sound (segView s .page p) ≡ sound (view (pageOf s p))
+  pub seen-same : (p : ℕ) → sound (segView s .page p) ≡ sound (view (pageOf s p))
   seen-same p = ap sound (seen-page s p) ∙ open-sound (view (pageOf s p))
 
-  pub pages-sound : allSound (segView s) ≡ true → PagesSound s
-  pages-sound e p l = sym (seen-same p) ∙ all-at (segView s .pages) (λ q. sound (segView s .page q)) e p (omega (arith, seen-pages s))
+  pub each-sound : allSound (segView s) ≡ true → PagesSound s
+  each-sound e p l = sym (seen-same p) ∙ all-at (segView s .pages) (λ q. sound (segView s .page q)) e p (omega (arith, seen-pages s))
 
-  pub sound-pages : PagesSound s → allSound (segView s) ≡ true
-  sound-pages h = all-in (segView s .pages) (λ q. sound (segView s .page q)) (λ p l. seen-same p ∙ h p (omega (arith, seen-pages s)))
+  pub sound-each : PagesSound s → allSound (segView s) ≡ true
+  sound-each h = all-in (segView s .pages) (λ q. sound (segView s .page q)) (λ p l. seen-same p ∙ h p (omega (arith, seen-pages s)))
 
   pub damage : allSound (segView s) ≡ false → Damage s
   damage e =
@@ -207,12 +207,7 @@ module _ (s : List ℕ) where
       record { on = r .0; below = omega (arith, seen-pages s); unsound = sym (seen-same (r .0)) ∙ r .2 }
 
   pub damaged : Damage s → allSound (segView s) ≡ false
-  damaged d = false-by (allSound (segView s)) (λ e. never (pages-sound e (d .on) (d .below)) (d .unsound))
-
-  pub seen-sounds : sizeOk s ≡ true → PagesSound s → (p : ℕ) → p < segView s .pages → Sound (segView s .page p)
-  seen-sounds e h p l =
-      let w = sized s e in
-      rw (seen-page s p) (sound-opened (pageOf s p) (length-page s p (omega (arith, seen-pages s))) (h p (omega (arith, seen-pages s))))
+  damaged d = false-by (allSound (segView s)) (λ e. never (each-sound e (d .on) (d .below)) (d .unsound))
 
 -- ---- what a call answers and leaves
 
@@ -257,7 +252,7 @@ module _ (s t : List ℕ) where
     after-at j l = getD-added t (figures (segView s)) j (omega arith)
 
     pub all-fits : allFit after ≡ true → (j : ℕ) → j < 23 → sumAt s t j < 2 ^ 64
-    all-fits e j l = omega (arith, after-at j l, fits-at after e j (omega (arith, as-long)))
+    all-fits e j l = omega (arith, after-at j l, fits-at after e j)
 
     pub fits-all : ((j : ℕ) → j < 23 → sumAt s t j < 2 ^ 64) → allFit after ≡ true
     fits-all h = fits-in after (λ j l. let m : j < 23 = omega (arith, as-long) in omega (arith, after-at j m, h j m))
@@ -300,20 +295,20 @@ fits-less (a ∷ t) (b ∷ x) e =
     let r = and-both (ltb (a + b) (2 ^ 64)) (allFit (added t x)) e in
     and-in (ltb a (2 ^ 64)) (allFit t) (lt-ltb a (2 ^ 64) (omega (arith, ltb-true (a + b) (2 ^ 64) (r .0)))) (fits-less t x (r .1))
 
-length-total : (ss : List (List ℕ)) → length (total ss) ≡ 23
-length-total [] = refl
-length-total (s ∷ ss) = length-added (figures (segView s)) (total ss) ∙ length-figures (segView s)
+length-totals : (ss : List (List ℕ)) → length (totals ss) ≡ 23
+length-totals [] = refl
+length-totals (s ∷ ss) = length-added (figures (segView s)) (totals ss) ∙ length-figures (segView s)
 
 -- a run of any calls: those that are refused add nothing
-pub run-adds : (ss : List (List ℕ)) (t : List ℕ) → tallyAfter ss t ≡ added t (total (counted ss t))
+pub run-adds : (ss : List (List ℕ)) (t : List ℕ) → tallyAfter ss t ≡ added t (totals (counted ss t))
 run-adds [] t = sym (added-zeros t 23)
 run-adds (s ∷ ss) t =
     by-report s t
-    (λ (r : Report). tallyAfter ss (r .tally) ≡ added t (total (cond (eqb (r .answer) DONE) (s ∷ counted ss (r .tally)) (counted ss (r .tally)))))
+    (λ (r : Report). tallyAfter ss (r .tally) ≡ added t (totals (cond (eqb (r .answer) DONE) (s ∷ counted ss (r .tally)) (counted ss (r .tally)))))
     (λ e. run-adds ss t) (λ e f. run-adds ss t) (λ e f g. run-adds ss t)
     (λ e f g.
     run-adds ss (after s t)
-    ∙ added-assoc t (figures (segView s)) (total (counted ss (after s t))) (length-figures (segView s) ∙ sym (length-total (counted ss (after s t)))))
+    ∙ added-assoc t (figures (segView s)) (totals (counted ss (after s t))) (length-figures (segView s) ∙ sym (length-totals (counted ss (after s t)))))
 
 pub all-counted : (ss : List (List ℕ)) (t : List ℕ) → AllDone ss t → counted ss t ≡ ss
 all-counted [] t d = refl
@@ -413,16 +408,16 @@ module _ (s r : List ℕ) (a : length s % 16384 ≡ 0) (b : length r % 16384 ≡
   pub done-parts : (t : List ℕ) → Done (s ++ r) t → Done s t × Done r (after s t)
   done-parts t d =
       let few = sized (s ++ r) (d .size) .few in
-      let h = pages-sound (s ++ r) (d .pages) in
+      let h = each-sound (s ++ r) (d .pages) in
       let fits : allFit (after r (after s t)) ≡ true = ap allFit (sym (both-after t)) ∙ d .fits in (
         record {
           size = right-size s a (omega (arith, page-sum));
-          pages = sound-pages s (λ p l. ap (λ (q : List ℕ). sound (view q)) (sym (first-page p l)) ∙ h p (omega (arith, page-sum)));
+          pages = sound-each s (λ p l. ap (λ (q : List ℕ). sound (view q)) (sym (first-page p l)) ∙ h p (omega (arith, page-sum)));
           fits = fits-less (after s t) (figures (segView r)) fits;
         },
         record {
           size = right-size r b (omega (arith, page-sum));
-          pages = sound-pages r (λ p l. ap (λ (q : List ℕ). sound (view q)) (sym (last-page p)) ∙ h (length s / 16384 + p) (omega (arith, page-sum)));
+          pages = sound-each r (λ p l. ap (λ (q : List ℕ). sound (view q)) (sym (last-page p)) ∙ h (length s / 16384 + p) (omega (arith, page-sum)));
           fits = fits;
         },
       )
@@ -431,14 +426,14 @@ module _ (s r : List ℕ) (a : length s % 16384 ≡ 0) (b : length r % 16384 ≡
   parts-done t few d e =
       record {
         size = right-size (s ++ r) (omega (arith, length-append s r)) (omega (arith, page-sum));
-        pages = sound-pages (s ++ r) (λ p l. each p l (decLt p (length s / 16384)));
+        pages = sound-each (s ++ r) (λ p l. each p l (decLt p (length s / 16384)));
         fits = ap allFit (both-after t) ∙ e .fits;
       }
     where
       each : (p : ℕ) → p < length (s ++ r) / 16384 → Dec (p < length s / 16384) → sound (view (pageOf (s ++ r) p)) ≡ true
-      each p l (yes h) = ap (λ (q : List ℕ). sound (view q)) (first-page p h) ∙ pages-sound s (d .pages) p h
+      each p l (yes h) = ap (λ (q : List ℕ). sound (view q)) (first-page p h) ∙ each-sound s (d .pages) p h
       each p l (no h) =
           let n = length s / 16384 in
           let k : p ≡ n + (p - n) = omega arith in
           ap (λ (q : ℕ). sound (view (pageOf (s ++ r) q))) k
-          ∙ ap (λ (q : List ℕ). sound (view q)) (last-page (p - n)) ∙ pages-sound r (e .pages) (p - n) (omega (arith, page-sum))
+          ∙ ap (λ (q : List ℕ). sound (view q)) (last-page (p - n)) ∙ each-sound r (e .pages) (p - n) (omega (arith, page-sum))

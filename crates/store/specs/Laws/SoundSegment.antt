@@ -22,7 +22,7 @@ use Rattle.store.specs.Laws.Segments.{AllExact, AllSound, length-page, s
 use Rattle.store.specs.Laws.Calls.{by-test}
 use Rattle.store.specs.Laws.Plans.{length-carried, planOf}
 use Rattle.store.specs.Calls.{Call, insert, allocate, write, resize, erase}
-use Rattle.store.specs.SoundSegment.{bytesOn, classes, SoundSegment}
+use Rattle.store.specs.SoundSegment.{bytesOn, classes, PagesSound, SoundSegment}
 use Rattle.store.specs.Laws.Pairs.{Pairs, tagOn, paired-pairs, pairs-paired}
 use Rattle.store.specs.Laws.Stays.{Stays, Seen, wrote, oldBytes, refusal, insert-stays, store-stays, erase-stays}
 
@@ -49,7 +49,7 @@ pub right-size : (s : List ℕ) → length s % 16384 ≡ 0 → length s / 16384 
 right-size s a b = and-in (eqb (length s % 16384) 0) (leb (length s / 16384) 32527) (eq-eqb (length s % 16384) 0 a) (le-leb (length s / 16384) 32527 b)
 
 -- every page that is seen is sound, those past the end too
-pub pages-sound : (s : List ℕ) → sizeOk s ≡ true → ((p : ℕ) → p < length s / 16384 → sound (view (pageOf s p)) ≡ true)
+pub pages-sound : (s : List ℕ) → sizeOk s ≡ true → PagesSound s
     → (p : ℕ) → Sound (segView s .page p)
 unfolding segView view
 pages-sound s e h p = each (sized s e) (decLt p (length s / 16384))

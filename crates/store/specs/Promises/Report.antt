@@ -12,27 +12,28 @@ use Rattle.store.specs.Page.{View, fresh}
 use Rattle.store.specs.PageSteps.{opened}
 use Rattle.store.specs.Refusals.{DONE, SIZE, DAMAGED, TALLY}
 use Rattle.store.specs.Segment.{SegView, segView, sizeOk}
+use Rattle.store.specs.SoundSegment.{PagesSound}
 use Rattle.store.specs.Report.{meanings, figuresTo, figures, added, Report, reportStep}
-use Rattle.store.specs.ReportTold.{pagesIn, AddsUp, ClassesAddUp, PagesSound, Damage, sumAt, Passes, tallyAfter, AllDone, counted, total, Permuted}
-use Rattle.store.specs.Laws.SoundSegment.{sized}
-use Rattle.store.specs.Laws.Report.{pages-all, figures-sum, figures-classes, added-sum, added-classes, length-added, pages-sound, sound-pages, damage}
-use Rattle.store.specs.Laws.Report.{damaged, seen-sounds, on-size, on-damage, on-tally, on-done, by-report, after-at, all-fits, fits-all, not-all}
+use Rattle.store.specs.ReportTold.{pagesIn, AddsUp, ClassesAddUp, Damage, sumAt, Passes, tallyAfter, AllDone, counted, totals, Permuted}
+use Rattle.store.specs.Laws.SoundSegment.{sized, pages-sound}
+use Rattle.store.specs.Laws.Report.{pages-all, figures-sum, figures-classes, added-sum, added-classes, length-added, each-sound, sound-each, damage}
+use Rattle.store.specs.Laws.Report.{damaged, on-size, on-damage, on-tally, on-done, by-report, after-at, all-fits, fits-all, not-all}
 use Rattle.store.specs.Laws.Report.{all-not-fit, after, run-adds, all-counted, Done, done-tells, tells-done, permuted, page-sum, joined-figures}
 use Rattle.store.specs.Laws.Report.{both-after, done-parts, parts-done}
 
 -- ---- the figures of a segment
 
 -- "12 each, 8 per slot, record bytes, 8 per forwarded record and free bytes must sum to 16,384 per page"
-pub sums : (s : List ℕ) → sizeOk s ≡ true → PagesSound s → AddsUp (figures (segView s))
-sums s e h = figures-sum (segView s) (seen-sounds s e h)
+pub adds-up : (s : List ℕ) → sizeOk s ≡ true → PagesSound s → AddsUp (figures (segView s))
+adds-up s e h = figures-sum (segView s) (pages-sound s e h)
 
 -- "pages" is n; "the 16 class figures sum to pages; class 0 is fresh pages", damaged pages too
 pub counts-pages : (u : SegView) → pagesIn (figures u) ≡ u .pages
 unfolding figuresTo
 counts-pages u = pages-all (u .pages)
 
-pub classes : (u : SegView) → ClassesAddUp (figures u)
-classes = figures-classes
+pub classes-add-up : (u : SegView) → ClassesAddUp (figures u)
+classes-add-up = figures-classes
 
 -- "a fresh page adds 1 to pages, fresh pages and class 0 and nothing else, whatever its other bytes are"
 pub fresh-page : (v : View) → fresh v ≡ true → map (λ (f : View → ℕ). f (opened v)) meanings ≡ 1 ∷ 1 ∷ zeros 5 ++ (1 ∷ zeros 15)
@@ -63,12 +64,12 @@ module _ (s t : List ℕ) where
   )
 
   -- "A refused segment adds nothing": all 23 figures are as they were
-  pub refused-keeps : reportStep s t .answer ≢ DONE → reportStep s t .tally ≡ t
-  refused-keeps =
+  pub refused-adds-none : reportStep s t .answer ≢ DONE → reportStep s t .tally ≡ t
+  refused-adds-none =
       by-report s t (λ (r : Report). r .answer ≢ DONE → r .tally ≡ t) (λ e n. refl) (λ e f n. refl) (λ e f g n. refl) (λ e f g n. absurd (n refl))
 
-  pub length-kept : length (reportStep s t .tally) ≡ length t
-  length-kept =
+  pub tally-long : length (reportStep s t .tally) ≡ length t
+  tally-long =
       by-report s t (λ (r : Report). length (r .tally) ≡ length t) (λ e. refl) (λ e f. refl) (λ e f g. refl)
       (λ e f g. length-added t (figures (segView s)))
 
@@ -77,53 +78,49 @@ module _ (s t : List ℕ) where
     pub tally-exactly : (reportStep s t .answer ≡ TALLY) ↔ ((sizeOk s ≡ true) × PagesSound s × Passes s t)
     tally-exactly = (
       by-report s t (λ (r : Report). r .answer ≡ TALLY → (sizeOk s ≡ true) × PagesSound s × Passes s t) (λ e z. absurd (omega arith))
-          (λ e f z. absurd (omega arith)) (λ e f g z. (e, pages-sound s f, not-all s t long g)) (λ e f g z. absurd (omega arith)),
-      λ x. ap (λ (r : Report). r .answer) (on-tally s t (x .0) (sound-pages s (x .1)) (all-not-fit s t long (x .2))),
+          (λ e f z. absurd (omega arith)) (λ e f g z. (e, each-sound s f, not-all s t long g)) (λ e f g z. absurd (omega arith)),
+      λ x. ap (λ (r : Report). r .answer) (on-tally s t (x .0) (sound-each s (x .1)) (all-not-fit s t long (x .2))),
     )
 
     -- 0 exactly if none is
     pub done-exactly : (reportStep s t .answer ≡ DONE) ↔ ((sizeOk s ≡ true) × PagesSound s × ((j : ℕ) → j < 23 → sumAt s t j < 2 ^ 64))
     done-exactly = (
-      by-report s t (λ (r : Report). r .answer ≡ DONE → (sizeOk s ≡ true) × PagesSound s × ((j : ℕ) → j < 23 → sumAt s t j < 2 ^ 64))
-          (λ e z. absurd (omega arith)) (λ e f z. absurd (omega arith)) (λ e f g z. absurd (omega arith))
-          (λ e f g z. (e, pages-sound s f, all-fits s t long g)),
-      λ x. ap (λ (r : Report). r .answer) (on-done s t (x .0) (sound-pages s (x .1)) (fits-all s t long (x .2))),
+      λ z. let d = done-tells s t z in (d .size, each-sound s (d .pages), all-fits s t long (d .fits)),
+      λ x. ap (λ (r : Report). r .answer) (on-done s t (x .0) (sound-each s (x .1)) (fits-all s t long (x .2))),
     )
 
     -- and then each of the 23 is what it was and the segment's
     pub done-adds : reportStep s t .answer ≡ DONE → (j : ℕ) → j < 23 → getD (reportStep s t .tally) j 0 ≡ getD t j 0 + getD (figures (segView s)) j 0
-    done-adds =
-        by-report s t (λ (r : Report). r .answer ≡ DONE → (j : ℕ) → j < 23 → getD (r .tally) j 0 ≡ sumAt s t j) (λ e z. absurd (omega arith))
-        (λ e f z. absurd (omega arith)) (λ e f g z. absurd (omega arith)) (λ e f g z. after-at s t long)
+    done-adds z j l = ap (λ (r : Report). getD (r .tally) j 0) (tells-done s t (done-tells s t z)) ∙ after-at s t long j l
 
     -- ---- a tally that has these laws has them after the call
 
-    pub sums-kept : AddsUp t → AddsUp (reportStep s t .tally)
-    sums-kept h =
+    pub adds-up-kept : AddsUp t → AddsUp (reportStep s t .tally)
+    adds-up-kept h =
         by-report s t (λ (r : Report). AddsUp (r .tally)) (λ e. h) (λ e f. h) (λ e f g. h)
-        (λ e f g. added-sum t (figures (segView s)) long h (sums s e (pages-sound s f)))
+        (λ e f g. added-sum t (figures (segView s)) long h (adds-up s e (each-sound s f)))
 
     pub classes-kept : ClassesAddUp t → ClassesAddUp (reportStep s t .tally)
     classes-kept h =
         by-report s t (λ (r : Report). ClassesAddUp (r .tally)) (λ e. h) (λ e f. h) (λ e f g. h)
-        (λ e f g. added-classes t (figures (segView s)) long h (classes (segView s)))
+        (λ e f g. added-classes t (figures (segView s)) long h (classes-add-up (segView s)))
 
 -- ---- "exact figures over any number of segments"
 
 -- so does any run of calls; and a tally that is set to 0 before the first has them
 pub laws-kept : (ss : List (List ℕ)) (t : List ℕ) → length t ≡ 23 → AddsUp t → ClassesAddUp t → AddsUp (tallyAfter ss t) × ClassesAddUp (tallyAfter ss t)
 laws-kept [] t long a c = (a, c)
-laws-kept (s ∷ ss) t long a c = laws-kept ss (reportStep s t .tally) (length-kept s t ∙ long) (sums-kept s t long a) (classes-kept s t long c)
+laws-kept (s ∷ ss) t long a c = laws-kept ss (reportStep s t .tally) (tally-long s t ∙ long) (adds-up-kept s t long a) (classes-kept s t long c)
 
 pub from-zeros : (ss : List (List ℕ)) → AddsUp (tallyAfter ss (zeros 23)) × ClassesAddUp (tallyAfter ss (zeros 23))
 from-zeros ss = laws-kept ss (zeros 23) refl (record { fresh = omega arith; sums = refl }) (record { all = refl; fresh = refl })
 
 -- "The tally after many segments is the sum of the tallies of each"
-pub run-sums : (ss : List (List ℕ)) (t : List ℕ) → AllDone ss t → tallyAfter ss t ≡ added t (total ss)
-run-sums ss t d = run-adds ss t ∙ ap (λ (rs : List (List ℕ)). added t (total rs)) (all-counted ss t d)
+pub run-sums : (ss : List (List ℕ)) (t : List ℕ) → AllDone ss t → tallyAfter ss t ≡ added t (totals ss)
+run-sums ss t d = run-adds ss t ∙ ap (λ (rs : List (List ℕ)). added t (totals rs)) (all-counted ss t d)
 
 -- whichever calls are refused, it is the sum over the others
-pub run-counts : (ss : List (List ℕ)) (t : List ℕ) → tallyAfter ss t ≡ added t (total (counted ss t))
+pub run-counts : (ss : List (List ℕ)) (t : List ℕ) → tallyAfter ss t ≡ added t (totals (counted ss t))
 run-counts = run-adds
 
 -- in any order: the calls answer 0 as well, and leave the same tally

@@ -5,7 +5,8 @@ use native.Mathlib.Omega.{arith}
 use borrow.Author.Needs.{needs}
 use lib.ListN.{length, getD, length-set}
 use Rattle.store.specs.Report.{added}
-use Rattle.fill_report.proofs.SumLaws.{added-at, added-is, added-turn, fit-at}
+use Rattle.store.specs.Laws.Report.{getD-added, fits-at}
+use Rattle.fill_report.proofs.SumLaws.{added-is, added-turn}
 use Rattle.fill_report.proofs.sums.add_classes.Statement.{statement}
 use Rattle.fill_report.proofs.sums.add_classes.Tie as tie
 
@@ -24,7 +25,7 @@ add-r c =
     let a = first .args .t1 in
     let b = first .args .t2 in
     let at = c .before .loop in
-    omega (arith, added-at a b (at .c) (omega arith), fit-at (added a b) (at .c) (first .pre))
+    omega (arith, getD-added a b (at .c) (omega arith), fits-at (added a b) (first .pre) (at .c))
 
 loop-again : tie.Need-loop-again Inv-loop μ-loop
 loop-again c =

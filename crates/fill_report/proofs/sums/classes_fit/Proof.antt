@@ -7,7 +7,8 @@ use borrow.Author.Needs.{needs}
 use lib.ListN.{length, getD, drop, drop-of-length-le}
 use lib.Dec.{ltb}
 use Rattle.store.specs.Report.{added}
-use Rattle.fill_report.proofs.SumLaws.{added-length, added-at, Passed, fit-on, fit-out}
+use Rattle.store.specs.Laws.Report.{length-added, getD-added}
+use Rattle.fill_report.proofs.SumLaws.{Passed, fit-on, fit-out}
 use Rattle.fill_report.proofs.sums.classes_fit.Statement.{statement}
 use Rattle.fill_report.proofs.sums.classes_fit.Tie as tie
 
@@ -28,7 +29,7 @@ told : (c : tie.After-sum-fits Inv-loop μ-loop)
 told c =
     let at = c .before .before in
     let x = at .before .args in
-    c .sum-fits .ensures ∙ ap (λ (n : ℕ). ltb n (2 ^ 64)) (sym (added-at (x .t1) (x .t2) (at .loop .c) (omega (arith, at .loop .inv .1))))
+    c .sum-fits .ensures ∙ ap (λ (n : ℕ). ltb n (2 ^ 64)) (sym (getD-added (x .t1) (x .t2) (at .loop .c) (omega (arith, at .loop .inv .1))))
 
 returns : tie.Need-returns Inv-loop μ-loop
 returns c =
@@ -48,7 +49,7 @@ returns-2 c =
     let at = c .before in
     let x = at .before .args in
     let l = added (x .t1) (x .t2) in
-    let e : drop (at .loop .c) l ≡ [] = drop-of-length-le l {i = at .loop .c} (omega (arith, at .loop .inv .1, added-length (x .t1) (x .t2))) in
+    let e : drop (at .loop .c) l ≡ [] = drop-of-length-le l {i = at .loop .c} (omega (arith, at .loop .inv .1, length-added (x .t1) (x .t2))) in
     sym (at .loop .inv .2 ∙ rw e)
 
 pub classes-fit-spec : {M : Type 1} → statement M

@@ -4,7 +4,8 @@ use native.Mathlib.Omega.{arith}
 use lib.ListN.{getD}
 use Rattle.store.specs.Report.{added}
 use Rattle.store.specs.Answers.{numbers}
-use Rattle.fill_report.proofs.SumLaws.{fit-at, fit-rest}
+use Rattle.store.specs.Laws.Report.{fits-at}
+use Rattle.fill_report.proofs.SumLaws.{fit-rest}
 use Rattle.fill_report.proofs.sums.sum.Statement.{statement}
 use Rattle.fill_report.proofs.sums.sum.Tie as tie
 
@@ -23,7 +24,7 @@ ninth c = c .before .before .before .before .before
 
 -- each figure of the sum fits
 fits : (c : tie.Start) (i : ℕ) → getD (added (numbers (c .args .a)) (numbers (c .args .b))) i 0 < 2 ^ 64
-fits c i = fit-at (added (numbers (c .args .a)) (numbers (c .args .b))) i (c .pre)
+fits c i = fits-at (added (numbers (c .args .a)) (numbers (c .args .b))) (c .pre) i
 
 add-classes-requires : tie.Need-add-classes-requires
 add-classes-requires c κs = let first = c .before .before in fit-rest 7 (added (numbers (first .args .a)) (numbers (first .args .b))) (first .pre)
