@@ -2,6 +2,7 @@
 
 pub mod cases;
 pub mod damage;
+pub mod fills;
 pub mod lists;
 pub mod numbers;
 pub mod poke;
@@ -10,6 +11,9 @@ pub mod random;
 #[path = "../../../rust/tests/repair_examples/mod.rs"]
 pub mod repair_examples;
 pub mod repairs;
+#[path = "../../../rust/tests/report_examples/mod.rs"]
+pub mod report_examples;
+pub mod reports;
 pub mod row_examples;
 pub mod rows;
 pub mod sequence;

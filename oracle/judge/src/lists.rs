@@ -122,7 +122,7 @@ impl List {
 }
 
 /// A sound store, a damaged one, one whose inventory is not true, or one to be repaired.
-fn store(random: &mut Random) -> (Vec<u8>, Vec<u8>) {
+pub fn store(random: &mut Random) -> (Vec<u8>, Vec<u8>) {
     if random.one_in(6) {
         let wreck = wreck(random.next());
         return (wreck.segment, wreck.inventory);
