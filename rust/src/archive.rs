@@ -1,11 +1,11 @@
 //! The functions of libhekatosuy.a, as include/hekatosuy.h declares them, and a safe function over
 //! each. All `unsafe` of the crate is here.
 //!
-//! A call is lent whole slices and writes only into those that are lent to be written, and only
-//! inside them: that is proved of the archive's functions for every length and all bytes. None of
-//! them keeps a pointer, and none reads what it was not lent.
+//! A call is lent whole slices, or one tally, and writes only into those that are lent to be written,
+//! and only inside them: that is proved of the archive's functions for every length and all bytes. None
+//! of them keeps a pointer, and none reads what it was not lent.
 
-use crate::{Rid, Touched};
+use crate::{Rid, Tally, Touched};
 
 extern "C" {
     fn hk_insert_record(
@@ -81,6 +81,7 @@ extern "C" {
         entries_len: usize,
         count: *mut u64,
     ) -> u64;
+    fn hk_fill_report(segment: *const u8, segment_len: usize, tally: *mut Tally) -> u64;
 }
 
 /// A record in the segment: where it starts, counted from the segment's first byte, and its length.
@@ -216,4 +217,9 @@ pub(crate) fn repair(segment: &mut [u8], inventory: &mut [u8], list: &mut [Touch
         )
     };
     (answer, count)
+}
+
+/// The answer. A tally lies in memory as C's does; where the answer is 0 the segment's figures were added to it.
+pub(crate) fn fill_report(segment: &[u8], tally: &mut Tally) -> u64 {
+    unsafe { hk_fill_report(segment.as_ptr(), segment.len(), tally) }
 }

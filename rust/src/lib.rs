@@ -36,6 +36,10 @@
 //! A store grows by being lent with more pages of zeros at its end and the same inventory;
 //! `examples/store_in_file.rs` keeps one in a file.
 //!
+//! [`SlottedPages::fill_report`] tells how full a store is: pages, records, free bytes and more, in exact
+//! figures that are summed up over any number of segments in one [`Tally`]; `examples/fill_report.rs`
+//! prints them for stores in files.
+//!
 //! After a crash, [`SlottedPageSegment::repair`] makes a store sound again, keeps what can be kept and
 //! tells what it touched; `examples/repair.rs` does so to a store in a file.
 //!
@@ -72,6 +76,7 @@ mod rid;
 mod scan;
 mod segment;
 mod stopped;
+mod tally;
 mod touched;
 
 pub use refusal::Refusal;
@@ -79,6 +84,7 @@ pub use rid::Rid;
 pub use scan::SlottedPageScan;
 pub use segment::{SlottedPageSegment, SlottedPages};
 pub use stopped::Stopped;
+pub use tally::Tally;
 pub use touched::{At, Change, RepairRefusal, Touched};
 
 /// The bytes of a page, and of the inventory.

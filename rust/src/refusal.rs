@@ -9,7 +9,8 @@ use std::fmt;
 /// gone in before the refused one.
 ///
 /// Where several hold, the one given is the first in this order: 1, 10, 3, 2, 4 (the id's page), 5,
-/// 6, 4 (the page it is forwarded to), 7, 4 (the new page), 8. Further numbers may be added.
+/// 6, 4 (the page it is forwarded to), 7, 4 (the new page), 8; and of a fill report 1, 4 (any page), 9.
+/// Further numbers may be added.
 #[derive(Debug, Clone, Copy, PartialEq, Eq, Hash)]
 #[non_exhaustive]
 pub enum Refusal {
@@ -29,6 +30,8 @@ pub enum Refusal {
     Full = 7,
     /// The inventory names a page that has no room: it does not tell the truth about the pages.
     Stale = 8,
+    /// A figure of the tally would pass 2^64 - 1.
+    Tally = 9,
     /// The lengths of many rows don't sum to their bytes, or there are fewer places for ids than rows.
     List = 10,
 }
@@ -44,6 +47,7 @@ impl Refusal {
         Refusal::Forwarded,
         Refusal::Full,
         Refusal::Stale,
+        Refusal::Tally,
         Refusal::List,
     ];
 
@@ -63,6 +67,7 @@ impl Refusal {
             6 => Refusal::Forwarded,
             7 => Refusal::Full,
             8 => Refusal::Stale,
+            9 => Refusal::Tally,
             10 => Refusal::List,
             _ => return None,
         })
@@ -79,6 +84,7 @@ impl Refusal {
             Refusal::Forwarded => "FORWARDED",
             Refusal::Full => "FULL",
             Refusal::Stale => "STALE",
+            Refusal::Tally => "TALLY",
             Refusal::List => "LIST",
         }
     }
@@ -93,11 +99,12 @@ impl Refusal {
             Refusal::Forwarded => "the id is that of a forwarded record's place",
             Refusal::Full => "no page has room",
             Refusal::Stale => "the inventory names a page that has no room",
+            Refusal::Tally => "a figure of the tally would pass 2^64 - 1",
             Refusal::List => "the lengths don't sum to the bytes, or there are fewer places for ids than rows",
         }
     }
 
-    /// What a call's number means. The archive answers 0 to 8, and 10 to a list of rows; that is proved.
+    /// What a call's number means. The archive answers 0 to 8, 9 to a fill report, and 10 to a list of rows; that is proved.
     pub(crate) fn of_answer(number: u64) -> Result<(), Refusal> {
         if number == 0 {
             return Ok(());

@@ -1,7 +1,7 @@
 //! The calls.
 
 use crate::archive::{self, Place};
-use crate::{Refusal, RepairRefusal, Rid, SlottedPageScan, Stopped, Touched, MAX_RECORD_SIZE, PAGE_SIZE};
+use crate::{Refusal, RepairRefusal, Rid, SlottedPageScan, Stopped, Tally, Touched, MAX_RECORD_SIZE, PAGE_SIZE};
 use std::fmt;
 
 /// The part of the segment that is a record.
@@ -47,6 +47,44 @@ impl<'a> SlottedPages<'a> {
     /// All records with their ids, by page and slot. A page is checked when the scan reaches it.
     pub fn scan(&self) -> SlottedPageScan<'a> {
         SlottedPageScan::new(self.segment)
+    }
+
+    /// Adds the figures of these pages to a tally: pages, slots, records, free bytes and what else a [`Tally`] has. Lent to
+    /// one call after the other it has the sum over all their segments, whatever their order. Nothing is allocated.
+    ///
+    /// The figures are exact, and from the pages alone, so an inventory that is not true does not touch them. Every page is
+    /// checked. A segment of a wrong size is refused by [`Refusal::Size`], then one with a damaged page by
+    /// [`Refusal::Damaged`], and then one with which a figure would pass 2^64 - 1 by [`Refusal::Tally`]. A segment that is
+    /// refused adds nothing to any figure. A forwarded record is counted where it lies, and no redirect is followed: whether
+    /// each leads to its record is told by [`is_sound`](SlottedPageSegment::is_sound).
+    ///
+    /// ```
+    /// use hekatosuy::{Refusal, SlottedPageSegment, SlottedPages, Tally, PAGE_SIZE};
+    ///
+    /// // The segments of two benches, of two pages and of one, each with a row of 5,000 bytes.
+    /// let mut benches = [vec![0; 2 * PAGE_SIZE], vec![0; PAGE_SIZE]];
+    /// for pages in &mut benches {
+    ///     SlottedPageSegment::new(pages, &mut [0; PAGE_SIZE]).insert_record(&[7; 5_000])?;
+    /// }
+    ///
+    /// let mut tally = Tally::default();
+    /// for pages in &benches {
+    ///     SlottedPages::new(pages).fill_report(&mut tally)?;
+    /// }
+    /// assert_eq!((tally.pages, tally.fresh_pages), (3, 1));
+    /// assert_eq!((tally.records, tally.record_bytes), (2, 10_000));
+    /// assert_eq!(tally.free_bytes, 2 * (16_384 - 12 - 8 - 5_000));
+    /// assert!(tally.to_string().contains("free bytes         22,728  69.4 % of the bytes of pages in use"));
+    ///
+    /// // A damaged segment adds nothing.
+    /// let before = tally;
+    /// benches[0][1] = 0; // the count of the first page's slots
+    /// assert_eq!(SlottedPages::new(&benches[0]).fill_report(&mut tally), Err(Refusal::Damaged));
+    /// assert_eq!(tally, before);
+    /// # Ok::<(), Refusal>(())
+    /// ```
+    pub fn fill_report(&self, tally: &mut Tally) -> Result<(), Refusal> {
+        Refusal::of_answer(archive::fill_report(self.segment, tally))
     }
 }
 
@@ -183,6 +221,11 @@ impl<'a> SlottedPageSegment<'a> {
     /// All records with their ids; see [`SlottedPages::scan`].
     pub fn scan(&self) -> SlottedPageScan<'_> {
         self.pages().scan()
+    }
+
+    /// Adds the figures of the pages to a tally; see [`SlottedPages::fill_report`]. The inventory is not looked at.
+    pub fn fill_report(&self, tally: &mut Tally) -> Result<(), Refusal> {
+        self.pages().fill_report(tally)
     }
 
     /// Makes the segment and its inventory sound, whatever their bytes, and keeps what can be kept. Gives the part of

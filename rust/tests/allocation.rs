@@ -1,6 +1,6 @@
-//! Many rows in one call take no memory: neither where all go in nor where the call stops.
+//! Many rows in one call take no memory, neither where all go in nor where the call stops; and a fill report takes none.
 
-use hekatosuy::{Refusal, Rid, SlottedPageSegment, Stopped, PAGE_SIZE};
+use hekatosuy::{Refusal, Rid, SlottedPageSegment, Stopped, Tally, PAGE_SIZE};
 use std::alloc::{GlobalAlloc, Layout, System};
 use std::cell::Cell;
 
@@ -41,4 +41,15 @@ fn many_rows_take_no_memory() {
     assert_eq!(taken(|| assert_eq!(segment.insert_records(&rows, &lengths, &mut ids), Ok(()))), 0);
     let full = Err(Stopped { rows: 134, refusal: Refusal::Full });
     assert_eq!(taken(|| assert_eq!(segment.insert_records(&rows, &lengths, &mut ids), full)), 0);
+}
+
+#[test]
+fn a_fill_report_takes_no_memory() {
+    let (mut pages, mut inventory) = (vec![0; 2 * PAGE_SIZE], vec![0; PAGE_SIZE]);
+    let mut segment = SlottedPageSegment::new(&mut pages, &mut inventory);
+    assert_eq!(segment.insert_record(&[7; 64]), Ok(Rid::new(0, 0)));
+    let mut tally = Tally::default();
+    assert_eq!(taken(|| assert_eq!(segment.fill_report(&mut tally), Ok(()))), 0);
+    tally.records = u64::MAX;
+    assert_eq!(taken(|| assert_eq!(segment.fill_report(&mut tally), Err(Refusal::Tally))), 0);
 }
