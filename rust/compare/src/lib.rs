@@ -28,6 +28,7 @@ extern "C" {
         entries_len: usize,
         count: *mut u64,
     ) -> u64;
+    fn hk_fill_report(segment: *const u8, segment_len: usize, tally: *mut u64) -> u64;
 }
 
 /// Answer and rows told of an insert of many rows, which stand end to end, into any bytes.
@@ -49,6 +50,19 @@ pub fn insert_records(segment: &mut [u8], inventory: &mut [u8], rows: &[u8], len
         )
     };
     (answer, inserted)
+}
+
+/// What stands before and behind a tally.
+const KEPT: u64 = 0x7777_7777_7777_7777;
+
+/// The answer to a fill report over any bytes. The words beside the tally must stay.
+pub fn fill_report(segment: &[u8], tally: &mut [u64; 23]) -> u64 {
+    let mut words = [KEPT; 25];
+    words[1..24].copy_from_slice(tally);
+    let answer = unsafe { hk_fill_report(segment.as_ptr(), segment.len(), words[1..24].as_mut_ptr()) };
+    assert_eq!((words[0], words[24]), (KEPT, KEPT), "a word beside the tally is written");
+    tally.copy_from_slice(&words[1..24]);
+    answer
 }
 
 /// So many seeds from `first` on: as the environment's variable says, else the usual number.
