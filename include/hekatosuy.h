@@ -9,12 +9,12 @@
  * A record has 0 to 16,364 bytes and an id, page * 65,536 + slot, which stays the same until the record is erased.
  *
  * Each function is proved to meet its contract (crates/hekatosuy): for every segment, inventory and argument it answers one of the
- * numbers below and leaves each byte as the contract says. A call that is refused leaves segment and inventory as they were; only
+ * numbers below and leaves each byte as the contract says. A call that is refused leaves segment, inventory and tally as they were; only
  * hk_insert_records, refused at one of its rows, leaves what the rows before it changed, and nothing else.
  *
  * The pointer before a length or a count points to so many bytes (lengths, ids and entries: to so many uint64_t), and no pointer is
- * null, also where the length or the count is 0. What one call is lent to write (segment, inventory, ids, entries and the single numbers)
- * overlaps nothing else that it is lent.
+ * null, also where the length or the count is 0. What one call is lent to write (segment, inventory, ids, entries, the tally and the single
+ * numbers) overlaps nothing else that it is lent.
  *
  * A program, whole:
  *
@@ -57,7 +57,8 @@ enum {
 
 /*
  * What a call answers. Where several refusals hold, this is their order: 1, 10, 3, 2, 4 for the id's own page, 5, 6, 4 for a target, 7,
- * 4 for a new page, 8. Of many rows 1 and 10 come before any row, and then each row in its turn. hk_repair answers 0, 1 or 11.
+ * 4 for a new page, 8. Of many rows 1 and 10 come before any row, and then each row in its turn. Of hk_fill_report the order is 1, 4 for any
+ * page, 9. hk_repair answers 0, 1 or 11.
  */
 enum {
     HK_DONE = 0,      /* the call is carried out */
@@ -69,6 +70,7 @@ enum {
     HK_FORWARDED = 6, /* write, resize or erase by the id of the place that a record was moved to, and not by its own */
     HK_FULL = 7,      /* the inventory names no page with so much room */
     HK_STALE = 8,     /* the inventory names a page that has not the room: it is not true */
+    HK_TALLY = 9,     /* fill report: a figure of the tally would pass 2^64 - 1 */
     HK_LIST = 10,     /* many rows: the lengths don't sum to the bytes, or there are fewer id places than rows */
     HK_ROOM = 11      /* repair: the list has fewer places than there are changes */
 };
@@ -131,6 +133,35 @@ uint64_t hk_erase_record(uint8_t *segment, size_t segment_length, uint8_t *inven
  */
 uint64_t hk_scan_step(const uint8_t *segment, size_t segment_length, uint64_t *position, uint64_t *found, uint64_t *id,
                       uint64_t *offset, uint64_t *length);
+
+/*
+ * Figures over any number of segments: 23 numbers, 184 bytes, in this order. Set all to 0 before the first segment. A page is fresh, where
+ * no record has been stored on it yet, or in use.
+ */
+typedef struct hk_tally {
+    uint64_t pages;        /* all pages */
+    uint64_t fresh_pages;  /* pages that are fresh */
+    uint64_t slots;        /* slots of pages in use: with a record, free, or with the id of the place that a record was moved to */
+    uint64_t records;      /* records, those that a scan gives */
+    uint64_t record_bytes; /* bytes of all records, without the id of 8 bytes that stands before each forwarded one */
+    uint64_t forwarded;    /* records that lie on another page than that of their id */
+    uint64_t free_bytes;   /* free bytes of pages in use */
+    uint64_t classes[16];  /* pages of each class 0 to 15, as the inventory has them: 0 for fresh ones, 15 for the fullest */
+} hk_tally;
+
+/*
+ * Adds the figures of one segment to the tally, where it stands. Lent to one call after the other it has the sum over all their segments,
+ * whatever their order. A segment that is refused adds nothing: all 23 figures keep what they were.
+ *
+ * Each figure is counted for itself, and from the pages alone: no inventory is looked at. For pages in use they sum to the bytes: 12 each,
+ * 8 for each slot, the record bytes, 8 for each forwarded record and the free bytes are 16,384 a page. The classes sum to the pages, class 0
+ * is the fresh ones, and no page is of class 1.
+ *
+ * Refusals: 1 by the segment's size; then 4, where any page is not sound; then 9. A figure to which nothing is added is never the cause of
+ * 9. What the tally holds before is not looked into, any numbers will do. A forwarded record is counted where it lies: no redirect is
+ * followed, and whether each leads to its record is told by hk_repair with a list of no words.
+ */
+uint64_t hk_fill_report(const uint8_t *segment, size_t segment_length, hk_tally *tally);
 
 /* What the place of repair's entry is when it is not a slot. */
 enum { HK_AT_HEADER = 65535, HK_AT_INVENTORY = 65536 };

@@ -1,6 +1,6 @@
 /*
- * The calls from C: document 01's cases of the segment, refusals of each kind, the scan, many rows in one call, and repair. Prints one
- * line a case, and what differs.
+ * The calls from C: document 01's cases of the segment, refusals of each kind, the scan, many rows in one call, the fill report, repair.
+ * Prints one line a case, and what differs.
  */
 #include "hekatosuy.h"
 
@@ -403,6 +403,128 @@ static void damaged_ahead(void) {
     end("rows up to a damaged page");
 }
 
+/* A tally, between words that must stay. */
+static struct {
+    uint64_t before;
+    hk_tally tally;
+    uint64_t behind;
+} lent;
+
+static hk_tally figures(uint64_t pages, uint64_t fresh_pages, uint64_t slots, uint64_t records, uint64_t record_bytes, uint64_t forwarded,
+                        uint64_t free_bytes) {
+    hk_tally made = {pages, fresh_pages, slots, records, record_bytes, forwarded, free_bytes, {0}};
+    return made;
+}
+
+static hk_tally all_figures(uint64_t figure) {
+    hk_tally made = figures(figure, figure, figure, figure, figure, figure, figure);
+    for (size_t c = 0; c < 16; c++) made.classes[c] = figure;
+    return made;
+}
+
+/* With so many pages of a class. */
+static hk_tally with_class(hk_tally made, size_t c, uint64_t pages) {
+    made.classes[c] = pages;
+    return made;
+}
+
+/* A report on so many bytes, with this tally before and that afterwards. */
+static void report(const uint8_t *bytes, size_t length, hk_tally before, uint64_t answer, hk_tally wanted) {
+    lent.before = lent.behind = 77;
+    lent.tally = before;
+    expect("fill report", hk_fill_report(bytes, length, &lent.tally), answer);
+    expect("pages", lent.tally.pages, wanted.pages);
+    expect("fresh pages", lent.tally.fresh_pages, wanted.fresh_pages);
+    expect("slots", lent.tally.slots, wanted.slots);
+    expect("records", lent.tally.records, wanted.records);
+    expect("record bytes", lent.tally.record_bytes, wanted.record_bytes);
+    expect("forwarded records", lent.tally.forwarded, wanted.forwarded);
+    expect("free bytes", lent.tally.free_bytes, wanted.free_bytes);
+    for (size_t c = 0; c < 16; c++) expect("pages of a class", lent.tally.classes[c], wanted.classes[c]);
+    expect("the word before the tally", lent.before, 77);
+    expect("the word behind the tally", lent.behind, 77);
+}
+
+/* The same on the segment, which must keep each byte. */
+static void fill_report(hk_tally before, uint64_t answer, hk_tally wanted) {
+    keep_old();
+    report(segment, segment_length, before, answer, wanted);
+    expect("a report changed the segment", memcmp(old_segment, segment, sizeof segment) != 0, 0);
+}
+
+static void report_of_three_bytes(void) {
+    const hk_tally none = all_figures(0), three = with_class(figures(1, 0, 1, 1, 3, 0, 16361), 2, 1);
+    hk_tally before;
+    begin(1);
+    expect("bytes of a tally", sizeof(hk_tally), 184);
+    insert(3, 1, HK_DONE, 0);
+    fill_report(none, HK_DONE, three);
+    before = figures(0, 0, 0, 0, UINT64_MAX - 2, 0, 0);
+    fill_report(before, HK_TALLY, before);
+    fill_report(figures(0, 0, 0, 0, UINT64_MAX - 3, 0, 0), HK_DONE, with_class(figures(1, 0, 1, 1, UINT64_MAX, 0, 16361), 2, 1));
+    before = with_class(none, 2, UINT64_MAX);
+    fill_report(before, HK_TALLY, before);
+    fill_report(figures(0, UINT64_MAX, 0, 0, 0, 0, 0), HK_DONE, with_class(figures(1, UINT64_MAX, 1, 1, 3, 0, 16361), 2, 1));
+    before = all_figures(UINT64_MAX);
+    fill_report(before, HK_TALLY, before);
+    segment_length = 0;
+    fill_report(before, HK_DONE, before);
+    end("fill report: three bytes, and figures near 2^64");
+}
+
+static void report_of_forwarded(void) {
+    hk_tally once = figures(3, 0, 4, 3, 33000, 1, 16076), twice = figures(6, 0, 8, 6, 66000, 2, 32152);
+    once.classes[3] = once.classes[8] = once.classes[15] = 1;
+    twice.classes[3] = twice.classes[8] = twice.classes[15] = 2;
+    begin_forwarded();
+    fill_report(all_figures(0), HK_DONE, once);
+    fill_report(once, HK_DONE, twice);
+    end("fill report: a forwarded record, and the same again");
+}
+
+static void report_of_no_records(void) {
+    begin(1);
+    insert(3, 1, HK_DONE, 0);
+    insert(4, 2, HK_DONE, 1);
+    insert(5, 3, HK_DONE, 2);
+    for (uint64_t k = 0; k < 3; k++) erase(k, HK_DONE);
+    fill_report(all_figures(0), HK_DONE, with_class(figures(1, 0, 1, 0, 0, 0, 16364), 2, 1));
+    begin(2);
+    fill_report(all_figures(0), HK_DONE, with_class(figures(2, 2, 0, 0, 0, 0, 0), 0, 2));
+    insert(12, 1, HK_DONE, 0);
+    segment[12] = 0xC0; /* a target that no redirect names */
+    fill_report(all_figures(0), HK_DONE, with_class(with_class(figures(2, 1, 1, 1, 4, 1, 16352), 0, 1), 2, 1));
+    end("fill report: erased records, empty pages, and a target alone");
+}
+
+static void report_of_fresh(void) {
+    const uint8_t initialised[12] = {0, 0, 0, 0, 0, 0, 0x40, 0, 0, 0, 0x3F, 0xF4};
+    const hk_tally fresh = with_class(figures(1, 1, 0, 0, 0, 0, 0), 0, 1);
+    begin(1);
+    memset(segment, 0xEE, PAGE);
+    memset(segment, 0, 2);
+    fill_report(all_figures(5), HK_DAMAGED, all_figures(5));
+    memset(segment, 0, 12);
+    fill_report(all_figures(0), HK_DONE, fresh);
+    memcpy(segment, initialised, 12);
+    fill_report(all_figures(0), HK_DONE, fresh);
+    end("fill report: a fresh page full of other bytes, and a wiped count");
+}
+
+static void report_refused(void) {
+    const hk_tally most = figures(UINT64_MAX, 0, 0, 0, 0, 0, 0);
+    begin(2);
+    insert(3, 1, HK_DONE, 0);
+    segment[PAGE + 1] = 1;
+    fill_report(most, HK_DAMAGED, most);
+    segment_length = PAGE;
+    fill_report(most, HK_TALLY, most);
+    segment_length = PAGE - 1;
+    fill_report(most, HK_SIZE, most);
+    fill_report(all_figures(0), HK_SIZE, all_figures(0));
+    end("fill report: a damaged page, and sizes");
+}
+
 enum { WORDS = 3 * (2047 * PAGES + 1) };
 
 static uint64_t entries[WORDS];
@@ -519,6 +641,9 @@ static void widest(void) {
     expect("no id", id, 77);
     expect("the most pages", hk_insert_record(pages, whole, inventory, PAGE, record, 3, &id), HK_DONE);
     expect("the first id", id, 0);
+    report(pages, whole, all_figures(0), HK_DONE,
+           with_class(with_class(figures(HK_MAX_PAGES, HK_MAX_PAGES - 1, 1, 1, 3, 0, 16361), 0, HK_MAX_PAGES - 1), 2, 1));
+    report(pages, whole + PAGE, all_figures(7), HK_SIZE, all_figures(7));
     expect("the most pages, checked", hk_repair(pages, whole, inventory, PAGE, entries, 0, &id), HK_DONE);
     pages[whole - PAGE] = 0xFF;
     expect("the last page damaged", hk_repair(pages, whole, inventory, PAGE, entries, WORDS, &id), HK_DONE);
@@ -557,6 +682,11 @@ int main(void) {
     no_list();
     stopped_rows();
     damaged_ahead();
+    report_of_three_bytes();
+    report_of_forwarded();
+    report_of_no_records();
+    report_of_fresh();
+    report_refused();
     overlapped();
     lost_pages();
     back_id_changed();
