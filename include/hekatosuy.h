@@ -57,8 +57,8 @@ enum {
 
 /*
  * What a call answers. Where several refusals hold, this is their order: 1, 10, 3, 2, 4 for the id's own page, 5, 6, 4 for a target, 7,
- * 4 for a new page, 8. Of many rows 1 and 10 come before any row, and then each row in its turn. Of hk_fill_report the order is 1, 4 for any
- * page, 9. hk_repair answers 0, 1 or 11.
+ * 4 for a new page, 8. Of many rows 1 and 10 come before any row, and then each row in its turn. hk_fill_report has 1, 4 for any page, 9,
+ * and hk_repair answers 0, 1 or 11.
  */
 enum {
     HK_DONE = 0,      /* the call is carried out */
@@ -135,8 +135,8 @@ uint64_t hk_scan_step(const uint8_t *segment, size_t segment_length, uint64_t *p
                       uint64_t *offset, uint64_t *length);
 
 /*
- * Figures over any number of segments: 23 numbers, 184 bytes, in this order. Set all to 0 before the first segment. A page is fresh, where
- * no record has been stored on it yet, or in use.
+ * Figures over any number of segments: 23 numbers, 184 bytes, in this order. Set all to 0 before the first segment. A page is fresh, when
+ * its header is zeros or just initialised, or in use, also when all its records were erased.
  */
 typedef struct hk_tally {
     uint64_t pages;        /* all pages */
@@ -154,8 +154,8 @@ typedef struct hk_tally {
  * whatever their order. A segment that is refused adds nothing: all 23 figures keep what they were.
  *
  * Each figure is counted for itself, and from the pages alone: no inventory is looked at. For pages in use they sum to the bytes: 12 each,
- * 8 for each slot, the record bytes, 8 for each forwarded record and the free bytes are 16,384 a page. The classes sum to the pages, class 0
- * is the fresh ones, and no page is of class 1.
+ * 8 for each slot, the record bytes, 8 for each forwarded record and the free bytes are 16,384 a page. The classes sum to the pages,
+ * class 0 is the fresh ones, and no page is of class 1.
  *
  * Refusals: 1 by the segment's size; then 4, where any page is not sound; then 9. A figure to which nothing is added is never the cause of
  * 9. What the tally holds before is not looked into, any numbers will do. A forwarded record is counted where it lies: no redirect is

@@ -14,7 +14,7 @@ use std::{fmt, mem};
 pub struct Tally {
     /// All pages.
     pub pages: u64,
-    /// The pages on which no record has been stored yet.
+    /// The pages whose header is zeros, or just initialised. One whose records were all erased is in use.
     pub fresh_pages: u64,
     /// The slots of pages in use, whether they have a record, are free, or name the place that a record was forwarded to.
     pub slots: u64,
