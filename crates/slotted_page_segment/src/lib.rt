@@ -1,6 +1,7 @@
 // The calls on a segment and the scan, under one name: slotted_page_segment.rs for users in Rattle. Each is proved where it stands, with
 // no `requires`, and its contract is one equation with the documents' step (crates/store/specs/Segment.antt, ManyRows.antt,
-// Scan.antt, Repair.antt).
+// Scan.antt, Repair.antt, Report.antt).
+pub use fill_report::fill_report;
 pub use segment_erase::erase_record;
 pub use segment_insert::allocate;
 pub use segment_insert::insert_record;
@@ -17,4 +18,6 @@ pub use store::Answer;
 pub use store::Inserted;
 pub use store::Reading;
 pub use store::Repair;
+pub use store::Reported;
 pub use store::Step;
+pub use store::Tally;
