@@ -4,7 +4,7 @@
 //! The stack below the caller is painted before each call; what is no longer painted afterwards was
 //! used. The crate's own frames are counted as well.
 
-use hekatosuy::{Rid, SlottedPageSegment, SlottedPages, Touched};
+use hekatosuy::{Rid, SlottedPageSegment, SlottedPages, Tally, Touched};
 use judge::sequence::{any_style, few_pages, Event, Sequence};
 use std::arch::asm;
 use std::hint::black_box;
@@ -36,8 +36,18 @@ fn depth(call: &mut dyn FnMut() -> bool) -> usize {
     top + MARGIN - lowest.unwrap_or(top)
 }
 
-const CALLS: [&str; 9] =
-    ["insert_record", "allocate", "get_record", "write_record", "resize_record", "erase_record", "scan, a step", "repair", "insert_records"];
+const CALLS: [&str; 10] = [
+    "insert_record",
+    "allocate",
+    "get_record",
+    "write_record",
+    "resize_record",
+    "erase_record",
+    "scan, a step",
+    "repair",
+    "insert_records",
+    "fill_report",
+];
 
 struct Lent {
     segment: Vec<u8>,
@@ -85,6 +95,11 @@ impl Lent {
         depth(&mut || calls.insert_records(&rows, &[length, 0, length], &mut ids).is_ok())
     }
 
+    fn fill_report(&self) -> usize {
+        let mut tally = Tally::default();
+        depth(&mut || SlottedPages::new(&self.segment).fill_report(&mut tally).is_ok())
+    }
+
     /// The deepest of the first steps.
     fn scan(&self) -> usize {
         let mut scan = SlottedPages::new(&self.segment).scan();
@@ -104,10 +119,14 @@ fn run(seed: u64, most: &mut [usize; CALLS.len()]) {
                 }
                 let (kind, depth) = lent.call(call);
                 most[kind] = most[kind].max(depth);
+                if call == Call::Scan {
+                    most[9] = most[9].max(lent.fill_report());
+                }
             }
             Event::Pokes(pokes) => {
                 pokes.iter().for_each(|poke| poke.apply(&mut lent.segment, &mut lent.inventory));
                 most[7] = most[7].max(lent.repair());
+                most[9] = most[9].max(lent.fill_report());
             }
         }
     }
