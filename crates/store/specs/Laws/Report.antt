@@ -23,8 +23,8 @@ use Rattle.store.specs.ReportTold.{classAt, AddsUp, ClassesAddUp, Damage
 use Rattle.store.specs.ReportTold.{counted, totals, Permuted, nil, keep, swap, then}
 use Rattle.store.specs.Laws.Cases.{by-test, never, false-by}
 use Rattle.store.specs.Laws.Views.{Sound, sum-ext, sum-zero, sum-add, sum-turn, sum-join}
-use Rattle.store.specs.Laws.Classes.{class-low, class-top}
-use Rattle.store.specs.Laws.SoundPage.{and-both, and-in, all-at, all-in, fresh-none}
+use Rattle.store.specs.Laws.Classes.{class-low, class-top, class-mono}
+use Rattle.store.specs.Laws.SoundPage.{sound-none, sound-test, and-both, and-in, all-at, all-in, fresh-none}
 use Rattle.store.specs.Laws.Segments.{page-first, page-second}
 use Rattle.store.specs.Laws.SoundSegment.{sized, right-size, open-sound, seen-page, seen-pages}
 
@@ -111,6 +111,29 @@ class-fresh v = go (fresh v)
     go : (b : Bool) → one (eqb (cond b 0 c) 0) ≡ one b
     go true = refl
     go false = ap one (ne-eqb c 0 (λ (q : c ≡ 0). absurd (omega (arith, class-low (16372 - v .freeSpace)))))
+
+-- a page in use has a slot, which takes 8 bytes
+class-used : (v : View) → Sound v → ofClass 1 v ≡ 0
+unfolding classOf
+class-used v s = go (fresh v) refl
+  where
+    c : ℕ
+    c = classOf (16372 - v .freeSpace)
+
+    some : fresh v ≡ false → 1 ≤ v .slotCount
+    some e = by-count (ℕ-discrete (v .slotCount) 0)
+      where
+        by-count : Dec (v .slotCount ≡ 0) → 1 ≤ v .slotCount
+        by-count (yes z) = never (sym (sound-none v z) ∙ sound-test v s) e
+        by-count (no n) = omega arith
+
+    go : (b : Bool) → fresh v ≡ b → one (eqb (cond b 0 c) 1) ≡ 0
+    go true e = refl
+    go false e = ap one (ne-eqb c 1 (λ (q : c ≡ 1). absurd (omega (arith, class-mono 1 (16372 - v .freeSpace) (omega (arith, some e, s .sums))))))
+
+pub figures-used : (u : SegView) → ((p : ℕ) → Sound (u .page p)) → classAt 1 (figures u) ≡ 0
+unfolding figuresTo
+figures-used u h = sum-zero (u .pages) (λ p. ofClass 1 (u .page p)) (λ p l. class-used (u .page p) (h p))
 
 pub figures-classes : (u : SegView) → ClassesAddUp (figures u)
 unfolding figuresTo

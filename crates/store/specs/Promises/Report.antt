@@ -14,9 +14,10 @@ use Rattle.store.specs.Refusals.{DONE, SIZE, DAMAGED, TALLY}
 use Rattle.store.specs.Segment.{SegView, segView, sizeOk}
 use Rattle.store.specs.SoundSegment.{PagesSound}
 use Rattle.store.specs.Report.{meanings, figuresTo, figures, added, Report, reportStep}
-use Rattle.store.specs.ReportTold.{pagesIn, AddsUp, ClassesAddUp, Damage, sumAt, Passes, tallyAfter, AllDone, counted, totals, Permuted}
+use Rattle.store.specs.ReportTold.{pagesIn, classAt, AddsUp, ClassesAddUp, Damage, sumAt, Passes, tallyAfter, AllDone, counted, totals, Permuted}
 use Rattle.store.specs.Laws.SoundSegment.{sized, pages-sound}
-use Rattle.store.specs.Laws.Report.{pages-all, figures-sum, figures-classes, added-sum, added-classes, length-added, each-sound, sound-each, damage}
+use Rattle.store.specs.Laws.Report.{pages-all, figures-sum, figures-classes, figures-used, added-sum}
+use Rattle.store.specs.Laws.Report.{added-classes, length-added, each-sound, sound-each, damage}
 use Rattle.store.specs.Laws.Report.{damaged, on-size, on-damage, on-tally, on-done, by-report, after-at, all-fits, fits-all, not-all}
 use Rattle.store.specs.Laws.Report.{all-not-fit, after, run-adds, all-counted, Done, done-tells, tells-done, permuted, page-sum, joined-figures}
 use Rattle.store.specs.Laws.Report.{both-after, done-parts, parts-done}
@@ -34,6 +35,10 @@ counts-pages u = pages-all (u .pages)
 
 pub classes-add-up : (u : SegView) → ClassesAddUp (figures u)
 classes-add-up = figures-classes
+
+-- and on sound pages no page is of class 1: one in use has a slot, which takes 8 bytes
+pub class-1-none : (s : List ℕ) → sizeOk s ≡ true → PagesSound s → classAt 1 (figures (segView s)) ≡ 0
+class-1-none s e h = figures-used (segView s) (pages-sound s e h)
 
 -- "a fresh page adds 1 to pages, fresh pages and class 0 and nothing else, whatever its other bytes are"
 pub fresh-page : (v : View) → fresh v ≡ true → map (λ (f : View → ℕ). f (opened v)) meanings ≡ 1 ∷ 1 ∷ zeros 5 ++ (1 ∷ zeros 15)
