@@ -7,7 +7,7 @@ use crate::populate::true_inventory;
 use crate::random::Random;
 use model::page::{self, slot, Kind};
 use model::report::{fill_report, Tally, CLASSES, FIGURES};
-use store::{record, PAGE_SIZE};
+use store::PAGE_SIZE;
 
 /// A segment, and an inventory that a report is not lent.
 pub struct Lent {
@@ -54,7 +54,7 @@ const CLASS_ENDS: [usize; 13] = [4093, 6487, 8186, 9503, 10580, 11490, 12279, 12
 /// fewest and the most of a page.
 fn at_boundaries(random: &mut Random) -> (Vec<u8>, Vec<u8>) {
     let n = random.below(6) as usize + 1;
-    let (mut segment, mut inventory) = (record((n * PAGE_SIZE) as u64, random.below(256)), vec![0; PAGE_SIZE]);
+    let (mut segment, mut inventory) = (vec![random.next() as u8; n * PAGE_SIZE], vec![0; PAGE_SIZE]);
     for page in 0..n {
         let at_an_end = random.pick(&CLASS_ENDS) + random.below(2) as usize;
         let (slots, used) = if random.one_in(6) { random.pick(&[(1, 8), (1, 9), (1, 16371), (1, 16372), (2046, 16368), (2046, 16372)]) } else { (1, at_an_end) };
@@ -115,8 +115,7 @@ fn near(random: &mut Random, sums: &Tally, each: &[Tally], tally: &mut Tally) {
 pub fn unseen(random: &mut Random, segment: &[u8]) -> Vec<u8> {
     let mut other = segment.to_vec();
     for (number, page) in segment.chunks(PAGE_SIZE).enumerate() {
-        let seed = random.below(256);
-        other[number * PAGE_SIZE..][..PAGE_SIZE].copy_from_slice(&record(PAGE_SIZE as u64, seed));
+        other[number * PAGE_SIZE..][..PAGE_SIZE].fill(random.next() as u8);
         let pokes = if page::fresh(page) {
             poke::header(number, random.pick(&[[0; 4], [0, 0, 16384, 16372]])).to_vec()
         } else {

@@ -4,7 +4,7 @@
 use crate::fills::{run, unseen, Lent, Run};
 use crate::random::Random;
 use crate::report_examples::{Call, Example, EXAMPLES};
-use crate::soundness::{has_true_inventory, is_sound};
+use crate::soundness::{has_sound_forwarding, has_true_inventory};
 use model::inventory::nibble;
 use model::page::{self, slot, Kind};
 use model::report::{
@@ -22,6 +22,13 @@ pub struct Reported {
     pub answer: u64,
     pub before: Tally,
     pub after: Tally,
+}
+
+impl Reported {
+    /// What was added.
+    fn added(&self) -> Tally {
+        std::array::from_fn(|figure| self.after[figure] - self.before[figure])
+    }
 }
 
 fn reported(report: Report, segment: &[u8], before: Tally) -> Reported {
@@ -63,7 +70,7 @@ store::meetings! {
     Most "0: a page of 2,046 slots"
     Full "0: a page without a free byte"
     Unsound "0: sound pages, of a segment whose redirects and targets are not"
-    Sound "0: a sound segment, with forwarded records"
+    Sound "0: forwarded records, each with its redirect"
     Untrue "0: beside an inventory that is not true"
     AnyTally "0: a tally without the law of sums"
     Earlier "0: a tally of earlier segments"
@@ -157,14 +164,13 @@ impl ReportCounts {
     }
 
     fn count_added(&mut self, lent: &Lent, told: &Reported) {
+        let figures = told.added();
         for figure in 0..FIGURES {
-            let more = told.after[figure] - told.before[figure];
-            self.added[figure] += more;
+            self.added[figure] += figures[figure];
             if told.after[figure] == u64::MAX {
-                *(if more > 0 { &mut self.reached[figure] } else { &mut self.kept[figure] }) += 1;
+                *(if figures[figure] > 0 { &mut self.reached[figure] } else { &mut self.kept[figure] }) += 1;
             }
         }
-        let figures = reported(fill_report, &lent.segment, NOTHING).after;
         let in_use = figures[PAGES] - figures[FRESH_PAGES];
         self.meet_if(figures[PAGES] == 0, Met::NoPages);
         self.meet_if(figures[PAGES] == 0 && told.before == [u64::MAX; FIGURES], Met::NoPagesMost);
@@ -174,7 +180,7 @@ impl ReportCounts {
         self.meet_if(has_sums(&told.before) && told.before[PAGES] > 0, Met::Earlier);
         self.meet_if(!has_true_inventory(&lent.segment, &lent.inventory), Met::Untrue);
         pages(&lent.segment).for_each(|page| self.count_page(page));
-        let sound = is_sound_but_for_inventory(&lent.segment);
+        let sound = has_sound_forwarding(&lent.segment);
         self.meet_if(!sound, Met::Unsound);
         self.meet_if(sound && figures[FORWARDED] > 0, Met::Sound);
     }
@@ -313,13 +319,6 @@ fn has_classes(tally: &Tally) -> bool {
     sum == u128::from(tally[PAGES]) && tally[CLASSES] == tally[FRESH_PAGES]
 }
 
-/// Whether redirects and targets name each other, on sound pages.
-fn is_sound_but_for_inventory(segment: &[u8]) -> bool {
-    let mut inventory = vec![0; PAGE_SIZE];
-    crate::populate::true_inventory(segment).iter().for_each(|poke| poke.apply(&mut [], &mut inventory));
-    is_sound(segment, &inventory)
-}
-
 /// How many redirects there are, each of which has its target on a sound segment.
 fn redirects(segment: &[u8]) -> u64 {
     let of_page = |page: &[u8]| (0..page::count(page)).filter(|&k| slot(page, k).kind == Kind::Redirect).count();
@@ -352,7 +351,7 @@ fn check_figures(report: Report, lent: &Lent, figures: &Tally, found: &[Found], 
     if (figures[RECORDS], figures[RECORD_BYTES]) != (found.len() as u64, bytes) {
         return fails("records and their bytes by the scan");
     }
-    if is_sound_but_for_inventory(&lent.segment) && figures[FORWARDED] != redirects(&lent.segment) {
+    if has_sound_forwarding(&lent.segment) && figures[FORWARDED] != redirects(&lent.segment) {
         return fails("forwarded records by the redirects");
     }
     if has_true_inventory(&lent.segment, &lent.inventory) {
@@ -405,15 +404,11 @@ fn check_report(report: Report, lent: &Lent, before: Tally, random: &mut Random)
     Ok(told)
 }
 
-/// The tally after a run in the order of these places, if no segment is refused by 9.
-fn in_order(report: Report, run: &Run, places: impl Iterator<Item = usize>) -> Option<Tally> {
+/// The tally after a run from the last segment to the first, if none is refused by 9.
+fn backwards(report: Report, run: &Run) -> Option<Tally> {
     let mut tally = run.tally;
-    for place in places {
-        if report(&run.segments[place].segment, &mut tally) == 9 {
-            return None;
-        }
-    }
-    Some(tally)
+    let fits = |lent: &Lent| report(&lent.segment, &mut tally) != 9;
+    run.segments.iter().rev().all(fits).then_some(tally)
 }
 
 /// A run by such reports, and all that is asked of it; what was told of each segment.
@@ -424,8 +419,8 @@ pub fn check_run(report: Report, run: &Run, seed: u64) -> Result<Vec<Reported>, 
         before = one.after;
         told.push(one);
     }
-    let (there, back) = (in_order(report, run, 0..told.len()), in_order(report, run, (0..told.len()).rev()));
-    if there != back || there.is_some_and(|there| there != before) {
+    let (there, back) = (told.iter().all(|told| told.answer != 9).then_some(before), backwards(report, run));
+    if there != back {
         return Err(format!("seed {seed}: {there:?}, and in the other order {back:?}"));
     }
     Ok(told)

@@ -47,6 +47,11 @@ fn inventory_is_true(pages: &[&[u8]], inventory: &[u8]) -> bool {
         && (0..15).all(|number| entry(inventory, number) == lowest(number) as u64)
 }
 
+/// Whether redirects and targets name each other, of pages that are sound.
+pub fn has_sound_forwarding(segment: &[u8]) -> bool {
+    forwarding_is_sound(&pages(segment))
+}
+
 /// Of pages that are sound.
 pub fn has_true_inventory(segment: &[u8], inventory: &[u8]) -> bool {
     inventory_is_true(&pages(segment), inventory)

@@ -1,7 +1,8 @@
 //! `report check PLAN` and `report count report|scan PLAN UNITS`: fill reports by the archive over the
-//! segment of a plan, beside whole scans of it. `check` fails unless a report has the judge's figures, and
-//! a scan the records and bytes that these tell; `count` makes one or two reports or scans, so that what
-//! two take less what one takes is a report or a scan.
+//! segment of a plan, beside whole scans of it, by the archive's own step and not through the crate's
+//! iterator. `check` fails unless a report has the judge's figures, and a scan the records and bytes that
+//! these tell; `count` makes one or two reports or scans, so that what two take less what one takes is a
+//! report or a scan.
 
 use hekatosuy::{Refusal, SlottedPages, Tally};
 use std::hint::black_box;
@@ -17,16 +18,36 @@ fn report(segment: &[u8]) -> Result<Tally, Refusal> {
     SlottedPages::new(segment).fill_report(&mut tally).map(|()| tally)
 }
 
-/// How many records there are, and their bytes.
+extern "C" {
+    fn hk_scan_step(
+        segment: *const u8,
+        segment_len: usize,
+        position: *mut u64,
+        found: *mut u64,
+        id: *mut u64,
+        offset: *mut u64,
+        length: *mut u64,
+    ) -> u64;
+}
+
+/// How many records a scan gives, and their bytes; nothing where it is refused.
 #[inline(never)]
-fn scan(segment: &[u8]) -> Result<(u64, u64), Refusal> {
+fn scan(segment: &[u8]) -> Option<(u64, u64)> {
+    let (mut position, mut found, mut id, mut offset, mut length) = (0, 0, 0, 0, 0);
     let (mut records, mut bytes) = (0, 0);
-    for step in SlottedPages::new(segment).scan() {
-        let (_, record) = step?;
+    loop {
+        let answer = unsafe {
+            hk_scan_step(segment.as_ptr(), segment.len(), &mut position, &mut found, &mut id, &mut offset, &mut length)
+        };
+        if answer != 0 {
+            return None;
+        }
+        if found == 0 {
+            return Some((records, bytes));
+        }
         records += 1;
-        bytes += record.len() as u64;
+        bytes += length;
     }
-    Ok((records, bytes))
 }
 
 fn check(segment: &[u8]) -> Result<(), String> {
@@ -37,7 +58,7 @@ fn check(segment: &[u8]) -> Result<(), String> {
     if answer != 0 || plain[..] != [&seven[..], &tally.classes].concat() {
         return Err(format!("{tally:?}, and the judge's {plain:?}"));
     }
-    if scan(segment) != Ok((tally.records, tally.record_bytes)) {
+    if scan(segment) != Some((tally.records, tally.record_bytes)) {
         return Err(format!("{tally:?}, and by a scan {:?}", scan(segment)));
     }
     Ok(())
@@ -46,8 +67,8 @@ fn check(segment: &[u8]) -> Result<(), String> {
 fn count(what: &str, segment: &[u8], units: usize) -> Result<(), String> {
     for _ in 0..units {
         match what {
-            "report" => drop(black_box(report(black_box(segment)))),
-            "scan" => drop(black_box(scan(black_box(segment)))),
+            "report" => _ = black_box(report(black_box(segment))),
+            "scan" => _ = black_box(scan(black_box(segment))),
             _ => return Err(USAGE.to_string()),
         }
     }
