@@ -33,8 +33,9 @@ install_packages() { # install_packages PACKAGE..
     [ "$(id -u)" = 0 ] && command -v apt-get >/dev/null || return 1
     echo "$part: installing $*"
     export DEBIAN_FRONTEND=noninteractive
-    apt-get install -y --no-install-recommends "$@" >/dev/null 2>&1 ||
-        { apt-get update && apt-get install -y --no-install-recommends "$@"; } >/dev/null 2>&1
+    # another program may be installing: then it is waited for
+    local install="apt-get -o DPkg::Lock::Timeout=300 install -y --no-install-recommends"
+    $install "$@" >/dev/null 2>&1 || { apt-get update && $install "$@"; } >/dev/null 2>&1
 }
 
 add_rust_for_amd64() {
