@@ -1,7 +1,7 @@
 -- What the fill report's functions say of a slot, a page and a tally.
-use Prim.Native.Nat.{ℕ, zero, suc, _+_, _-_, _<_, _≤_}
+use Prim.Native.Nat.{ℕ, zero, suc, _+_, _<_, _≤_}
 use mathlib.Core.Path.{_≡_}
-use mathlib.Core.Bool.{true, cond}
+use mathlib.Core.Bool.{true}
 use mathlib.Core.List.{List, [], _∷_}
 use lib.Dec.{eqb}
 use Rattle.store.specs.Numbers.{sum}
@@ -9,7 +9,7 @@ use Rattle.store.specs.Slots.{len, isRecord, isTarget}
 use Rattle.store.specs.Page.{View}
 use Rattle.store.specs.Segment.{SegView}
 use Rattle.store.specs.SoundSegment.{nibbleOf}
-use Rattle.store.specs.Report.{one, freshOf, slotsOf, recordsOf, bytesIn, bytesOf, forwardedOf, freeOf, figures, allSound}
+use Rattle.store.specs.Report.{one, plainLen, freshOf, slotsOf, recordsOf, bytesIn, bytesOf, forwardedOf, freeOf, figures, allSound}
 use Rattle.store.specs.Answers.{numbers}
 use Rattle.store.specs.declared.Slot.{Slot}
 use Rattle.fill_report.specs.declared.Figures.{Figures}
@@ -28,7 +28,7 @@ pub record Room (c : Counts) (s : Slot) : Type 0 where
 -- r is c with the slot s
 pub record WithSlot (c : Counts) (s : Slot) (r : Counts) : Type 0 where
   pub records : r .records ≡ c .records + one (isRecord s)
-  pub bytes : r .bytes ≡ c .bytes + cond (isTarget s) (len s - 8) (len s)
+  pub bytes : r .bytes ≡ c .bytes + plainLen s
   pub forwarded : r .forwarded ≡ c .forwarded + one (isTarget s)
 
 -- of the first n slots

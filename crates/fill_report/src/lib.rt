@@ -15,9 +15,9 @@ ghost use Rattle.store.specs.Answers.{numbers, reported};
 ghost use Rattle.fill_report.specs.Words.{Filled};
 
 // The figures of a segment, if its pages are sound.
-pub struct Figures {
-    pub sound: bool,
-    pub tally: Tally,
+struct Figures {
+    sound: bool,
+    tally: Tally,
 }
 
 // What a report answers, and the tally with it.

@@ -9,7 +9,9 @@ use Rattle.store.specs.Page.{View, fresh, sound}
 use Rattle.store.specs.Refusals.{DONE, SIZE, DAMAGED, TALLY}
 use Rattle.store.specs.Segment.{SegView, segView, sizeOk}
 use Rattle.store.specs.SoundSegment.{nibbleOf}
+use Rattle.store.specs.declared.Slot.{Slot}
 
+-- 1 where a test passes
 abbrev pub one : Bool → ℕ
 one b = cond b 1 0
 
@@ -32,8 +34,11 @@ abbrev pub recordsOf : View → ℕ
 recordsOf v = sum (v .slotCount) (λ k. one (isRecord (v .at k)))
 
 -- "record bytes without back ids"
+abbrev pub plainLen : Slot → ℕ
+plainLen s = cond (isTarget s) (len s - 8) (len s)
+
 abbrev pub bytesIn : View → ℕ → ℕ
-bytesIn v k = cond (isTarget (v .at k)) (len (v .at k) - 8) (len (v .at k))
+bytesIn v k = plainLen (v .at k)
 
 abbrev pub bytesOf : View → ℕ
 bytesOf v = sum (v .slotCount) (bytesIn v)
@@ -89,14 +94,13 @@ pub record Report : Type 0 where
   pub answer : ℕ
   pub tally : List ℕ
 
--- "A refused segment adds nothing."
 abbrev pub report : ℕ → List ℕ → Report
 report a t = record { answer = a; tally = t }
 
 abbrev pub allSound : SegView → Bool
 allSound u = all (u .pages) (λ p. sound (u .page p))
 
--- "1 and 4 as in 01, then 9 TALLY when a figure would pass 2^64 − 1"
+-- "A refused segment adds nothing. .. Refusals: 1 and 4 as in 01, then 9 TALLY when a figure would pass 2^64 − 1."
 unfoldable pub reportStep : List ℕ → List ℕ → Report
 reportStep s t =
     let after : List ℕ = added t (figures (segView s)) in
