@@ -165,6 +165,9 @@ fn classes_by_the_bytes_used() {
         let mut wanted = [0; 16];
         wanted[class] = 1;
         assert_eq!(figures_of(&Lent::with(1, &[end - 8]).pages)[CLASSES..], wanted, "{end} bytes used");
+        let words = Tally { classes: wanted, ..Tally::default() }.to_string().replace(',', "");
+        let first = if class == 2 { 1 } else { CLASS_ENDS[class - 3] + 1 };
+        assert!(words.ends_with(&format!("\npages of class {class:<2}  1  {first} to {end} bytes used")), "{words}");
         if class < 15 {
             wanted.swap(class, class + 1);
             assert_eq!(figures_of(&Lent::with(1, &[end - 7]).pages)[CLASSES..], wanted, "{end} bytes used and one");
