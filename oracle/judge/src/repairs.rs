@@ -6,6 +6,7 @@ use crate::wreck::wreck;
 use model::page::{self, slot, Kind};
 use model::repair::{self, plan, Entry, Plan, REASONS};
 use model::Model;
+use std::collections::BTreeSet;
 use store::{record, Answer, Store, DONE, PAGE_SIZE};
 
 /// What stands in a list before a repair.
@@ -93,6 +94,40 @@ pub fn reads(store: &mut dyn Store, ids: &[u64]) -> Vec<Read> {
         _ => None,
     };
     ids.iter().filter_map(read).collect()
+}
+
+/// Every record that can be read, by ascending id: what [`reads`] tells of all ids, with each page checked once.
+pub fn readable(segment: &[u8]) -> Vec<Read> {
+    let pages: Vec<Option<&[u8]>> = segment.chunks(PAGE_SIZE).map(|page| page::sound(page).then_some(page)).collect();
+    let slot_of = |id: u64| {
+        let page = pages.get((id / 65536) as usize).copied().flatten()?;
+        let k = (id % 65536) as usize;
+        (k < page::count(page)).then(|| slot(page, k))
+    };
+    let read = |id: u64| {
+        let own = slot_of(id)?;
+        let (at, held) = if own.kind == Kind::Redirect { (own.id, slot_of(own.id)?) } else { (id, own) };
+        let page = (at / 65536) as usize * PAGE_SIZE;
+        let points_back = || {
+            let start = page + held.offset;
+            held.kind == Kind::Target && at / 65536 != id / 65536 && segment[start..start + 8] == id.to_be_bytes()
+        };
+        let (offset, length) = held.data();
+        (held.is_record() && (at == id || points_back())).then_some((id, (page + offset) as u64, length as u64))
+    };
+    let ids = |number: usize| (0..pages[number].map_or(0, page::count)).map(move |k| (number * 65536 + k) as u64);
+    (0..pages.len()).flat_map(ids).filter_map(read).collect()
+}
+
+/// Of the records that can be read, those of these ids.
+pub fn asked(ids: &[u64], readable: &[Read]) -> Vec<Read> {
+    readable.iter().filter(|read| ids.binary_search(&read.0).is_ok()).copied().collect()
+}
+
+/// Whether every record that could be read can be read, at the same place and with the same bytes.
+pub fn still_readable(before: &[u8], after: &[u8]) -> bool {
+    let can: BTreeSet<Read> = readable(after).into_iter().collect();
+    readable(before).iter().all(|read| can.contains(read) && same_bytes(read, before, after))
 }
 
 /// Whether the record of a read has the same bytes.
@@ -219,8 +254,11 @@ fn check_wreck(seed: u64, counts: &mut RepairCounts) -> Result<(), String> {
     let could = reads(&mut Model::new(&before.segment, &before.inventory), &ids);
     let can = reads(&mut Model::new(&plan.segment, &plan.inventory), &could.iter().map(|read| read.0).collect::<Vec<_>>());
     counts.reads += could.len() as u64;
-    if could != can || !could.iter().all(|read| same_bytes(read, &before.segment, &plan.segment)) {
+    if could != can || !still_readable(&before.segment, &plan.segment) {
         return fails("what could be read cannot be read as it was");
+    }
+    if could != asked(&ids, &readable(&before.segment)) {
+        return fails("the model reads other records than can be read");
     }
     Ok(())
 }

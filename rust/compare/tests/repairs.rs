@@ -3,7 +3,7 @@
 
 use compare::{over, seeds, Ours};
 use judge::random::Random;
-use judge::repairs::{ids, reads, same_bytes, RepairCounts, LEFTOVER};
+use judge::repairs::{asked, ids, readable, reads, still_readable, RepairCounts, LEFTOVER};
 use judge::soundness::is_sound;
 use judge::wreck::{wreck, Wreck};
 use model::repair::{plan, repair};
@@ -53,10 +53,12 @@ fn run_one(seed: u64, counts: &mut RepairCounts) {
     assert_eq!(told.as_deref(), Ok(&plan.entries[..]), "seed {seed}: through the crate");
     assert!(through.bytes() == ours.bytes(), "seed {seed}: through the crate, other bytes");
     // what could be read
-    let before = reads(&mut Ours::new(&wreck.segment, &wreck.inventory), &ids(&wreck.segment));
+    let ids = ids(&wreck.segment);
+    let before = reads(&mut Ours::new(&wreck.segment, &wreck.inventory), &ids);
     let after = reads(&mut ours, &before.iter().map(|read| read.0).collect::<Vec<_>>());
     assert_eq!(before, after, "seed {seed}: reads before and after");
-    assert!(before.iter().all(|read| same_bytes(read, &wreck.segment, ours.segment())), "seed {seed}: a record's bytes changed");
+    assert_eq!(before, asked(&ids, &readable(&wreck.segment)), "seed {seed}: reads, and what can be read");
+    assert!(still_readable(&wreck.segment, ours.segment()), "seed {seed}: what could be read cannot be read as it was");
     counts.reads += before.len() as u64;
 }
 
