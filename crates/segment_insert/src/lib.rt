@@ -9,7 +9,10 @@ use store::Named;
 use store::PAGE_SIZE;
 use store::Place;
 ghost use mathlib.Core.Path.{_≡_};
-ghost use Prim.Native.Nat.{_≤_};
+ghost use mathlib.Core.List.{_++_};
+ghost use Prim.Native.Nat.{_+_, _≤_};
+ghost use lib.ListN.{length};
+ghost use Rattle.store.specs.Numbers.{put, toBE};
 ghost use Rattle.store.specs.Segment.{insertStep, allocateStep};
 ghost use Rattle.store.specs.Answers.{outcome};
 ghost use Rattle.store.specs.Laws.Lent.{Within, SoundOn};
@@ -39,6 +42,44 @@ fn insert_sound_at(
         offset,
         bytes,
         size,
+    );
+    segment_steps::update_on(segment, inventory, p);
+    Answer::Done {
+        id: p * IDS_A_PAGE + slot,
+    }
+}
+
+// The eight bytes of a number and then these, at `at`.
+fn head_in(page: &mut [u8], at: usize, head: usize, bytes: &[u8])
+    requires { ⌜ at + (8 + length (now bytes)) ≤ length (now page) ⌝ }
+    ensures { λ _. ⌜ now (page .exit) ≡ put (now (page .entry)) at (toBE 8 head ++ now (bytes .entry)) ⌝ }
+{
+    layout::put_u64(page, at, head);
+    layout_runs::copy_in(page, at + 8, bytes);
+}
+
+// On page p, which is sound: the eight bytes of a number and then these.
+fn insert_headed_at(
+    segment: &mut [u8],
+    inventory: &mut [u8],
+    p: usize,
+    head: usize,
+    bytes: &[u8],
+) -> Answer
+    requires { ⌜ Sizes (now segment) (now inventory) ⌝ }
+    requires { ⌜ SoundOn (now segment) p × (length (now bytes) ≤ 16356) ⌝ }
+    ensures { λ r. ⌜ outcome r (now (segment .exit)) (now (inventory .exit))
+        ≡ sizedOn (now (segment .entry)) (now (inventory .entry)) (toBE 8 head ++ now (bytes .entry)) (8 + length (now (bytes .entry))) (Named.At p) ⌝ }
+{
+    let place = segment_steps::allocate_on(segment, p, 8 + bytes.len());
+    let Place::At { slot, offset } = place else {
+        return Answer::Stale;
+    };
+    head_in(
+        &mut segment[p * 16384..(p + 1) * 16384],
+        offset,
+        head,
+        bytes,
     );
     segment_steps::update_on(segment, inventory, p);
     Answer::Done {

@@ -9,42 +9,36 @@ use store::Named;
 use store::PAGE_SIZE;
 ghost use mathlib.Core.Path.{_≡_};
 ghost use mathlib.Core.Bool.{true, _&&_};
+ghost use mathlib.Core.List.{_++_};
 ghost use Prim.Native.Nat.{_≤_};
 ghost use lib.ListN.{length};
 ghost use lib.Dec.{eqb};
-ghost use Rattle.store.specs.Segment.{sizeOk, invOk, insertStep};
+ghost use Rattle.store.specs.Numbers.{toBE};
+ghost use Rattle.store.specs.Page.{sound};
+ghost use Rattle.store.specs.Segment.{segView, sizeOk, invOk, insertStep};
 ghost use Rattle.store.specs.ManyRows.{insertAll, rowsOf, total, placed, insertRowsStep};
 ghost use Rattle.store.specs.Answers.{outcome, told, ByRow};
 ghost use Rattle.store.specs.Laws.Lent.{Within};
-ghost use Rattle.segment_steps.specs.Words.{Sizes};
-ghost use Rattle.segment_insert.specs.Words.{sizedOn, KnownSound};
+ghost use Rattle.segment_insert.specs.Words.{KnownSound};
 
 // How many pages a call remembers. The inventory has 15 entries, so rows of any lengths go to at most 15 pages in turn.
 pub const REMEMBERED: usize = 16;
 
-// On page p, which is looked at unless this call has found it sound before. `known` has, at its place, a page's number and 1; 0 is none.
-fn insert_known(
-    segment: &mut [u8],
-    inventory: &mut [u8],
-    known: &mut [usize],
-    p: usize,
-    bytes: &[u8],
-) -> Answer
-    requires { ⌜ Sizes (now segment) (now inventory) ⌝ }
-    requires { ⌜ (Within (now segment) p) × (length (now bytes) ≤ 16364) ⌝ }
+// Whether page p is sound: it is looked at unless this call has found it sound before. `known` has, at its place, a page's number and 1;
+// 0 is none.
+fn known_sound(segment: &[u8], known: &mut [usize], p: usize) -> bool
+    requires { ⌜ Within (now segment) p ⌝ }
     requires { ⌜ KnownSound (now segment) (now known) ⌝ }
-    ensures { λ r. ⌜ (outcome r (now (segment .exit)) (now (inventory .exit))
-        ≡ sizedOn (now (segment .entry)) (now (inventory .entry)) (now (bytes .entry)) (length (now (bytes .entry))) (Named.At p))
-        × KnownSound (now (segment .exit)) (now (known .exit)) ⌝ }
+    ensures { λ r. ⌜ (r ≡ sound (segView (now (segment .entry)) .page p)) × KnownSound (now (segment .entry)) (now (known .exit)) ⌝ }
 {
     let at = p % REMEMBERED;
     if known[at] != p + 1 {
         if !segment_pages::page_sound(segment, p) {
-            return Answer::Damaged;
+            return false;
         }
         known[at] = p + 1;
     }
-    crate::insert_sound_at(segment, inventory, p, bytes, bytes.len())
+    true
 }
 
 // One row, where the sizes have been tested.
@@ -68,7 +62,36 @@ pub fn insert_row(
     let Named::At { page } = named else {
         return Answer::Full;
     };
-    insert_known(segment, inventory, known, page, bytes)
+    if !known_sound(segment, known, page) {
+        return Answer::Damaged;
+    }
+    crate::insert_sound_at(segment, inventory, page, bytes, size)
+}
+
+// One row of a number's eight bytes and these, which is not too long.
+pub fn insert_headed(
+    segment: &mut [u8],
+    inventory: &mut [u8],
+    known: &mut [usize],
+    head: usize,
+    bytes: &[u8],
+) -> Answer
+    requires { ⌜ (sizeOk (now segment) && invOk (now inventory)) ≡ true ⌝ }
+    requires { ⌜ length (now bytes) ≤ 16356 ⌝ }
+    requires { ⌜ KnownSound (now segment) (now known) ⌝ }
+    ensures { λ r. ⌜ (outcome r (now (segment .exit)) (now (inventory .exit))
+        ≡ insertStep (now (segment .entry)) (now (inventory .entry)) (toBE 8 head ++ now (bytes .entry)))
+        × KnownSound (now (segment .exit)) (now (known .exit)) ⌝ }
+{
+    let size = 8 + bytes.len();
+    let named = free_space_inventory::find_page(inventory, segment.len() / PAGE_SIZE, size + 8);
+    let Named::At { page } = named else {
+        return Answer::Full;
+    };
+    if !known_sound(segment, known, page) {
+        return Answer::Damaged;
+    }
+    crate::insert_headed_at(segment, inventory, page, head, bytes)
 }
 
 // "At the first refusal it stops, tells how many rows went in, and those rows stay; id places past them are not written."

@@ -39,6 +39,14 @@ entries u = pagesEntries (u .pages) u 0
 unfoldable pub scanAll : List ℕ → List Entry
 scanAll s = entries (segView s)
 
+-- the records without their ids
+abbrev pub rowsIn : List Entry → List (List ℕ)
+rowsIn [] = []
+rowsIn (e ∷ es) = e .bytes ∷ rowsIn es
+
+abbrev pub records : SegView → List (List ℕ)
+records u = rowsIn (entries u)
+
 -- ---- that a scan's steps give a list
 
 -- the step d gives the entry e

@@ -1,0 +1,3 @@
+pub mod Exchange
+pub mod Told
+pub mod Words
