@@ -6,9 +6,12 @@ ghost use lib.ListN.{length, drop};
 ghost use Rattle.exchange.specs.Exchange.{parse};
 ghost use Rattle.exchange.specs.Words.{follows, Lies, faultOf, formatNo};
 
-// What stands before a record's data: mark, mirror, reading, row and length. The most data that a record has.
+// What stands before a record's data: mark, mirror, reading, row and length. What the file has beside the store's record: mark and length.
 pub const BEFORE: usize = 12;
 
+pub const AROUND: usize = 4;
+
+// The most data that a record has.
 const LONGEST_DATA: usize = 16356;
 
 // What stands at a place of the file: a record, by mirror, reading and row as one number, and the part of the file that is its data; the

@@ -89,7 +89,7 @@ pub fn export(segment: &[u8], file: &mut [u8]) -> Exported
     if !segment_pages::is_segment(segment) {
         return Exported::Size;
     }
-    let m = measure::measure(segment);
+    let m = measure::measure_segment(segment);
     if !m.sound {
         return Exported::Damaged;
     }

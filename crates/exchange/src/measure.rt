@@ -1,6 +1,5 @@
 // How long the file is: each page is checked and measured before a byte is written.
-use crate::format::BEFORE;
-use crate::parts::HEAD;
+use crate::format::AROUND;
 use crate::parts::Part;
 use segment_pages::page_of;
 use store::PAGE_SIZE;
@@ -33,7 +32,7 @@ fn with_part(m: Sums, part: Part) -> Sums
 {
     match part {
         Part::Reading { offset: _, length } => Sums {
-            length: m.length + (length - HEAD + BEFORE),
+            length: m.length + (length + AROUND),
             passed: m.passed,
         },
         Part::Passed => Sums {
@@ -63,7 +62,7 @@ fn measure_page(page: &[u8]) -> Sums
 }
 
 // Page by page, up to the first that is not sound.
-pub fn measure(segment: &[u8]) -> Measure
+pub fn measure_segment(segment: &[u8]) -> Measure
     requires { ⌜ sizeOk (now segment) ≡ true ⌝ }
     ensures { λ r. ⌜ Measured (segView (now (segment .entry))) r ⌝ }
 {

@@ -1,4 +1,5 @@
 // The file is written: all pages are sound and it fits, so that nothing is tested any more.
+use crate::format::AROUND;
 use crate::format::BEFORE;
 use crate::parts::HEAD;
 use crate::parts::Part;
@@ -38,7 +39,7 @@ fn write_part(file: &mut [u8], at: usize, page: &[u8], part: Part) -> usize
     match part {
         Part::Reading { offset, length } => {
             write_reading(file, at, page, offset, length);
-            at + (length - HEAD + BEFORE)
+            at + (length + AROUND)
         }
         Part::Passed => at,
         Part::Nothing => at,
