@@ -1,8 +1,10 @@
-// The store for C: the calls of a segment, the scan, repair and the fill report, with the documents' numbers for answers.
-// include/hekatosuy.h declares them.
+// The store for C: the calls of a segment, the scan, repair, the fill report and the exchange file, with the documents' numbers for
+// answers. include/hekatosuy.h declares them.
 //
 // A slice is a pointer and a length. What a call hands back beside its number it writes through a pointer to one u64; the fill
 // report, through a pointer to a tally.
+use exchange::Exported;
+use exchange::Imported;
 use segment_scan::OVER_PAGE;
 use store::Answer;
 use store::IDS_A_PAGE;
@@ -24,6 +26,8 @@ ghost use Rattle.store.specs.ManyRows.{insertRowsStep};
 ghost use Rattle.store.specs.Repair.{repairStep};
 ghost use Rattle.store.specs.Report.{reportStep};
 ghost use Rattle.store.specs.Answers.{answerNo, answerId, insertedNo, insertedRows, readingPart, scannedOf, repairNo, repairCount, reportedNo, numbers};
+ghost use Rattle.exchange.specs.Exchange.{importStep, exportStep};
+ghost use Rattle.exchange.specs.Told.{importedNo, importedRecords, exportedNo, exportedLength, exportedPassed};
 ghost use Rattle.hekatosuy.specs.Handed.{withId, withoutId, stepped, Positioned};
 
 // "Answers by number".
@@ -402,4 +406,104 @@ pub extern "C" fn hk_fill_report(segment: &[u8], tally: &mut Tally) -> u64
     let r = report_numbers(segment, *tally);
     *tally = r.tally;
     r.answer
+}
+
+// "Refusals: 1, then record by record in file order 13 SHORT .., 12 MARK .., 3 ..; then each insert's own."
+fn imported_no(r: Imported) -> u64
+    ensures { λ n. ⌜ n ≡ importedNo r ⌝ }
+{
+    match r {
+        Imported::Done { records: _ } => 0,
+        Imported::Size => 1,
+        Imported::Short => 13,
+        Imported::Mark => 12,
+        Imported::Long => 3,
+        Imported::Stopped { records: _, answer } => answer_no(answer),
+    }
+}
+
+fn imported_records(r: Imported) -> u64
+    ensures { λ n. ⌜ n ≡ importedRecords r ⌝ }
+{
+    match r {
+        Imported::Done { records } => records as u64,
+        Imported::Size => 0,
+        Imported::Short => 0,
+        Imported::Mark => 0,
+        Imported::Long => 0,
+        Imported::Stopped { records, answer: _ } => records as u64,
+    }
+}
+
+// The records of an exchange file, as new records; `inserted` is how many went in.
+#[no_mangle]
+pub extern "C" fn hk_import(
+    segment: &mut [u8],
+    inventory: &mut [u8],
+    file: &[u8],
+    inserted: &mut u64,
+) -> u64
+    ensures { λ r. ⌜ record { answer = r; inserted = now (inserted .exit); seg = now (segment .exit); inv = now (inventory .exit) }
+        ≡ importStep (now (segment .entry)) (now (inventory .entry)) (now (file .entry)) ⌝ }
+{
+    let r = exchange::import(segment, inventory, file);
+    *inserted = imported_records(r);
+    imported_no(r)
+}
+
+// "Export: 1, then 4 for a page that is not sound, then 11".
+fn exported_no(r: Exported) -> u64
+    ensures { λ n. ⌜ n ≡ exportedNo r ⌝ }
+{
+    match r {
+        Exported::Done {
+            length: _,
+            passed: _,
+        } => 0,
+        Exported::Size => 1,
+        Exported::Damaged => 4,
+        Exported::Room {
+            length: _,
+            passed: _,
+        } => 11,
+    }
+}
+
+fn exported_length(r: Exported) -> u64
+    ensures { λ n. ⌜ n ≡ exportedLength r ⌝ }
+{
+    match r {
+        Exported::Done { length, passed: _ } => length as u64,
+        Exported::Size => 0,
+        Exported::Damaged => 0,
+        Exported::Room { length, passed: _ } => length as u64,
+    }
+}
+
+fn exported_passed(r: Exported) -> u64
+    ensures { λ n. ⌜ n ≡ exportedPassed r ⌝ }
+{
+    match r {
+        Exported::Done { length: _, passed } => passed as u64,
+        Exported::Size => 0,
+        Exported::Damaged => 0,
+        Exported::Room { length: _, passed } => passed as u64,
+    }
+}
+
+// All readings as an exchange file, in the place that is lent; `length` is the file's and `passed` tells the records that are no readings.
+#[no_mangle]
+pub extern "C" fn hk_export(
+    segment: &[u8],
+    file: &mut [u8],
+    length: &mut u64,
+    passed: &mut u64,
+) -> u64
+    ensures { λ r. ⌜ record { answer = r; length = now (length .exit); passed = now (passed .exit); place = now (file .exit) }
+        ≡ exportStep (now (segment .entry)) (now (file .entry)) ⌝ }
+{
+    let r = exchange::export(segment, file);
+    *length = exported_length(r);
+    *passed = exported_passed(r);
+    exported_no(r)
 }
