@@ -3,15 +3,9 @@
 //
 // A slice is a pointer and a length. What a call hands back beside its number it writes through a pointer to one u64; the fill
 // report, through a pointer to a tally.
-use exchange::Exported;
-use exchange::Imported;
 use segment_scan::OVER_PAGE;
 use store::Answer;
 use store::IDS_A_PAGE;
-use store::Inserted;
-use store::Reading;
-use store::Repair;
-use store::Reported;
 use store::Step;
 use store::Tally;
 ghost use mathlib.Core.Path.{_≡_};
@@ -25,53 +19,19 @@ ghost use Rattle.store.specs.Scan.{without, scanStep};
 ghost use Rattle.store.specs.ManyRows.{insertRowsStep};
 ghost use Rattle.store.specs.Repair.{repairStep};
 ghost use Rattle.store.specs.Report.{reportStep};
-ghost use Rattle.store.specs.Answers.{answerNo, answerId, insertedNo, insertedRows, readingPart, scannedOf, repairNo, repairCount, reportedNo, numbers};
+ghost use Rattle.store.specs.Answers.{answerNo, answerId, scannedOf, numbers};
 ghost use Rattle.exchange.specs.Exchange.{importStep, exportStep};
-ghost use Rattle.exchange.specs.Told.{importedNo, importedRecords, exportedNo, exportedLength, exportedPassed};
 ghost use Rattle.hekatosuy.specs.Handed.{withId, withoutId, stepped, Positioned};
-
-// "Answers by number".
-fn answer_no(a: Answer) -> u64
-    ensures { λ r. ⌜ r ≡ answerNo a ⌝ }
-{
-    match a {
-        Answer::Done { id: _ } => 0,
-        Answer::Size => 1,
-        Answer::NoPage => 2,
-        Answer::Long => 3,
-        Answer::Damaged => 4,
-        Answer::NoRecord => 5,
-        Answer::Forwarded => 6,
-        Answer::Full => 7,
-        Answer::Stale => 8,
-    }
-}
-
-fn answer_id(a: Answer) -> u64
-    ensures { λ r. ⌜ r ≡ answerId a ⌝ }
-{
-    match a {
-        Answer::Done { id } => id as u64,
-        Answer::Size => 0,
-        Answer::NoPage => 0,
-        Answer::Long => 0,
-        Answer::Damaged => 0,
-        Answer::NoRecord => 0,
-        Answer::Forwarded => 0,
-        Answer::Full => 0,
-        Answer::Stale => 0,
-    }
-}
 
 // The number, with the new record's id where there is one; else `id` keeps what it was.
 fn hand_id(a: Answer, id: &mut u64) -> u64
     ensures { λ r. ⌜ (r ≡ answerNo a) × (now (id .exit) ≡ cond (eqb (answerNo a) 0) (answerId a) (now (id .entry))) ⌝ }
 {
-    let n = answer_no(a);
+    let n = answers::answer_no(a);
     if n != 0 {
         return n;
     }
-    *id = answer_id(a);
+    *id = answers::answer_id(a);
     0
 }
 
@@ -87,29 +47,6 @@ pub extern "C" fn hk_insert_record(
 {
     let a = segment_insert::insert_record(segment, inventory, bytes);
     hand_id(a, id)
-}
-
-// "Refusals: 1, then 10 LIST ..; then each row's own."
-fn inserted_no(r: Inserted) -> u64
-    ensures { λ n. ⌜ n ≡ insertedNo r ⌝ }
-{
-    match r {
-        Inserted::Done { rows: _ } => 0,
-        Inserted::Size => 1,
-        Inserted::List => 10,
-        Inserted::Stopped { rows: _, answer } => answer_no(answer),
-    }
-}
-
-fn inserted_rows(r: Inserted) -> u64
-    ensures { λ n. ⌜ n ≡ insertedRows r ⌝ }
-{
-    match r {
-        Inserted::Done { rows } => rows as u64,
-        Inserted::Size => 0,
-        Inserted::List => 0,
-        Inserted::Stopped { rows, answer: _ } => rows as u64,
-    }
 }
 
 // The rows stand end to end; `inserted` is how many went in.
@@ -132,8 +69,8 @@ pub extern "C" fn hk_insert_records(
         ≡ insertRowsStep (now (segment .entry)) (now (inventory .entry)) (now (rows .entry)) (now (lengths .entry)) (now (ids .entry)) ⌝ }
 {
     let r = segment_insert::insert_records(segment, inventory, rows, lengths, ids);
-    *inserted = inserted_rows(r);
-    inserted_no(r)
+    *inserted = answers::inserted_rows(r);
+    answers::inserted_no(r)
 }
 
 #[no_mangle]
@@ -161,7 +98,7 @@ pub extern "C" fn hk_write_record(
         ≡ withoutId (writeStep (now (segment .entry)) (now (inventory .entry)) id (now (bytes .entry))) ⌝ }
 {
     let a = segment_write::write::write_record(segment, inventory, id as usize, bytes);
-    answer_no(a)
+    answers::answer_no(a)
 }
 
 #[no_mangle]
@@ -175,7 +112,7 @@ pub extern "C" fn hk_resize_record(
         ≡ withoutId (resizeStep (now (segment .entry)) (now (inventory .entry)) id size) ⌝ }
 {
     let a = segment_write::resize::resize_record(segment, inventory, id as usize, size as usize);
-    answer_no(a)
+    answers::answer_no(a)
 }
 
 #[no_mangle]
@@ -184,32 +121,7 @@ pub extern "C" fn hk_erase_record(segment: &mut [u8], inventory: &mut [u8], id: 
         ≡ withoutId (eraseStep (now (segment .entry)) (now (inventory .entry)) id) ⌝ }
 {
     let a = segment_erase::erase_record(segment, inventory, id as usize);
-    answer_no(a)
-}
-
-// "an empty part for a read" that is refused.
-fn offset_of(r: Reading) -> u64
-    ensures { λ n. ⌜ n ≡ readingPart r .offset ⌝ }
-{
-    match r {
-        Reading::At { offset, length: _ } => offset as u64,
-        Reading::Size => 0,
-        Reading::NoPage => 0,
-        Reading::Damaged => 0,
-        Reading::NoRecord => 0,
-    }
-}
-
-fn length_of(r: Reading) -> u64
-    ensures { λ n. ⌜ n ≡ readingPart r .length ⌝ }
-{
-    match r {
-        Reading::At { offset: _, length } => length as u64,
-        Reading::Size => 0,
-        Reading::NoPage => 0,
-        Reading::Damaged => 0,
-        Reading::NoRecord => 0,
-    }
+    answers::answer_no(a)
 }
 
 // The record's place in the segment, without the back id of a target.
@@ -219,8 +131,8 @@ pub extern "C" fn hk_get_record(segment: &[u8], id: u64, offset: &mut u64, lengt
         ≡ locateStep (now (segment .entry)) id ⌝ }
 {
     let r = segment_read::find_record(segment, id as usize);
-    *offset = offset_of(r);
-    *length = length_of(r);
+    *offset = answers::offset_of(r);
+    *length = answers::length_of(r);
     segment_read::reading_no(r) as u64
 }
 
@@ -323,27 +235,6 @@ pub extern "C" fn hk_scan_step(
     h.answer
 }
 
-// "Refusals: 1, then 11 ROOM".
-fn repair_no(r: Repair) -> u64
-    ensures { λ n. ⌜ n ≡ repairNo r ⌝ }
-{
-    match r {
-        Repair::Done { count: _ } => 0,
-        Repair::Size => 1,
-        Repair::Room { count: _ } => 11,
-    }
-}
-
-fn repair_count(r: Repair) -> u64
-    ensures { λ n. ⌜ n ≡ repairCount r ⌝ }
-{
-    match r {
-        Repair::Done { count } => count as u64,
-        Repair::Size => 0,
-        Repair::Room { count } => count as u64,
-    }
-}
-
 // An entry is three words of `entries`: page, place, what was done. `count` is how many there are, and how many there would be on 11.
 #[no_mangle]
 pub extern "C" fn hk_repair(
@@ -362,20 +253,8 @@ pub extern "C" fn hk_repair(
         ≡ repairStep (now (segment .entry)) (now (inventory .entry)) (now (entries .entry)) ⌝ }
 {
     let r = segment_repair::repair(segment, inventory, entries);
-    *count = repair_count(r);
-    repair_no(r)
-}
-
-// "Refusals: 1 and 4 as in 01, then 9 TALLY".
-fn reported_no(r: Reported) -> u64
-    ensures { λ n. ⌜ n ≡ reportedNo r ⌝ }
-{
-    match r {
-        Reported::Done => 0,
-        Reported::Size => 1,
-        Reported::Damaged => 4,
-        Reported::Tally => 9,
-    }
+    *count = answers::repair_count(r);
+    answers::repair_no(r)
 }
 
 // What a report hands to C.
@@ -391,7 +270,7 @@ fn report_numbers(segment: &[u8], tally: Tally) -> Tallied
     let r = fill_report::report_by_value(segment, tally);
     let a = r.answer;
     let after = r.tally;
-    let answer = reported_no(a);
+    let answer = answers::reported_no(a);
     Tallied {
         answer,
         tally: after,
@@ -408,33 +287,6 @@ pub extern "C" fn hk_fill_report(segment: &[u8], tally: &mut Tally) -> u64
     r.answer
 }
 
-// "Refusals: 1, then record by record in file order 13 SHORT .., 12 MARK .., 3 ..; then each insert's own."
-fn imported_no(r: Imported) -> u64
-    ensures { λ n. ⌜ n ≡ importedNo r ⌝ }
-{
-    match r {
-        Imported::Done { records: _ } => 0,
-        Imported::Size => 1,
-        Imported::Short => 13,
-        Imported::Mark => 12,
-        Imported::Long => 3,
-        Imported::Stopped { records: _, answer } => answer_no(answer),
-    }
-}
-
-fn imported_records(r: Imported) -> u64
-    ensures { λ n. ⌜ n ≡ importedRecords r ⌝ }
-{
-    match r {
-        Imported::Done { records } => records as u64,
-        Imported::Size => 0,
-        Imported::Short => 0,
-        Imported::Mark => 0,
-        Imported::Long => 0,
-        Imported::Stopped { records, answer: _ } => records as u64,
-    }
-}
-
 // The records of an exchange file, as new records; `inserted` is how many went in.
 #[no_mangle]
 pub extern "C" fn hk_import(
@@ -447,48 +299,8 @@ pub extern "C" fn hk_import(
         ≡ importStep (now (segment .entry)) (now (inventory .entry)) (now (file .entry)) ⌝ }
 {
     let r = exchange::import(segment, inventory, file);
-    *inserted = imported_records(r);
-    imported_no(r)
-}
-
-// "Export: 1, then 4 for a page that is not sound, then 11".
-fn exported_no(r: Exported) -> u64
-    ensures { λ n. ⌜ n ≡ exportedNo r ⌝ }
-{
-    match r {
-        Exported::Done {
-            length: _,
-            passed: _,
-        } => 0,
-        Exported::Size => 1,
-        Exported::Damaged => 4,
-        Exported::Room {
-            length: _,
-            passed: _,
-        } => 11,
-    }
-}
-
-fn exported_length(r: Exported) -> u64
-    ensures { λ n. ⌜ n ≡ exportedLength r ⌝ }
-{
-    match r {
-        Exported::Done { length, passed: _ } => length as u64,
-        Exported::Size => 0,
-        Exported::Damaged => 0,
-        Exported::Room { length, passed: _ } => length as u64,
-    }
-}
-
-fn exported_passed(r: Exported) -> u64
-    ensures { λ n. ⌜ n ≡ exportedPassed r ⌝ }
-{
-    match r {
-        Exported::Done { length: _, passed } => passed as u64,
-        Exported::Size => 0,
-        Exported::Damaged => 0,
-        Exported::Room { length: _, passed } => passed as u64,
-    }
+    *inserted = answers::imported_records(r);
+    answers::imported_no(r)
 }
 
 // All readings as an exchange file, in the place that is lent; `length` is the file's and `passed` tells the records that are no readings.
@@ -503,7 +315,7 @@ pub extern "C" fn hk_export(
         ≡ exportStep (now (segment .entry)) (now (file .entry)) ⌝ }
 {
     let r = exchange::export(segment, file);
-    *length = exported_length(r);
-    *passed = exported_passed(r);
-    exported_no(r)
+    *length = answers::exported_length(r);
+    *passed = answers::exported_passed(r);
+    answers::exported_no(r)
 }
