@@ -7,11 +7,11 @@ use native.Mathlib.Numerals.{add-one}
 use native.Mathlib.Omega.{arith}
 use lib.ListN.{length}
 use lib.Dec.{eqb}
-use Rattle.store.specs.Numbers.{all, zeros}
+use Rattle.store.specs.Numbers.{all, zeros, one}
 use Rattle.store.specs.Page.{View, view, sound}
 use Rattle.store.specs.PageSteps.{opened}
 use Rattle.store.specs.Segment.{SegView, segView, pageOf}
-use Rattle.store.specs.Report.{one, over, meanings, figuresTo, added, allSound}
+use Rattle.store.specs.Report.{over, meanings, figuresTo, added, allSound}
 use Rattle.store.specs.Answers.{numbers}
 use Rattle.store.specs.Laws.Cases.{never}
 use Rattle.store.specs.Laws.SoundPage.{and-in, all-at}

@@ -7,12 +7,12 @@ use native.Mathlib.Omega.{arith}
 use native.Mathlib.Nat.{not-suc-le-zero}
 use native.Mathlib.Decide.{ℕ-discrete}
 use borrow.Author.Needs.{needs}
-use Rattle.store.specs.Numbers.{sum}
+use Rattle.store.specs.Numbers.{sum, one}
 use Rattle.store.specs.Slots.{len, isRecord, isTarget}
 use Rattle.store.specs.Page.{View, fresh}
 use Rattle.store.specs.PageSteps.{opened}
 use Rattle.store.specs.Inventory.{classOf}
-use Rattle.store.specs.Report.{one, bytesIn}
+use Rattle.store.specs.Report.{bytesIn}
 use Rattle.store.specs.Laws.Classes.{class-top}
 use Rattle.store.specs.Laws.Views.{Sound}
 use Rattle.store.specs.declared.Slot.{Slot}

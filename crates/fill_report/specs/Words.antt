@@ -4,12 +4,12 @@ use mathlib.Core.Path.{_≡_}
 use mathlib.Core.Bool.{true}
 use mathlib.Core.List.{List, [], _∷_}
 use lib.Dec.{eqb}
-use Rattle.store.specs.Numbers.{sum}
+use Rattle.store.specs.Numbers.{sum, one}
 use Rattle.store.specs.Slots.{len, isRecord, isTarget}
 use Rattle.store.specs.Page.{View}
 use Rattle.store.specs.Segment.{SegView}
 use Rattle.store.specs.SoundSegment.{nibbleOf}
-use Rattle.store.specs.Report.{one, plainLen, freshOf, slotsOf, recordsOf, bytesIn, bytesOf, forwardedOf, freeOf, figures, allSound}
+use Rattle.store.specs.Report.{plainLen, freshOf, slotsOf, recordsOf, bytesIn, bytesOf, forwardedOf, freeOf, figures, allSound}
 use Rattle.store.specs.Answers.{numbers}
 use Rattle.store.specs.declared.Slot.{Slot}
 use Rattle.fill_report.specs.declared.Figures.{Figures}

@@ -8,9 +8,9 @@ use lib.ListN.{length, take, drop, getD, length-drop, length-reverse}
 use lib.Seq.{getD-take, getD-drop, drop-drop, ext-getD, length-take-le}
 use lib.Dec.{eqb}
 use borrow.Author.Tests.{eq-eqb, eqb-true}
-use Rattle.store.specs.Numbers.{cut, Bytes, le, all}
+use Rattle.store.specs.Numbers.{cut, sameBytes, Bytes, le, all}
 use Rattle.store.specs.Inventory.{entryAt}
-use Rattle.store.specs.Repair.{sameBytes, sameInv}
+use Rattle.store.specs.Repair.{sameInv}
 use Rattle.store.specs.Laws.Cases.{lt-or-le}
 use Rattle.store.specs.Laws.SoundPage.{and-both, and-in, all-at, all-in}
 use Rattle.store.specs.Laws.Numbers.{bytes-take, bytes-drop, be-same}

@@ -3,8 +3,10 @@
 -- A page, a segment and an inventory are lists of bytes. Everything that is read is `cut` out of such a list, and everything that
 -- is written is `put` into one.
 use Prim.Native.Nat.{ℕ, zero, suc, _+_, _-_, _*_, _/_, _%_, _^_, _<_}
-use mathlib.Core.Bool.{Bool, true, cond, _&&_}
+use mathlib.Core.Path.{_≡_}
+use mathlib.Core.Bool.{Bool, true, false, cond, _&&_}
 use mathlib.Core.List.{List, [], _∷_, _++_, reverse}
+use mathlib.Core.Logic.{_⊎_}
 use lib.ListN.{length, take, drop, replicate}
 use lib.Dec.{eqb}
 
@@ -27,6 +29,13 @@ zeros n = replicate n 0
 -- a record's bytes at another size: cut off, or filled up with zeros
 abbrev pub fit : ℕ → List ℕ → List ℕ
 fit n bs = take n bs ++ zeros (n - length bs)
+
+-- byte by byte the same
+abbrev pub sameBytes : List ℕ → List ℕ → Bool
+sameBytes [] [] = true
+sameBytes [] (y ∷ ys) = false
+sameBytes (x ∷ xs) [] = false
+sameBytes (x ∷ xs) (y ∷ ys) = eqb x y && sameBytes xs ys
 
 -- each is a byte
 abbrev pub Bytes : List ℕ → Type 0
@@ -76,3 +85,14 @@ all (suc n) f = f n && all n f
 abbrev pub sum : ℕ → (ℕ → ℕ) → ℕ
 sum zero f = 0
 sum (suc n) f = f n + sum n f
+
+-- ---- of lists and tests
+
+-- x is one of a list
+abbrev pub In : {A : Type 0} → A → List A → Type 0
+In x [] = ⊥
+In x (y ∷ ys) = (x ≡ y) ⊎ In x ys
+
+-- 1 where a test passes
+abbrev pub one : Bool → ℕ
+one b = cond b 1 0

@@ -7,7 +7,7 @@ use mathlib.Core.Bool.{Bool, true, false, cond, not, _&&_, _||_}
 use mathlib.Core.List.{List, [], _∷_, _++_}
 use lib.ListN.{length, drop}
 use lib.Dec.{eqb, ltb, leb}
-use Rattle.store.specs.Numbers.{put, zeros, all, sum, idOf, pageNo, slotNo}
+use Rattle.store.specs.Numbers.{put, zeros, sameBytes, all, sum, idOf, pageNo, slotNo}
 use Rattle.store.specs.Slots.{slotBytes, off, len, isRecord, isTarget}
 use Rattle.store.specs.Page.{View, view, fresh, apart}
 use Rattle.store.specs.PageSteps.{putHead, nextFree}
@@ -190,12 +190,6 @@ segBytes u (suc p) s = put (segBytes u p s) (p * 16384) (pageBytes u p (pageOf s
 unfoldable pub trueInv : SegView → ℕ → ℕ → List ℕ
 trueInv w n zero = zeros 16384
 trueInv w n (suc p) = let r = trueInv w n p in cond (fresh (w .page p)) r (update r n p (w .page p .freeSpace))
-
-abbrev pub sameBytes : List ℕ → List ℕ → Bool
-sameBytes [] [] = true
-sameBytes [] (y ∷ ys) = false
-sameBytes (x ∷ xs) [] = false
-sameBytes (x ∷ xs) (y ∷ ys) = eqb x y && sameBytes xs ys
 
 -- "if it is not the true one": the fifteen entries as numbers, and each byte behind them
 unfoldable pub sameInv : List ℕ → List ℕ → Bool

@@ -6,7 +6,7 @@ use mathlib.Core.Bool.{true, false, cond}
 use mathlib.Core.List.{List, [], _∷_}
 use mathlib.Core.Logic.{_⊎_}
 use lib.ListN.{length}
-use Rattle.store.specs.Numbers.{cut, zeros}
+use Rattle.store.specs.Numbers.{cut, zeros, In}
 use Rattle.store.specs.Slots.{isRecord, isTarget}
 use Rattle.store.specs.Page.{View, view}
 use Rattle.store.specs.Segment.{pageOf}
@@ -22,11 +22,6 @@ abbrev pub directory : View → ℕ
 directory v = cond (lost v) 12 (12 + 8 * v .slotCount)
 
 -- ---- entries
-
--- e is one of a list
-abbrev pub In : Entry → List Entry → Type 0
-In e [] = ⊥
-In e (x ∷ xs) = (e ≡ x) ⊎ In e xs
 
 -- "entries ascend by (page, place)": strictly, so that no two are of one place
 abbrev pub Before : Entry → Entry → Type 0

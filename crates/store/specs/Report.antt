@@ -3,17 +3,13 @@ use Prim.Native.Nat.{ℕ, zero, suc, _+_, _-_, _^_}
 use mathlib.Core.Bool.{Bool, true, cond, not, _&&_}
 use mathlib.Core.List.{List, [], _∷_, map}
 use lib.Dec.{eqb, ltb}
-use Rattle.store.specs.Numbers.{sum, all}
+use Rattle.store.specs.Numbers.{sum, all, one}
 use Rattle.store.specs.Slots.{len, isRecord, isTarget}
 use Rattle.store.specs.Page.{View, fresh, sound}
 use Rattle.store.specs.Refusals.{DONE, SIZE, DAMAGED, TALLY}
 use Rattle.store.specs.Segment.{SegView, segView, sizeOk}
 use Rattle.store.specs.SoundSegment.{nibbleOf}
 use Rattle.store.specs.declared.Slot.{Slot}
-
--- 1 where a test passes
-abbrev pub one : Bool → ℕ
-one b = cond b 1 0
 
 -- ---- "Each figure has its own meaning from the pages": what one page counts for
 

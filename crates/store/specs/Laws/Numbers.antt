@@ -1,4 +1,4 @@
--- Laws of `put` and `cut`, and of numbers as bytes. All that is known of a page after a write follows from these.
+-- Laws of `put` and `cut`, and of numbers as bytes. All that is known of a page after a write follows from these. And: what is one of a list.
 use Prim.Native.Nat.{ℕ, zero, suc, _+_, _-_, _*_, _/_, _%_, _^_, _≤_, _<_}
 use mathlib.Core.Path.{_≡_, refl, sym, ap, _∙_}
 use mathlib.Core.List.{List, [], _∷_, _++_, reverse-reverse}
@@ -8,8 +8,8 @@ use lib.ListN.{length, take, drop, set, getD, length-drop, length-reverse}
 use lib.Arith.{digits-lt, digits-div, digits-mod}
 use borrow.Rule.Slice.PartMut.{putMid, put-same}
 use lib.Seq.{drop-drop, take-add, take-append-le, drop-append-le, take-all, take-take, drop-cons, length-take-le}
-use mathlib.Core.Logic.{_⊎_, inl, inr}
-use Rattle.store.specs.Numbers.{cut, put, Bytes, be, toBE, le, toLE}
+use mathlib.Core.Logic.{_⊎_, inl, inr, ⊎-elim}
+use Rattle.store.specs.Numbers.{cut, put, Bytes, be, toBE, le, toLE, In}
 
 pub length-put : (p : List ℕ) (i : ℕ) (vs : List ℕ) → length (put p i vs) ≡ length p
 length-put [] i vs = refl
@@ -236,3 +236,20 @@ put-swap (x ∷ p) (suc i) (suc j) a b h = ap {B = List ℕ} (λ r. x ∷ r) (pu
 put-swap (x ∷ p) zero j [] b h = put-nil (put (x ∷ p) j b) 0
 put-swap (x ∷ p) zero zero (y ∷ a) b h = absurd (omega arith)
 put-swap (x ∷ p) zero (suc j) (y ∷ a) b h = ap {B = List ℕ} (λ r. y ∷ r) (put-swap p zero j a b (omega arith))
+
+-- ---- one of two lists end to end
+
+module _ {A : Type 0} (x : A) where
+  pub in-either : (l m : List A) → In x (l ++ m) → In x l ⊎ In x m
+  in-either [] m h = inr h
+  in-either (y ∷ l) m (inl e) = inl (inl e)
+  in-either (y ∷ l) m (inr h) = ⊎-elim (λ a. inl (inr a)) (λ b. inr b) (in-either l m h)
+
+  pub in-left : (l m : List A) → In x l → In x (l ++ m)
+  in-left [] m h = absurd h
+  in-left (y ∷ l) m (inl e) = inl e
+  in-left (y ∷ l) m (inr h) = inr (in-left l m h)
+
+  pub in-right : (l m : List A) → In x m → In x (l ++ m)
+  in-right [] m h = h
+  in-right (y ∷ l) m h = inr (in-right l m h)

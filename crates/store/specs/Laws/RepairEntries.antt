@@ -10,21 +10,21 @@ use native.Mathlib.Decide.{ℕ-discrete, decLt}
 use lib.ListN.{length, drop}
 use lib.Dec.{eqb, ltb}
 use borrow.Author.Tests.{eq-eqb}
-use Rattle.store.specs.Numbers.{cut, put, zeros, be, all, idOf}
+use Rattle.store.specs.Numbers.{cut, put, zeros, sameBytes, be, all, idOf, In}
 use Rattle.store.specs.Slots.{slotOf}
 use Rattle.store.specs.Page.{View, view, fresh}
 use Rattle.store.specs.PageSteps.{putHead}
 use Rattle.store.specs.Inventory.{entryAt}
 use Rattle.store.specs.Segment.{SegView, pageOf}
 use Rattle.store.specs.Repair.{standing, lost, keeps, holds, named, deedBy, deed, changes, slotDone, slotAfter, mended, emptied}
-use Rattle.store.specs.Repair.{pageAfter, sameHead, putSlots, putMended, pageBytes, sameBytes, sameInv, trueOf, invAfter, Entry, entry}
+use Rattle.store.specs.Repair.{pageAfter, sameHead, putSlots, putMended, pageBytes, sameInv, trueOf, invAfter, Entry, entry}
 use Rattle.store.specs.Repair.{deedNo, slotEntries, headEntries, pageEntries, segEntries, invEntries, entries}
-use Rattle.store.specs.RepairTold.{directory, In, Before, Ascending, Tells, freed-record, freed-redirect, made-ordinary}
+use Rattle.store.specs.RepairTold.{directory, Before, Ascending, Tells, freed-record, freed-redirect, made-ordinary}
 use Rattle.store.specs.RepairTold.{TellsHeader, worked-out, zeroed}
 use Rattle.store.specs.declared.Deed.{Deed}
 use Rattle.store.specs.declared.Deed.the-variants.{Stays, RecordFreed, RedirectFreed, MadeOrdinary}
 use Rattle.store.specs.Laws.Cases.{by-test}
-use Rattle.store.specs.Laws.Numbers.{cut-take, cut-same}
+use Rattle.store.specs.Laws.Numbers.{cut-take, cut-same, in-either, in-left, in-right}
 use Rattle.store.specs.Laws.SoundPage.{and-in, all-in, fresh-none}
 use Rattle.store.specs.Laws.RepairPage.{used}
 use Rattle.store.specs.Laws.RepairBytes.{slots-frame, page-past-directory, page-slot-same, page-seen, repairedSeg, repaired-page, repaired-view}
@@ -35,26 +35,6 @@ use Rattle.store.specs.Laws.Segments.{length-page}
 use Rattle.store.specs.Laws.Repair.{standing-pages, standing-page}
 use Rattle.store.specs.declared.Slot.{Slot}
 use Rattle.store.specs.declared.Slot.the-variants.{Ordinary, Free, Redirect, Target}
-
--- ---- one of a list
-
-in-either : (e : Entry) (xs ys : List Entry) → In e (xs ++ ys) → In e xs ⊎ In e ys
-in-either e [] ys h = inr h
-in-either e (x ∷ xs) ys (inl q) = inl (inl q)
-in-either e (x ∷ xs) ys (inr h) = go (in-either e xs ys h)
-  where
-    go : In e xs ⊎ In e ys → In e (x ∷ xs) ⊎ In e ys
-    go (inl a) = inl (inr a)
-    go (inr b) = inr b
-
-in-left : (e : Entry) (xs ys : List Entry) → In e xs → In e (xs ++ ys)
-in-left e [] ys h = absurd h
-in-left e (x ∷ xs) ys (inl q) = inl q
-in-left e (x ∷ xs) ys (inr h) = inr (in-left e xs ys h)
-
-in-right : (e : Entry) (xs ys : List Entry) → In e ys → In e (xs ++ ys)
-in-right e [] ys h = h
-in-right e (x ∷ xs) ys h = inr (in-right e xs ys h)
 
 -- ---- which entries there are
 

@@ -9,12 +9,12 @@ use lib.ListN.{length, getD, drop, length-drop, length-replicate}
 use lib.Seq.{getD-drop, ext-getD}
 use lib.Dec.{eqb, ltb}
 use borrow.Author.Tests.{eq-eqb, eqb-true, ne-eqb, lt-ltb, le-ltb}
-use Rattle.store.specs.Numbers.{upd, all}
+use Rattle.store.specs.Numbers.{sameBytes, upd, all}
 use Rattle.store.specs.Page.{fresh}
 use Rattle.store.specs.Inventory.{classOf, halfOf, nibbleAt, nibble, entryAt, update, Truth}
 use Rattle.store.specs.Segment.{SegView}
 use Rattle.store.specs.SoundSegment.{nibbleOf}
-use Rattle.store.specs.Repair.{trueInv, sameBytes, sameInv}
+use Rattle.store.specs.Repair.{trueInv, sameInv}
 use Rattle.store.specs.Laws.Cases.{by-test}
 use Rattle.store.specs.Laws.Classes.{class-top}
 use Rattle.store.specs.Laws.Truth.{lowest-falls}

@@ -5,11 +5,11 @@ use mathlib.Core.Bool.{Bool, true, false, cond}
 use mathlib.Core.List.{List, [], _∷_, _++_}
 use native.Mathlib.Omega.{arith}
 use lib.ListN.{length, length-append}
+use Rattle.store.specs.Numbers.{In}
 use Rattle.store.specs.Page.{fresh}
 use Rattle.store.specs.Segment.{SegView}
 use Rattle.store.specs.Repair.{lost, deed, changes, mended, sameHead, sameInv, trueOf, Entry, entry, deedNo, slotEntries}
 use Rattle.store.specs.Repair.{headEntries, pageEntries, segEntries, invEntries, entries}
-use Rattle.store.specs.RepairTold.{In}
 use Rattle.store.specs.declared.Deed.{Deed}
 use Rattle.store.specs.declared.Deed.the-variants.{Stays, RecordFreed, RedirectFreed, MadeOrdinary}
 use Rattle.store.specs.Laws.SoundPage.{fresh-none}

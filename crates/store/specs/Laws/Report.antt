@@ -9,7 +9,7 @@ use native.Mathlib.Decide.{ℕ-discrete, decLt}
 use lib.ListN.{length, getD, length-append}
 use lib.Dec.{eqb, ltb}
 use borrow.Author.Tests.{ltb-true, ltb-false, lt-ltb, eq-eqb, ne-eqb}
-use Rattle.store.specs.Numbers.{zeros, sum, all}
+use Rattle.store.specs.Numbers.{zeros, sum, all, one}
 use Rattle.store.specs.Slots.{len, isTarget}
 use Rattle.store.specs.Page.{View, view, fresh, sound}
 use Rattle.store.specs.PageSteps.{opened}
@@ -17,7 +17,7 @@ use Rattle.store.specs.Inventory.{classOf}
 use Rattle.store.specs.Refusals.{DONE, SIZE, DAMAGED, TALLY}
 use Rattle.store.specs.Segment.{SegView, segView, pageOf, sizeOk}
 use Rattle.store.specs.SoundSegment.{nibbleOf, PagesSound}
-use Rattle.store.specs.Report.{one, freshOf, slotsOf, bytesIn, bytesOf, forwardedOf, freeOf, ofClass, meanings, over, figuresTo, figures, added, allFit}
+use Rattle.store.specs.Report.{freshOf, slotsOf, bytesIn, bytesOf, forwardedOf, freeOf, ofClass, meanings, over, figuresTo, figures, added, allFit}
 use Rattle.store.specs.Report.{Report, report, allSound, reportStep}
 use Rattle.store.specs.ReportTold.{classAt, AddsUp, ClassesAddUp, Damage, sumAt, Passes, tallyAfter, AllDone}
 use Rattle.store.specs.ReportTold.{counted, totals, Permuted, nil, keep, swap, then}

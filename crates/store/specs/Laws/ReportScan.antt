@@ -6,12 +6,12 @@ use mathlib.Core.List.{List, [], _∷_, _++_, map}
 use native.Mathlib.Omega.{arith}
 use native.Mathlib.Numerals.{add-one}
 use lib.ListN.{length, drop, length-drop}
-use Rattle.store.specs.Numbers.{sum}
+use Rattle.store.specs.Numbers.{sum, one}
 use Rattle.store.specs.Slots.{len, isRecord, isTarget}
 use Rattle.store.specs.Page.{View}
 use Rattle.store.specs.Segment.{SegView}
 use Rattle.store.specs.Records.{Entry, entryOf, entriesFrom, pageEntries, pagesEntries, entries}
-use Rattle.store.specs.Report.{one, recordsOf, bytesIn, bytesOf, over}
+use Rattle.store.specs.Report.{recordsOf, bytesIn, bytesOf, over}
 use Rattle.store.specs.ManyRows.{total}
 use Rattle.store.specs.Laws.Views.{Sound, sum-ext}
 use Rattle.store.specs.declared.Slot.{Slot}

@@ -7,11 +7,11 @@ use mathlib.Core.List.{List}
 use mathlib.Core.Logic.{_≢_}
 use native.Mathlib.Omega.{arith}
 use lib.ListN.{length}
-use Rattle.store.specs.Numbers.{cut}
+use Rattle.store.specs.Numbers.{cut, In}
 use Rattle.store.specs.Page.{view}
 use Rattle.store.specs.Segment.{pageOf, sizeOk, invOk}
 use Rattle.store.specs.Repair.{standing, lost, deed, deedNo, Entry, entry, entries, Repaired, repairStep}
-use Rattle.store.specs.RepairTold.{In, Ascending, Tells, TellsHeader}
+use Rattle.store.specs.RepairTold.{Ascending, Tells, TellsHeader}
 use Rattle.store.specs.Laws.SoundPage.{and-both}
 use Rattle.store.specs.Laws.SoundSegment.{sized}
 use Rattle.store.specs.Laws.RepairCall.{Outcome, of-size, of-room, of-done, outcome}

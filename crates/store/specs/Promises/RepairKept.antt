@@ -8,12 +8,12 @@ use mathlib.Core.Bool.{false}
 use native.Mathlib.Omega.{arith}
 use lib.ListN.{length, take, drop}
 use borrow.Author.Tests.{eqb-true}
-use Rattle.store.specs.Numbers.{cut, pageNo, slotNo}
+use Rattle.store.specs.Numbers.{cut, pageNo, slotNo, In}
 use Rattle.store.specs.Page.{view}
 use Rattle.store.specs.Segment.{segView, pageOf, sizeOk, invOk, readStep, locateStep}
 use Rattle.store.specs.SoundSegment.{slotOn, bytesOn}
 use Rattle.store.specs.Repair.{standing, lost, deed, Entry, entry, entries, words, Repaired, repairStep}
-use Rattle.store.specs.RepairTold.{directory, In}
+use Rattle.store.specs.RepairTold.{directory}
 use Rattle.store.specs.Laws.Numbers.{cut-same, drop-put}
 use Rattle.store.specs.Laws.SoundPage.{and-both}
 use Rattle.store.specs.Laws.SoundSegment.{sized}

@@ -8,11 +8,11 @@ use native.Mathlib.Omega.{arith}
 use lib.ListN.{length}
 use lib.Dec.{eqb}
 use borrow.Author.Tests.{lt-ltb, eqb-true}
-use Rattle.store.specs.Numbers.{sum}
+use Rattle.store.specs.Numbers.{sum, one}
 use Rattle.store.specs.Inventory.{nibble, Truth}
 use Rattle.store.specs.Segment.{segView, sizeOk, invOk}
 use Rattle.store.specs.SoundSegment.{nibbleOf, classes, SoundSegment}
-use Rattle.store.specs.Report.{one, ofClass, figures}
+use Rattle.store.specs.Report.{ofClass, figures}
 use Rattle.store.specs.ReportTold.{classAt}
 use Rattle.store.specs.Laws.Views.{sum-ext}
 use Rattle.store.specs.Laws.SoundSegment.{sized}
