@@ -31,6 +31,7 @@ pub mod Headers
 pub mod Scan
 pub mod ScanAll
 pub mod Rows
+pub mod Listed
 pub mod Grown
 pub mod Blank
 pub mod RepairPage

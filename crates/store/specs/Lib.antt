@@ -10,6 +10,7 @@ pub mod ManyRows
 pub mod Scan
 pub mod Records
 pub mod SoundSegment
+pub mod Book
 pub mod Report
 pub mod ReportTold
 pub mod ManyRowsTold

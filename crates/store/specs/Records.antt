@@ -2,8 +2,10 @@
 -- this list.
 use Prim.Native.Nat.{ℕ, zero, suc, _+_}
 use mathlib.Core.Path.{_≡_}
-use mathlib.Core.Bool.{true, false, cond}
-use mathlib.Core.List.{List, [], _∷_, _++_}
+use mathlib.Core.Bool.{Bool, true, false, cond}
+use mathlib.Core.List.{List, [], _∷_, _++_, map}
+use mathlib.Core.Logic.{_≢_}
+use Rattle.store.specs.Numbers.{sameBytes, In, one}
 use Rattle.store.specs.Refusals.{DONE}
 use Rattle.store.specs.Slots.{isRecord}
 use Rattle.store.specs.Page.{View}
@@ -39,10 +41,9 @@ entries u = pagesEntries (u .pages) u 0
 unfoldable pub scanAll : List ℕ → List Entry
 scanAll s = entries (segView s)
 
--- the records without their ids
+-- the same without the ids
 abbrev pub rowsIn : List Entry → List (List ℕ)
-rowsIn [] = []
-rowsIn (e ∷ es) = e .bytes ∷ rowsIn es
+rowsIn = map (λ (e : Entry). e .bytes)
 
 abbrev pub records : SegView → List (List ℕ)
 records u = rowsIn (entries u)
@@ -66,3 +67,18 @@ pub record GivesNone (step : ℕ → ℕ → Scanned) (d : Scanned) : Type 0 whe
 abbrev pub GivesAll : (ℕ → ℕ → Scanned) → Scanned → List Entry → Type 0
 GivesAll step d [] = GivesNone step d
 GivesAll step d (e ∷ es) = Gives d e × GivesAll step (step (d .page) (d .slot)) es
+
+-- ---- "each entry once", "each as often as before"
+
+-- no id twice
+abbrev pub OnceEach : List Entry → Type 0
+OnceEach [] = Unit {0}
+OnceEach (e ∷ es) = ((x : Entry) → In x es → x .id ≢ e .id) × OnceEach es
+
+-- how many of a list pass a test; how often x is among records
+abbrev pub countIf : {A : Type 0} → (A → Bool) → List A → ℕ
+countIf f [] = 0
+countIf f (x ∷ xs) = one (f x) + countIf f xs
+
+abbrev pub times : List ℕ → List (List ℕ) → ℕ
+times x = countIf (sameBytes x)

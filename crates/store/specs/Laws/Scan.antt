@@ -105,25 +105,31 @@ module _ (s v : List ℕ) (h : SoundSegment s v) where
     small : j < 65536
     small = omega (arith, seen-sound s v h .sounds p .few)
 
-    inside : pageNo (idOf p j) < segView s .pages
+    pub inside : pageNo (idOf p j) < segView s .pages
     inside = subst (λ (q : ℕ). q < segView s .pages) (sym (page-of p j small)) below
 
-    here : slotOn (segView s) (idOf p j) ≡ segView s .page p .at j
+    pub here : slotOn (segView s) (idOf p j) ≡ segView s .page p .at j
     here = λ i. segView s .page (page-of p j small i) .at (slot-of p j small i)
 
     same-bytes : segView s .page (pageNo (idOf p j)) .bytes (slotNo (idOf p j)) ≡ segView s .page p .bytes j
     same-bytes = λ i. segView s .page (page-of p j small i) .bytes (slot-of p j small i)
 
     -- a target's back id is its root's, which is a redirect to it
-    by-root : (o l : ℕ) → segView s .page p .at j ≡ Target o l
-        → readStep s (be (take 8 (segView s .page p .bytes j))) ≡ row (drop 8 (segView s .page p .bytes j))
-    by-root o l e =
+    abbrev pub back : ℕ
+    back = be (take 8 (segView s .page p .bytes j))
+
+    pub back-root : (o l : ℕ) → segView s .page p .at j ≡ Target o l → (pageNo back < segView s .pages) × (slotOn (segView s) back ≡ Redirect (idOf p j))
+    back-root o l e =
         let t : ℕ = idOf p j in
         let n = h .pairs .targets t inside (ap isTarget (here ∙ e)) in
         let r = h .pairs .redirects (n .by) t (n .below) (n .names) in
-        let b : be (take 8 (segView s .page p .bytes j)) ≡ n .by = ap (λ (bs : List ℕ). be (take 8 bs)) (sym same-bytes) ∙ r .back in
-        ap (readStep s) b ∙ read-by s v h (n .by) (n .below) ∙ by-look s v h (n .by) (n .below)
-        ∙ ap (λ (x : Slot). look (bytesOn (segView s)) (n .by) (tag x)) (n .names)
+        let b : back ≡ n .by = ap (λ (bs : List ℕ). be (take 8 bs)) (sym same-bytes) ∙ r .back in
+        rw b (n .below, n .names)
+
+    by-root : (o l : ℕ) → segView s .page p .at j ≡ Target o l → readStep s back ≡ row (drop 8 (segView s .page p .bytes j))
+    by-root o l e =
+        let r = back-root o l e in
+        read-by s v h back (r .0) ∙ by-look s v h back (r .0) ∙ ap (λ (x : Slot). look (bytesOn (segView s)) back (tag x)) (r .1)
         ∙ ap (λ (bs : List ℕ). row (drop 8 bs)) same-bytes
 
     pub record-reads : (x : Slot) → segView s .page p .at j ≡ x → isRecord x ≡ true → Reads (recordAt (segView s .page p) p j)

@@ -82,7 +82,7 @@ oldBytes u i = look (bytesOn u) i (tagOn u i) .bytes
 step-ok : (v : View) (k : ℕ) (x : Slot) (bs : List ℕ) (a : Plan) → Changes v k x bs a → StepOk v a
 step-ok v k x bs a c = record { used = c .used; writes = c .writes; header = c .header }
 
-counted : (v : View) → Sound v → (k : ℕ) → isFree (v .at k) ≡ false → k < v .slotCount
+pub counted : (v : View) → Sound v → (k : ℕ) → isFree (v .at k) ≡ false → k < v .slotCount
 counted v s k f = go (decLt k (v .slotCount))
   where
     go : Dec (k < v .slotCount) → k < v .slotCount
