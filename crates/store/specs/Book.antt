@@ -5,7 +5,7 @@ use mathlib.Core.Bool.{Bool, true, false, cond, _&&_}
 use mathlib.Core.List.{List}
 use lib.ListN.{length}
 use lib.Dec.{eqb, ltb}
-use Rattle.store.specs.Numbers.{zeros, fit, pageNo, upd, In}
+use Rattle.store.specs.Numbers.{zeros, fit, sameBytes, pageNo, upd, In, one}
 use Rattle.store.specs.Refusals.{DONE}
 use Rattle.store.specs.Segment.{segView, Result, readStep}
 use Rattle.store.specs.Calls.{Call, insert, allocate, write, resize, erase}
@@ -63,3 +63,12 @@ pub record Lists (b : Book) (es : List Entry) : Type 0 where
   pub once : OnceEach es
   pub of : (x : Entry) → In x es → b (x .id) ≡ row (x .bytes)
   pub all : (i : ℕ) (bs : List ℕ) → b i ≡ row bs → In (record { id = i; bytes = bs }) es
+
+-- how many entries of the list a row makes: one or none. Of those that pass a test, the row under the id i; of those with the bytes x, whatever the id
+abbrev pub countRow : (Entry → Bool) → ℕ → Row → ℕ
+countRow f i absent = 0
+countRow f i (row bs) = one (f (record { id = i; bytes = bs }))
+
+abbrev pub timesRow : List ℕ → Row → ℕ
+timesRow x absent = 0
+timesRow x (row bs) = one (sameBytes x bs)

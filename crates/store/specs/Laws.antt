@@ -32,6 +32,8 @@ pub mod Scan
 pub mod ScanAll
 pub mod Rows
 pub mod Listed
+pub mod Book
+pub mod Counts
 pub mod Grown
 pub mod Blank
 pub mod RepairPage

@@ -9,6 +9,7 @@ pub mod Parts
 pub mod Scan
 pub mod AlikeByKind
 pub mod Alike
+pub mod Book
 pub mod Growth
 pub mod Blank
 pub mod Marked
@@ -22,6 +23,7 @@ pub mod RepairExamples
 pub mod ManyRows
 pub mod ManyRowsCall
 pub mod ManyRowsSound
+pub mod Counts
 pub mod ManyRowsAlike
 pub mod ManyRowsExamples
 pub mod Report

@@ -75,10 +75,13 @@ abbrev pub OnceEach : List Entry → Type 0
 OnceEach [] = Unit {0}
 OnceEach (e ∷ es) = ((x : Entry) → In x es → x .id ≢ e .id) × OnceEach es
 
--- how many of a list pass a test; how often x is among records
+-- how many of a list pass a test; how often x is among records, and in a segment's scan
 abbrev pub countIf : {A : Type 0} → (A → Bool) → List A → ℕ
 countIf f [] = 0
 countIf f (x ∷ xs) = one (f x) + countIf f xs
 
 abbrev pub times : List ℕ → List (List ℕ) → ℕ
 times x = countIf (sameBytes x)
+
+abbrev pub timesIn : List ℕ → List ℕ → ℕ
+timesIn x s = times x (rowsIn (scanAll s))

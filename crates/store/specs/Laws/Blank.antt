@@ -1,4 +1,4 @@
--- A segment of no page is sound with an inventory all zero.
+-- A segment of no page is sound with an inventory all zero; and pages of zeros have no record.
 use Prim.Native.Nat.{ℕ, zero, suc, _+_, _*_, _/_, _%_}
 use mathlib.Core.Path.{_≡_, refl, sym, ap, _∙_}
 use mathlib.Core.List.{List, [], _∷_, reverse, reverseAux}
@@ -8,9 +8,12 @@ use lib.Dec.{eqb}
 use borrow.Author.Tests.{eq-eqb, le-ltb}
 use Rattle.store.specs.Numbers.{cut, zeros}
 use Rattle.store.specs.Inventory.{nibbleAt, nibble, halfOf, entryAt}
-use Rattle.store.specs.Segment.{segView}
+use Rattle.store.specs.PageSteps.{initialised}
+use Rattle.store.specs.Segment.{SegView, segView, pageOf}
+use Rattle.store.specs.Records.{pagesEntries, entries}
 use Rattle.store.specs.SoundSegment.{classes, SoundSegment}
-use Rattle.store.specs.Laws.Grown.{AllZero, zero-zeros, zero-take, zero-drop, zero-be, either}
+use Rattle.store.specs.Laws.Grown.{AllZero, zero-zeros, zero-take, zero-drop, zero-be, either, zero-page}
+use Rattle.store.specs.Laws.SoundSegment.{seen-page}
 
 -- ---- an inventory of zeros
 
@@ -52,3 +55,17 @@ none-sound =
   where
     no-class : (p : ℕ) → classes (segView []) p ≡ 0
     no-class p = rw (le-ltb p 0 (omega arith))
+
+-- ---- pages of zeros
+
+zeros-page : (n p : ℕ) → segView (zeros n) .page p ≡ initialised
+zeros-page n p =
+    seen-page (zeros n) p
+    ∙ zero-page (pageOf (zeros n) p) (zero-take 16384 (drop (p * 16384) (zeros n)) (zero-drop [] (zeros n) (zero-zeros n) (p * 16384) (omega arith)))
+
+no-entries : (u : SegView) → ((p : ℕ) → u .page p ≡ initialised) → (m p : ℕ) → pagesEntries m u p ≡ []
+no-entries u h zero p = refl
+no-entries u h (suc m) p = rw (h p) (no-entries u h m (p + 1))
+
+pub zeros-empty : (n : ℕ) → entries (segView (zeros n)) ≡ []
+zeros-empty n = no-entries (segView (zeros n)) (zeros-page n) (segView (zeros n) .pages) 0

@@ -53,7 +53,7 @@ either true = refl
 either false = refl
 
 -- a page of zeros is seen as one just initialised, and so is one that is not there
-zero-page : (q : List ℕ) → AllZero q → opened (view q) ≡ initialised
+pub zero-page : (q : List ℕ) → AllZero q → opened (view q) ≡ initialised
 unfolding view
 zero-page q z = rw (header-is (view q) 0 0 0 0 (part 0 2) (part 2 2) (part 4 4) (part 8 4))
   where

@@ -3,25 +3,25 @@ use Prim.Native.Nat.{ℕ, zero, suc, _+_, _-_, _≤_, _<_}
 use mathlib.Core.Path.{_≡_, refl, sym, ap, _∙_, subst}
 use mathlib.Core.Bool.{Bool, true, false, not, _&&_}
 use mathlib.Core.List.{List, [], _∷_, _++_}
-use mathlib.Core.Logic.{_≢_}
+use mathlib.Core.Logic.{_⊎_, inl, inr, ⊎-elim, _≢_}
 use native.Mathlib.Omega.{arith}
 use native.Mathlib.Nat.{zero-add}
 use lib.ListN.{length, getD, take, drop, length-drop}
 use lib.Dec.{eqb, ltb, leb}
 use lib.Seq.{take-nil, take-take, take-append-le, drop-append-le, drop-drop}
-use borrow.Author.Tests.{eqb-true, eqb-false, eq-eqb, le-leb}
+use borrow.Author.Tests.{eqb-true, eqb-false, eq-eqb, ne-eqb, le-leb}
 use Rattle.store.specs.Numbers.{cut, put}
 use Rattle.store.specs.Page.{sound}
 use Rattle.store.specs.PageSteps.{Alloc, noRoom, got, allocate}
 use Rattle.store.specs.Inventory.{foundIn}
-use Rattle.store.specs.Refusals.{DONE, SIZE, LONG, DAMAGED, LIST}
+use Rattle.store.specs.Refusals.{DONE, SIZE, LONG, DAMAGED, FULL, STALE, LIST}
 use Rattle.store.specs.Segment.{SegView, segView, sizeOk, invOk, Out, Result, result, refuse, Found, nowhere, found, taken, findOn, needFor, find}
 use Rattle.store.specs.Segment.{inserted, insertPlan, insertStep}
 use Rattle.store.specs.ManyRows.{Rows, noRow, andRow, insertAll, rowsOf, total, listOk, placed, insertRowsStep}
 use Rattle.store.specs.ManyRowsTold.{ofRow, unchanged, given, carriedOut, joined, StoppedAt, OneAtATime}
 use Rattle.store.specs.Laws.Numbers.{cut-drop, cut-same, put-nil}
 use Rattle.store.specs.Laws.SoundPage.{and-both, and-in}
-use Rattle.store.specs.Laws.Cases.{by-test, tests}
+use Rattle.store.specs.Laws.Cases.{by-test, tests, never, eq-or-ne}
 use Rattle.store.specs.declared.Named.{Named}
 use Rattle.store.specs.declared.Named.the-variants.{At, Full}
 
@@ -187,33 +187,52 @@ row-at (suc k) (l ∷ ls) bs h = row-at k ls (drop l bs) (omega arith) ∙ ap (t
 
 -- ---- a row's own answers: with right sizes, insert gives no 1
 
+-- a page that was not found is no 3
 abbrev OfFound : Found → Type 0
-OfFound (nowhere a) = ofRow a ≡ true
+OfFound (nowhere a) = (ofRow a ≡ true) × (a ≢ LONG)
 OfFound (found p k a) = Unit {0}
 
 taken-own : (p : ℕ) (a : Alloc) → OfFound (taken p a)
-taken-own p noRoom = refl
+taken-own p noRoom = (refl, λ e. omega arith)
 taken-own p (got k a) = tt
 
 found-own : (u : SegView) (m : ℕ) (n : Named) → OfFound (findOn u m (λ p. false) n)
-found-own u m Full = refl
+found-own u m Full = (refl, λ e. omega arith)
 found-own u m (At p) =
-    by-test OfFound (not (sound (u .page p))) (nowhere DAMAGED) (taken p (allocate (u .page p) m)) (λ e. refl) (λ e. taken-own p (allocate (u .page p) m))
+    by-test OfFound (not (sound (u .page p))) (nowhere DAMAGED) (taken p (allocate (u .page p) m)) (λ e. (refl, λ f. omega arith))
+    (λ e. taken-own p (allocate (u .page p) m))
 
-inserted-own : (u : SegView) (v bs : List ℕ) (f : Found) → OfFound f → ofRow (inserted u v bs f .answer) ≡ true
+inserted-own : (u : SegView) (v bs : List ℕ) (f : Found) → OfFound f → (ofRow (inserted u v bs f .answer) ≡ true) × (inserted u v bs f .answer ≢ LONG)
 inserted-own u v bs (nowhere a) h = h
-inserted-own u v bs (found p k a) h = refl
+inserted-own u v bs (found p k a) h = (refl, λ e. omega arith)
 
-plan-own : (u : SegView) (v bs : List ℕ) → ofRow (insertPlan foundIn u v bs .answer) ≡ true
+plan-own : (u : SegView) (v bs : List ℕ) → let a = insertPlan foundIn u v bs .answer in (ofRow a ≡ true) × (length bs ≤ 16364 → a ≢ LONG)
 unfolding insertPlan find
 plan-own u v bs =
     let f : Found = findOn u (length bs) (λ p. false) (foundIn v (u .pages) (needFor (length bs))) in
-    by-test (λ (o : Out). ofRow (o .answer) ≡ true) (ltb 16364 (length bs)) (refuse v LONG) (inserted u v bs f) (λ e. refl)
-    (λ e. inserted-own u v bs f (found-own u (length bs) (foundIn v (u .pages) (needFor (length bs)))))
+    let k = inserted-own u v bs f (found-own u (length bs) (foundIn v (u .pages) (needFor (length bs)))) in
+    by-test (λ (o : Out). (ofRow (o .answer) ≡ true) × (length bs ≤ 16364 → o .answer ≢ LONG)) (ltb 16364 (length bs)) (refuse v LONG) (inserted u v bs f)
+    (λ e. (refl, λ l z. omega tests)) (λ e. (k .0, λ l. k .1))
 
-pub insert-own : (s v bs : List ℕ) → (sizeOk s && invOk v) ≡ true → ofRow (insertStep s v bs .answer) ≡ true
-unfolding insertStep result
-insert-own s v bs h = rw h (plan-own (segView s) v bs)
+module _ (s v bs : List ℕ) (h : (sizeOk s && invOk v) ≡ true) where
+  step-own : let a = insertStep s v bs .answer in (ofRow a ≡ true) × (length bs ≤ 16364 → a ≢ LONG)
+  unfolding insertStep result
+  step-own = rw h (plan-own (segView s) v bs)
+
+  pub insert-own : ofRow (insertStep s v bs .answer) ≡ true
+  insert-own = step-own .0
+
+  -- a row that is short enough gives no 3; so where it gives no 4 and no 8 it is 0 or 7
+  pub insert-fitted : length bs ≤ 16364 → insertStep s v bs .answer ≢ DAMAGED → insertStep s v bs .answer ≢ STALE
+      → (insertStep s v bs .answer ≡ DONE) ⊎ (insertStep s v bs .answer ≡ FULL)
+  insert-fitted l d t = go (insertStep s v bs .answer) (step-own .0) (step-own .1 l) d t
+    where
+      go : (a : ℕ) → ofRow a ≡ true → a ≢ LONG → a ≢ DAMAGED → a ≢ STALE → (a ≡ DONE) ⊎ (a ≡ FULL)
+      go a o x y z =
+          ⊎-elim (λ e. inl e)
+          (λ n. ⊎-elim (λ e. inr e)
+          (λ m. never o (rw (ne-eqb a DONE n, ne-eqb a LONG x, ne-eqb a FULL m, ne-eqb a DAMAGED y, ne-eqb a STALE z))) (eq-or-ne a FULL))
+          (eq-or-ne a DONE)
 
 -- ---- the places
 
