@@ -64,7 +64,7 @@ pub record Lists (b : Book) (es : List Entry) : Type 0 where
   pub of : (x : Entry) → In x es → b (x .id) ≡ row (x .bytes)
   pub all : (i : ℕ) (bs : List ℕ) → b i ≡ row bs → In (record { id = i; bytes = bs }) es
 
--- how many entries of the list a row makes: one or none. Of those that pass a test, the row under the id i; of those with the bytes x, whatever the id
+-- what a row counts for in such a list, 1 or 0: of the entries that pass a test, where it stands under the id i; of those with the bytes x
 abbrev pub countRow : (Entry → Bool) → ℕ → Row → ℕ
 countRow f i absent = 0
 countRow f i (row bs) = one (f (record { id = i; bytes = bs }))

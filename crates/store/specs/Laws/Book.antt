@@ -57,9 +57,9 @@ module _ (s : List ℕ) (i : ℕ) where
   unfolding bookOf
   book-used r = rw (test-used r)
 
-  pub book-unused-is : (Rooted s i → ⊥) → bookOf s i ≡ absent
+  pub book-absent : (Rooted s i → ⊥) → bookOf s i ≡ absent
   unfolding bookOf
-  book-unused-is n = rw (false-by (inUse s i) (λ e. n (used-test e)))
+  book-absent n = rw (false-by (inUse s i) (λ e. n (used-test e)))
 
   -- a row is that of an id in use, with the bytes that a read gives
   pub book-known : (bs : List ℕ) → bookOf s i ≡ row bs → Rooted s i × (readStep s i .bytes ≡ bs)
@@ -67,7 +67,7 @@ module _ (s : List ℕ) (i : ℕ) where
     where
       go : Rooted s i ⊎ (Rooted s i → ⊥) → Rooted s i × (readStep s i .bytes ≡ bs)
       go (inl r) = (r, row-one (readStep s i .bytes) bs (sym (book-used r) ∙ e))
-      go (inr n) = absurd (row-not bs (sym (book-unused-is n) ∙ e))
+      go (inr n) = absurd (row-not bs (sym (book-absent n) ∙ e))
 
 -- ---- "the scan lists each entry once"
 

@@ -16,7 +16,7 @@ use Rattle.store.specs.Laws.Cases.{eq-or-ne}
 use Rattle.store.specs.Laws.Views.{upd-same, upd-other}
 use Rattle.store.specs.Laws.Pairs.{tagOn, tag-root, root-looks}
 use Rattle.store.specs.Laws.Rows.{read-look, call-rows}
-use Rattle.store.specs.Laws.Book.{used-or, book-used, book-unused-is, all-listed}
+use Rattle.store.specs.Laws.Book.{used-or, book-used, book-absent, all-listed}
 use Rattle.store.specs.Promises.Sound.{call-right}
 use Rattle.store.specs.Promises.Ids.{id-own, id-unused}
 use Rattle.store.specs.Promises.ReadAfterWrite.{readsAs, call-reads, record-rooted}
@@ -45,7 +45,7 @@ own-row (write i bs) s v h a = wrote (write i bs) s v h refl a
 own-row (resize i n) s v h a = wrote (resize i n) s v h refl a ∙ ap (fitRow n) (sym (book-used s i (id-own (resize i n) s v i refl a .1)))
 own-row (erase i) s v h a =
     let r = called (erase i) s v in
-    book-unused-is (r .seg) (r .id)
+    book-absent (r .seg) (r .id)
     (λ u.
     let z = used-reads (r .seg) (r .inv) (call-right (erase i) s v h .sound) (r .id) u in
     let y = ap (λ (d : Read). d .answer) (call-reads (erase i) s v h .own a) in
@@ -60,7 +60,7 @@ module _ (c : Call) (s v : List ℕ) (h : SoundSegment s v) where
       go (inl r) =
           let y = call-reads c s v h .others j r n in
           book-used (called c s v .seg) j (y .0) ∙ ap (λ (d : Read). row (d .bytes)) (y .1) ∙ sym (book-used s j r)
-      go (inr f) = book-unused-is (called c s v .seg) j (λ r. f (call-rows c s v h .made j r n)) ∙ sym (book-unused-is s j f)
+      go (inr f) = book-absent (called c s v .seg) j (λ r. f (call-rows c s v h .made j r n)) ∙ sym (book-absent s j f)
 
   -- "the last bytes written under that id, resizes and zeros counted, until it is erased": the answer's id has the new row
   pub book-own : called c s v .answer ≡ DONE → bookOf (called c s v .seg) (called c s v .id) ≡ newRow c (bookOf s)
@@ -80,4 +80,4 @@ module _ (c : Call) (s v : List ℕ) (h : SoundSegment s v) where
 
   -- "an id handed out by insert or allocate was not in use"
   pub book-unused : Makes c → called c s v .answer ≡ DONE → bookOf s (called c s v .id) ≡ absent
-  book-unused m e = book-unused-is s (called c s v .id) (λ r. subst Root (id-unused c s v h m e) (r .root))
+  book-unused m e = book-absent s (called c s v .id) (λ r. subst Root (id-unused c s v h m e) (r .root))

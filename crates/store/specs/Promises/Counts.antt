@@ -1,6 +1,6 @@
--- What a call does to the whole scan's list, with repetition counted (document 02, Asks 7 and 13: "the same readings, each as often as before"). From
--- a sound segment a call that is carried out adds its row once, takes it out once, or exchanges it, and changes nothing else in the list; where the
--- list has it may change with it. With ids: `countIf f`, for every test f of an entry; without: `times x`, for all bytes x.
+-- What a call does to the whole scan's list, with repetition counted (document 02, Ask 7: "the same readings, each as often as before; ids and order
+-- may differ"). From a sound segment a call that is carried out adds its row once, takes it out once, or exchanges it, and changes nothing else in the
+-- list but its order. With ids: `countIf f`, for every test f of an entry. Without: `timesIn x`, for all bytes x.
 use Prim.Native.Nat.{ℕ, suc, _+_, _≤_}
 use mathlib.Core.Path.{_≡_, refl, ap, _∙_}
 use mathlib.Core.Bool.{Bool}
@@ -54,7 +54,7 @@ scan-refused c s v n = ap scanAll (refused-keeps c s v n .0)
 -- ---- the rows without their ids
 
 module _ (x : List ℕ) (s v : List ℕ) (h : SoundSegment s v) where
-  -- of each call that is carried out: write and resize exchange a row
+  -- of each call that is carried out; so write and resize exchange the id's old row for its new one
   pub rows-change : (c : Call) → called c s v .answer ≡ DONE
       → timesIn x (called c s v .seg) + timesRow x (bookOf s (called c s v .id)) ≡ timesIn x s + timesRow x (newRow c (bookOf s))
   rows-change c e =
@@ -75,7 +75,7 @@ module _ (x : List ℕ) (s v : List ℕ) (h : SoundSegment s v) where
   pub insert-adds : (bs : List ℕ) → insertStep s v bs .answer ≡ DONE → timesIn x (insertStep s v bs .seg) ≡ timesIn x s + one (sameBytes x bs)
   insert-adds bs = row-more (insert bs) tt
 
-  -- an allocate a row of zeros
+  -- an allocate adds a row of zeros once
   pub allocate-adds : (n : ℕ) → called (allocate n) s v .answer ≡ DONE → timesIn x (called (allocate n) s v .seg) ≡ timesIn x s + one (sameBytes x (zeros n))
   allocate-adds n = row-more (allocate n) tt
 
@@ -100,7 +100,7 @@ insert-all-adds x (b ∷ rows) s v h =
 
 -- ---- which answers
 
--- from a sound segment an insert of at most 16,364 bytes answers 0, or 7 for want of room
+-- from a sound segment an insert of at most 16,364 bytes answers 0, or 7 where no page is named
 pub insert-answers : (s v bs : List ℕ) → SoundSegment s v → length bs ≤ 16364 → (insertStep s v bs .answer ≡ DONE) ⊎ (insertStep s v bs .answer ≡ FULL)
 insert-answers s v bs h l =
     let r = call-right (insert bs) s v h in
