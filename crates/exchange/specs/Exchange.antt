@@ -4,12 +4,12 @@ use mathlib.Core.Bool.{Bool, cond, not, _&&_}
 use mathlib.Core.List.{List, [], _∷_, _++_}
 use lib.ListN.{length, take, drop, getD}
 use lib.Dec.{eqb, ltb}
-use Rattle.store.specs.Numbers.{cut, put, be, toBE}
+use Rattle.store.specs.Numbers.{one, cut, put, be, toBE}
 use Rattle.store.specs.Refusals.{DONE, SIZE, LONG, DAMAGED, ROOM}
 use Rattle.store.specs.Segment.{segView, sizeOk, invOk}
 use Rattle.store.specs.Records.{records}
 use Rattle.store.specs.ManyRows.{Rows, noRow, insertAll}
-use Rattle.store.specs.Report.{one, allSound}
+use Rattle.store.specs.Report.{allSound}
 
 -- ---- the refusals of a file
 
