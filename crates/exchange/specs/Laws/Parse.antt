@@ -14,6 +14,7 @@ use Rattle.store.specs.Refusals.{LONG}
 use Rattle.store.specs.Laws.SoundPage.{and-in}
 use Rattle.store.specs.Laws.Numbers.{length-toBE, be-toBE, bytes-toBE, bytes-take, bytes-drop, be-same}
 use Rattle.exchange.specs.Exchange.{MARK, SHORT, Parsed, wrong, holds, andRecord, marked, dataLength, firstRecord, tooLong, cutOff, parseFrom, parse}
+use Rattle.exchange.specs.Words.{faultOf}
 
 -- ---- each is a byte
 
@@ -130,3 +131,9 @@ module _ (f : List ℕ) (at : ℕ) where
       let r = drop-drop (12 + n) at f ∙ ap (λ (i : ℕ). drop i f) k in
       ap (λ (i : ℕ). andRecord (cut (drop at f) 2 8 ++ cut (drop at f) 12 i) (parse (drop (12 + i) (drop at f)))) d
       ∙ (λ i. andRecord (p i ++ q i) (parse (r i)))
+
+-- ---- a record more or less: the same fault
+
+pub fault-behind : (r : List ℕ) (p : Parsed) → faultOf (andRecord r p) ≡ faultOf p
+fault-behind r (wrong a) = refl
+fault-behind r (holds rs) = refl
