@@ -52,18 +52,24 @@ tooLong f = ltb 16356 (dataLength f)
 abbrev pub cutOff : List ℕ → Bool
 cutOff f = ltb (length f) (12 + dataLength f)
 
--- "record by record in file order 13 SHORT when fewer than 12 bytes are left, 12 MARK for another mark, 3 for a length above 16,356, 13 again
--- when the data is cut off"; no byte left is the file's end. At most m records
-abbrev pub parseFrom : ℕ → List ℕ → Parsed
-parseFrom zero f = holds []
-parseFrom (suc m) f =
-    let r = parseFrom m (drop (12 + dataLength f) f) in
+abbrev pub behind : List ℕ → List ℕ
+behind f = drop (12 + dataLength f) f
+
+-- "13 SHORT when fewer than 12 bytes are left, 12 MARK for another mark, 3 for a length above 16,356, 13 again when the data is cut off"; no byte
+-- left is the file's end. r is what the bytes behind the first record hold
+abbrev pub turn : List ℕ → Parsed → Parsed
+turn f r =
     cond (eqb (length f) 0) (holds [])
     (cond (ltb (length f) 12) (wrong SHORT)
     (cond (not (marked f)) (wrong MARK)
     (cond (tooLong f) (wrong LONG)
     (cond (cutOff f) (wrong SHORT)
     (andRecord (firstRecord f) r)))))
+
+-- "record by record in file order": at most m records
+abbrev pub parseFrom : ℕ → List ℕ → Parsed
+parseFrom zero f = holds []
+parseFrom (suc m) f = turn f (parseFrom m (behind f))
 
 -- a file has no more records than bytes
 unfoldable pub parse : List ℕ → Parsed

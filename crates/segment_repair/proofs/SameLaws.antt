@@ -17,11 +17,7 @@ use Rattle.store.specs.Laws.Numbers.{bytes-take, bytes-drop, be-same}
 use Rattle.store.specs.Laws.RepairInventory.{same-is, same-own}
 use mathlib.Core.Logic.{_⊎_, inl, inr}
 
--- ---- each is a byte
-
-pub bytes-all : (v : List ℕ) → ((i : ℕ) → getD v i 0 < 256) → Bytes v
-bytes-all [] f = tt
-bytes-all (x ∷ v) f = (f 0, bytes-all v (λ i. f (suc i)))
+-- ---- turned round
 
 bytes-turned : (l r : List ℕ) → Bytes l → Bytes r → Bytes (reverseAux l r)
 bytes-turned [] r a b = b

@@ -13,29 +13,10 @@ use Rattle.store.specs.Numbers.{cut, Bytes, be, toBE}
 use Rattle.store.specs.Refusals.{LONG}
 use Rattle.store.specs.Laws.SoundPage.{and-in}
 use Rattle.store.specs.Laws.Numbers.{length-toBE, be-toBE, bytes-toBE, bytes-take, bytes-drop, be-same}
-use Rattle.exchange.specs.Exchange.{MARK, SHORT, Parsed, wrong, holds, andRecord, marked, dataLength, firstRecord, tooLong, cutOff, parseFrom, parse}
+use Rattle.exchange.specs.Exchange.{MARK, SHORT, Parsed, wrong, holds, andRecord, marked, dataLength, firstRecord, tooLong, cutOff, behind, turn, parseFrom, parse}
 use Rattle.exchange.specs.Words.{faultOf}
 
--- ---- each is a byte
-
-pub bytes-all : (v : List ℕ) → ((i : ℕ) → getD v i 0 < 256) → Bytes v
-bytes-all [] f = tt
-bytes-all (x ∷ v) f = (f 0, bytes-all v (λ i. f (suc i)))
-
 -- ---- the turns
-
--- one turn: r is what the bytes behind the first record hold
-abbrev pub turn : List ℕ → Parsed → Parsed
-turn f r =
-    cond (eqb (length f) 0) (holds [])
-    (cond (ltb (length f) 12) (wrong SHORT)
-    (cond (not (marked f)) (wrong MARK)
-    (cond (tooLong f) (wrong LONG)
-    (cond (cutOff f) (wrong SHORT)
-    (andRecord (firstRecord f) r)))))
-
-abbrev pub behind : List ℕ → List ℕ
-behind f = drop (12 + dataLength f) f
 
 shorter : (m : ℕ) (f : List ℕ) → length f ≤ suc m → length (behind f) ≤ m
 shorter m f h = omega (arith, length-drop (12 + dataLength f) f)

@@ -119,6 +119,10 @@ le-toLE k {v} h = ap be (reverse-reverse (toBE k v)) ∙ be-toBE k h
 
 -- ---- equally many bytes with one number are the same
 
+pub bytes-all : (p : List ℕ) → ((i : ℕ) → getD p i 0 < 256) → Bytes p
+bytes-all [] f = tt
+bytes-all (x ∷ p) f = (f 0, bytes-all p (λ i. f (suc i)))
+
 pub bytes-take : (n : ℕ) (p : List ℕ) → Bytes p → Bytes (take n p)
 bytes-take zero p b = tt
 bytes-take (suc n) [] b = tt

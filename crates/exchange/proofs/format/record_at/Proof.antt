@@ -7,7 +7,8 @@ use native.Mathlib.Omega.{arith}
 use lib.ListN.{length, drop, length-drop}
 use borrow.Author.Needs.{needs}
 use Rattle.exchange.specs.Exchange.{marked, dataLength}
-use Rattle.exchange.specs.Laws.Parse.{bytes-all, parse-end, parse-few, parse-mark, parse-long, parse-cut, parse-record}
+use Rattle.store.specs.Laws.Numbers.{bytes-all}
+use Rattle.exchange.specs.Laws.Parse.{parse-end, parse-few, parse-mark, parse-long, parse-cut, parse-record}
 use Rattle.exchange.specs.Laws.Parse.{other-first, other-second, marked-at, told-at, record-at}
 use Rattle.exchange.proofs.format.record_at.Statement.{statement}
 use Rattle.exchange.proofs.format.record_at.Tie as tie

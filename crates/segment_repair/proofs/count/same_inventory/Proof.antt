@@ -4,7 +4,8 @@ use mathlib.Core.Path.{_≡_, sym, _∙_}
 use native.Mathlib.Omega.{arith}
 use borrow.Author.Needs.{needs}
 use borrow.Author.Count.{below-more}
-use Rattle.segment_repair.proofs.SameLaws.{word, bytes-all, words-same, word-differs}
+use Rattle.store.specs.Laws.Numbers.{bytes-all}
+use Rattle.segment_repair.proofs.SameLaws.{word, words-same, word-differs}
 use Rattle.segment_repair.proofs.count.same_inventory.Statement.{statement}
 use Rattle.segment_repair.proofs.count.same_inventory.Tie as tie
 
