@@ -113,8 +113,54 @@ module _ (f : List ℕ) (at : ℕ) where
       ap (λ (i : ℕ). andRecord (cut (drop at f) 2 8 ++ cut (drop at f) 12 i) (parse (drop (12 + i) (drop at f)))) d
       ∙ (λ i. andRecord (p i ++ q i) (parse (r i)))
 
--- ---- a record more or less: the same fault
+-- ---- a fault, or none
 
+-- a record more or less: the same fault
 pub fault-behind : (r : List ℕ) (p : Parsed) → faultOf (andRecord r p) ≡ faultOf p
 fault-behind r (wrong a) = refl
 fault-behind r (holds rs) = refl
+
+pub fault-is : (p : Parsed) {a : ℕ} → a ≡ faultOf p → a ≢ 0 → p ≡ wrong a
+fault-is (wrong b) e n = ap wrong (sym e)
+fault-is (holds rs) e n = absurd (n e)
+
+-- no refusal of a file has the number 0
+abbrev Numbered : Parsed → Type 0
+Numbered (wrong a) = 0 < a
+Numbered (holds rs) = Unit {0}
+
+either : (b : Bool) (x y : Parsed) → Numbered x → Numbered y → Numbered (cond b x y)
+either true x y h g = h
+either false x y h g = g
+
+more : (r : List ℕ) (p : Parsed) → Numbered p → Numbered (andRecord r p)
+more r (wrong a) h = h
+more r (holds rs) h = tt
+
+numbered : (m : ℕ) (f : List ℕ) → Numbered (parseFrom m f)
+numbered zero f = tt
+numbered (suc m) f =
+    let r : Parsed = andRecord (firstRecord f) (parseFrom m (behind f)) in
+    let d : Parsed = cond (cutOff f) (wrong SHORT) r in
+    let c : Parsed = cond (tooLong f) (wrong LONG) d in
+    let b : Parsed = cond (not (marked f)) (wrong MARK) c in
+    let a : Parsed = cond (ltb (length f) 12) (wrong SHORT) b in
+    either (eqb (length f) 0) (holds []) a tt
+    (either (ltb (length f) 12) (wrong SHORT) b (omega arith)
+    (either (not (marked f)) (wrong MARK) c (omega arith)
+    (either (tooLong f) (wrong LONG) d (omega arith)
+    (either (cutOff f) (wrong SHORT) r (omega arith)
+    (more (firstRecord f) (parseFrom m (behind f)) (numbered m (behind f)))))))
+
+abbrev pub held : Parsed → List (List ℕ)
+held (wrong a) = []
+held (holds rs) = rs
+
+-- without a fault a file holds its records
+pub parse-holds : (f : List ℕ) → faultOf (parse f) ≡ 0 → parse f ≡ holds (held (parse f))
+unfolding parse
+parse-holds f = go (parseFrom (length f) f) (numbered (length f) f)
+  where
+    go : (p : Parsed) → Numbered p → faultOf p ≡ 0 → p ≡ holds (held p)
+    go (wrong a) n e = absurd (omega arith)
+    go (holds rs) n e = refl
