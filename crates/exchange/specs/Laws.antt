@@ -1,1 +1,4 @@
 pub mod Parse
+pub mod Export
+pub mod Files
+pub mod Room
