@@ -1,1 +1,4 @@
 pub mod ImportLaws
+pub mod LeftLaws
+pub mod MeasureLaws
+pub mod WriteLaws
