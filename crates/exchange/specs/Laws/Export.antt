@@ -12,23 +12,19 @@ use Rattle.store.specs.Records.{records}
 use Rattle.store.specs.Report.{allSound}
 use Rattle.exchange.specs.Exchange.{passedOver, noExport, exportStep}
 use Rattle.exchange.specs.Words.{segmentFile}
-
 module _ (s place : List ℕ) where
   pub on-size : sizeOk s ≡ false → exportStep s place ≡ noExport SIZE place
   unfolding exportStep
   on-size e = rw e
-
   module _ (size : sizeOk s ≡ true) where
     pub on-damage : allSound (segView s) ≡ false → exportStep s place ≡ noExport DAMAGED place
     unfolding exportStep
     on-damage e = rw (size, e)
-
     module _ (sounds : allSound (segView s) ≡ true) where
       pub on-room : length place < length (segmentFile (segView s)) → exportStep s place
           ≡ record { answer = ROOM; length = length (segmentFile (segView s)); passed = passedOver (records (segView s)); place = place }
       unfolding exportStep
       on-room l = rw (size, sounds, lt-ltb (length place) (length (segmentFile (segView s))) l)
-
       pub on-done : length (segmentFile (segView s)) ≤ length place → exportStep s place
           ≡ record {
             answer = DONE;
@@ -38,3 +34,88 @@ module _ (s place : List ℕ) where
           }
       unfolding exportStep
       on-done l = rw (size, sounds, le-ltb (length place) (length (segmentFile (segView s))) l)
+-- Export: what it answers and leaves, by the segment's size, its pages and the place lent; and the records of a sound page are short enough for a file.
+use Prim.Native.Nat.{ℕ, suc, _+_, _≤_, _<_}
+use mathlib.Core.Path.{_≡_, refl, sym, ap, subst}
+use mathlib.Core.Bool.{Bool, true, false, cond}
+use mathlib.Core.List.{List, [], _∷_}
+use mathlib.Core.Logic.{_⊎_, inl, inr, ⊎-elim}
+use native.Mathlib.Omega.{arith}
+use lib.ListN.{length, drop, length-drop}
+use Rattle.store.specs.Numbers.{put, sameBytes, one, In}
+use Rattle.store.specs.Slots.{len, isTarget}
+use Rattle.store.specs.Page.{View}
+use Rattle.store.specs.SoundSegment.{PagesSound}
+use Rattle.store.specs.Records.{Entry, entryOf, entries, scanAll, rowsIn, times}
+use Rattle.store.specs.ReportTold.{Damage}
+use Rattle.store.specs.Laws.Cases.{lt-or-le, by-test, false-by, tests}
+use Rattle.store.specs.Laws.Views.{Sound}
+use Rattle.store.specs.Laws.SoundSegment.{pages-sound}
+use Rattle.store.specs.Laws.Listed.{entry-slot}
+use Rattle.store.specs.Laws.Report.{each-sound, sound-each, damage, damaged}
+use Rattle.store.specs.Laws.RepairInventory.{same-is}
+use Rattle.exchange.specs.Exchange.{isShort, readings, passedOver, Export, noExport, exportStep}
+use Rattle.exchange.specs.FileTold.{Readings, readingsIn, fileIn, withNumbers}
+module _ (s p : List ℕ) where
+  pub on-size : sizeOk s ≡ false → exportStep s p ≡ noExport SIZE p
+  pub on-damage : sizeOk s ≡ true → Damage s → exportStep s p ≡ noExport DAMAGED p
+  on-damage e d = rw (e, damaged s d)
+  pub on-room : sizeOk s ≡ true → PagesSound s → length p < length (fileIn s) → exportStep s p ≡ withNumbers ROOM s p
+  unfolding exportStep scanAll
+  on-room e h l = rw (e, sound-each s h, lt-ltb (length p) (length (fileIn s)) l)
+  pub on-done : sizeOk s ≡ true → PagesSound s → length (fileIn s) ≤ length p → exportStep s p ≡ withNumbers DONE s (put p 0 (fileIn s))
+  on-done e h l = rw (e, sound-each s h, le-ltb (length p) (length (fileIn s)) l)
+  -- a property of what is left, from each of the four
+  pub by-export : (P : Export → Type 0) → (sizeOk s ≡ false → P (noExport SIZE p)) → (sizeOk s ≡ true → Damage s → P (noExport DAMAGED p))
+      → (sizeOk s ≡ true → PagesSound s → length p < length (fileIn s) → P (withNumbers ROOM s p))
+      → (sizeOk s ≡ true → PagesSound s → length (fileIn s) ≤ length p → P (withNumbers DONE s (put p 0 (fileIn s)))) → P (exportStep s p)
+  by-export P a b c d = go (sizeOk s) refl (allSound (segView s)) refl (lt-or-le (length p) (length (fileIn s)))
+    where
+      go : (x : Bool) → sizeOk s ≡ x → (y : Bool) → allSound (segView s) ≡ y → (length p < length (fileIn s)) ⊎ (length (fileIn s) ≤ length p)
+          → P (exportStep s p)
+      go false e y f z = subst P (sym (on-size e)) (a e)
+      go true e false f z = subst P (sym (on-damage e (damage s f))) (b e (damage s f))
+      go true e true f (inl l) = subst P (sym (on-room e (each-sound s f) l)) (c e (each-sound s f) l)
+      go true e true f (inr l) = subst P (sym (on-done e (each-sound s f) l)) (d e (each-sound s f) l)
+-- ---- "May a record be too long for the file? No: on a sound page a record has at most 16,364 bytes"
+module _ (v : View) (h : Sound v) (p j : ℕ) (c : j < v .slotCount) where
+  slot-short : length (v .bytes j) ≤ 16364
+  slot-short = by (lt-or-le 0 (len (v .at j)))
+      by : (0 < len (v .at j)) ⊎ (len (v .at j) ≤ 0) → length (v .bytes j) ≤ 16364
+      by (inl l) = omega (arith, h .lens j, h .low j l, h .high j, h .dir)
+      by (inr l) = omega (arith, h .lens j)
+  entry-short : length (entryOf v p j .bytes) ≤ 16364
+  entry-short =
+      by-test (λ (bs : List ℕ). length bs ≤ 16364) (isTarget (v .at j)) (drop 8 (v .bytes j)) (v .bytes j)
+      (λ e. omega (arith, slot-short, length-drop 8 (v .bytes j))) (λ e. slot-short)
+entries-read : (es : List Entry) → ((x : Entry) → In x es → length (x .bytes) ≤ 16364) → Readings (readings (rowsIn es))
+entries-read [] h = λ r i. absurd i
+entries-read (x ∷ es) h =
+    by-test Readings (isShort (x .bytes)) (readings (rowsIn es)) (x .bytes ∷ readings (rowsIn es)) (λ e. entries-read es (λ y i. h y (inr i)))
+    (λ e r i.
+    ⊎-elim (λ q. record { headed = omega (tests, ap length q); short = omega (arith, ap length q, h x (inl refl)) })
+    (λ k. entries-read es (λ y i. h y (inr i)) r k) i)
+pub scan-read : (s : List ℕ) → sizeOk s ≡ true → PagesSound s → Readings (readingsIn s)
+unfolding scanAll
+scan-read s e h =
+    entries-read (entries (segView s))
+    (λ x i.
+    let o = entry-slot (segView s) (segView s .pages) 0 x i in
+    subst (λ (y : Entry). length (y .bytes) ≤ 16364) (sym (o .is))
+    (entry-short (segView s .page (o .page)) (pages-sound s e h (o .page)) (o .page) (o .slot) (o .counted)))
+-- ---- "A record shorter than 8 bytes is not a reading"
+pub passed-sum : (rs : List (List ℕ)) → length (readings rs) + passedOver rs ≡ length rs
+passed-sum [] = refl
+passed-sum (r ∷ rs) = by (isShort r) (passed-sum rs)
+  where
+    by : (b : Bool) → length (readings rs) + passedOver rs ≡ length rs
+        → length (cond b (readings rs) (r ∷ readings rs)) + (one b + passedOver rs) ≡ suc (length rs)
+    by true ih = omega arith
+    by false ih = omega arith
+-- every other is there as often
+pub readings-times : (x : List ℕ) → 8 ≤ length x → (rs : List (List ℕ)) → times x (readings rs) ≡ times x rs
+readings-times x l [] = refl
+readings-times x l (r ∷ rs) =
+    by-test (λ (ts : List (List ℕ)). times x ts ≡ times x (r ∷ rs)) (isShort r) (readings rs) (r ∷ readings rs)
+    (λ e. omega (arith, ap one (false-by (sameBytes x r) (λ q. omega (tests, ap length (same-is x r q)))), readings-times x l rs))
+    (λ e. ap (λ (n : ℕ). one (sameBytes x r) + n) (readings-times x l rs))
