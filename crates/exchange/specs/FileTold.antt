@@ -4,7 +4,7 @@ use Prim.Native.Nat.{ℕ, _+_, _≤_, _<_}
 use mathlib.Core.Path.{_≡_}
 use mathlib.Core.Bool.{Bool, true, false, _||_}
 use mathlib.Core.List.{List, [], _∷_, _++_}
-use lib.ListN.{length}
+use lib.ListN.{length, take}
 use lib.Dec.{eqb}
 use Rattle.store.specs.Numbers.{In}
 use Rattle.store.specs.Refusals.{DONE, LONG, DAMAGED, FULL, STALE}
@@ -68,6 +68,13 @@ thenImport a b = record { answer = b .answer; inserted = a .inserted + b .insert
 abbrev pub ofInsert : ℕ → Bool
 ofInsert a = eqb a DONE || eqb a FULL || eqb a DAMAGED || eqb a STALE
 
+-- two imports: equal answers, records told and inventories, and two segments that are left alike
+pub record SameImports (like : List ℕ → List ℕ → Type 0) (a b : Import) : Type 0 where
+  pub answer : a .answer ≡ b .answer
+  pub inserted : a .inserted ≡ b .inserted
+  pub inv : a .inv ≡ b .inv
+  pub seg : like (a .seg) (b .seg)
+
 -- ---- export
 
 -- "the scan's records of 8 bytes or more", how many the others are, and the file of the segment
@@ -83,3 +90,7 @@ fileIn s = fileOf (readingsIn s)
 -- answer a with the two numbers, and the place p
 abbrev pub withNumbers : ℕ → List ℕ → List ℕ → Export
 withNumbers a s p = record { answer = a; length = length (fileIn s); passed = passedIn s; place = p }
+
+-- "On 0 `length` is the number of bytes written": these bytes
+abbrev pub fileWritten : Export → List ℕ
+fileWritten r = take (r .length) (r .place)

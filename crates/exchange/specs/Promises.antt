@@ -1,3 +1,5 @@
 pub mod Format
 pub mod Import
 pub mod Export
+pub mod RoundTrip
+pub mod Alike

@@ -8,7 +8,7 @@ use mathlib.Core.List.{List, [], _++_}
 use mathlib.Core.Logic.{_↔_, _≢_, _⊎_, inl, inr}
 use native.Mathlib.Omega.{arith}
 use native.Mathlib.Nat.{zero-add}
-use lib.ListN.{length, take, drop, length-map}
+use lib.ListN.{length, drop, length-map}
 use Rattle.store.specs.Refusals.{DONE, SIZE, DAMAGED, ROOM}
 use Rattle.store.specs.Segment.{sizeOk, invOk}
 use Rattle.store.specs.SoundSegment.{PagesSound}
@@ -19,7 +19,7 @@ use Rattle.store.specs.Laws.Cases.{never}
 use Rattle.store.specs.Laws.Numbers.{length-put, cut-same, put-parts}
 use Rattle.store.specs.Laws.Report.{sound-each, damaged}
 use Rattle.exchange.specs.Exchange.{holds, parse, withoutIds, importStep, Export, noExport, exportStep}
-use Rattle.exchange.specs.FileTold.{readingsIn, passedIn, fileIn, withNumbers, ofInsert}
+use Rattle.exchange.specs.FileTold.{readingsIn, passedIn, fileIn, withNumbers, fileWritten, ofInsert}
 use Rattle.exchange.specs.Laws.Export.{on-size, on-damage, on-room, on-done, by-export, scan-read, passed-sum}
 use Rattle.exchange.specs.Promises.Format.{reads-back}
 use Rattle.exchange.specs.Promises.Import.{import-fold, read-answers}
@@ -97,8 +97,8 @@ module _ (s p : List ℕ) where
       rw (on-done s p (x .0) (x .1) (x .2))
       (put-parts p 0 (fileIn s) (omega (arith, x .2)) ∙ ap (λ (n : ℕ). fileIn s ++ drop n p) (zero-add (length (fileIn s))))
 
-  -- so its first `length` bytes are the file
-  pub file-written : exportStep s p .answer ≡ DONE → take (exportStep s p .length) (exportStep s p .place) ≡ fileIn s
+  -- so the bytes written are the file
+  pub file-written : exportStep s p .answer ≡ DONE → fileWritten (exportStep s p) ≡ fileIn s
   file-written z =
       let x = done-exactly .0 z in
       rw (on-done s p (x .0) (x .1) (x .2)) (cut-same p 0 (fileIn s) (length (fileIn s)) refl (omega (arith, x .2)))
@@ -127,20 +127,17 @@ all-told s = passed-sum (rowsIn (scanAll s)) ∙ length-map (scanAll s) (λ (e :
 -- ---- "An export is never refused as a file"
 
 module _ (s p : List ℕ) (done : exportStep s p .answer ≡ DONE) where
-  abbrev file : List ℕ
-  file = take (exportStep s p .length) (exportStep s p .place)
-
   -- it is read as the readings that were written
-  pub export-read : parse file ≡ holds (readingsIn s)
+  pub export-read : parse (fileWritten (exportStep s p)) ≡ holds (readingsIn s)
   export-read =
       let x = done-exactly s p .0 done in
       ap parse (file-written s p done) ∙ reads-back (readingsIn s) (scan-read s (x .0) (x .1))
 
   module _ (t v : List ℕ) (sizes : (sizeOk t && invOk v) ≡ true) where
     -- so import of it, into any segment, is Ask 2 with the readings as its rows
-    pub export-imported : importStep t v file ≡ withoutIds (insertAll t v (readingsIn s))
-    export-imported = import-fold t v file (readingsIn s) sizes export-read
+    pub export-imported : importStep t v (fileWritten (exportStep s p)) ≡ withoutIds (insertAll t v (readingsIn s))
+    export-imported = import-fold t v (fileWritten (exportStep s p)) (readingsIn s) sizes export-read
 
     -- "import of it answers none of 3, 12, 13": it is 0, 4, 7 or 8
-    pub export-accepted : ofInsert (importStep t v file .answer) ≡ true
-    export-accepted = read-answers t v file (readingsIn s) sizes export-read
+    pub export-accepted : ofInsert (importStep t v (fileWritten (exportStep s p)) .answer) ≡ true
+    export-accepted = read-answers t v (fileWritten (exportStep s p)) (readingsIn s) sizes export-read

@@ -78,13 +78,19 @@ module _ (s v f : List ℕ) where
     λ x. ap (λ (r : Import). r .answer) (file-refused a (x .0) (x .1)),
   )
 
-  -- what an answer of 0 tells: the sizes are right, the file is read, and all of its records went in
-  pub done-tells : importStep s v f .answer ≡ DONE
-      → ((sizeOk s && invOk v) ≡ true) × ((rs : List (List ℕ)) × (parse f ≡ holds rs) × (importStep s v f .inserted ≡ length rs))
+  -- 0 exactly if the sizes are right, the file is read, and all of its records went in
+  pub done-tells : importStep s v f .answer ≡ DONE → ((sizeOk s && invOk v) ≡ true) × ((rs : List (List ℕ)) × (parse f ≡ holds rs))
   done-tells =
-      by-import s v f
-      (λ (r : Import). r .answer ≡ DONE → ((sizeOk s && invOk v) ≡ true) × ((rs : List (List ℕ)) × (parse f ≡ holds rs) × (r .inserted ≡ length rs)))
-      (λ e z. absurd (omega arith)) (λ a e q z. absurd (omega (arith, at-least f a q))) (λ rs e q z. (e, (rs, q, counted rs s v .whole z)))
+      by-import s v f (λ (r : Import). r .answer ≡ DONE → ((sizeOk s && invOk v) ≡ true) × ((rs : List (List ℕ)) × (parse f ≡ holds rs)))
+      (λ e z. absurd (omega arith)) (λ a e q z. absurd (omega (arith, at-least f a q))) (λ rs e q z. (e, (rs, q)))
+
+  pub read-done : (rs : List (List ℕ)) → (sizeOk s && invOk v) ≡ true → parse f ≡ holds rs
+      → (importStep s v f .answer ≡ DONE) ↔ (importStep s v f .inserted ≡ length rs)
+  read-done rs e q = rw (import-fold rs e q) (counted rs s v .whole, counted rs s v .done)
+
+  -- there are never more than the file has
+  pub read-few : (rs : List (List ℕ)) → (sizeOk s && invOk v) ≡ true → parse f ≡ holds rs → importStep s v f .inserted ≤ length rs
+  read-few rs e q = rw (import-fold rs e q) (counted rs s v .few)
 
   -- ---- segment and inventory
 
