@@ -1,5 +1,4 @@
 pub mod Exchange
-pub mod Laws
 pub mod Told
 pub mod Words
 pub mod FileTold

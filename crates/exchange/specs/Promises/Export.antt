@@ -20,7 +20,7 @@ use Rattle.store.specs.Laws.Numbers.{length-put, cut-same, put-parts}
 use Rattle.store.specs.Laws.Report.{sound-each, damaged}
 use Rattle.exchange.specs.Exchange.{holds, parse, withoutIds, importStep, Export, noExport, exportStep}
 use Rattle.exchange.specs.FileTold.{readingsIn, passedIn, fileIn, withNumbers, fileWritten, ofInsert}
-use Rattle.exchange.specs.Laws.Export.{on-size, on-damage, on-room, on-done, by-export, scan-read, passed-sum}
+use Rattle.exchange.specs.Laws.Export.{by-size, on-damage, on-room, on-done, by-export, scan-read, passed-sum}
 use Rattle.exchange.specs.Promises.Format.{reads-back}
 use Rattle.exchange.specs.Promises.Import.{import-fold, read-answers}
 
@@ -37,7 +37,7 @@ module _ (s p : List ℕ) where
   size-exactly = (
     by-export s p (λ (r : Export). r .answer ≡ SIZE → sizeOk s ≡ false) (λ e z. e) (λ e d z. absurd (omega arith)) (λ e h l z. absurd (omega arith))
         (λ e h l z. absurd (omega arith)),
-    λ e. ap (λ (r : Export). r .answer) (on-size s p e),
+    λ e. ap (λ (r : Export). r .answer) (by-size s p e),
   )
 
   -- "4 in export, wherever the page lies, wins over 11": exactly if some page is not sound, whatever the place
@@ -68,7 +68,7 @@ module _ (s p : List ℕ) where
 
   -- "On 1 and 4 both numbers are 0"
   pub told-none : sizeOk s ≡ false → exportStep s p ≡ noExport SIZE p
-  told-none = on-size s p
+  told-none = by-size s p
 
   pub told-damage : sizeOk s ≡ true → Damage s → exportStep s p ≡ noExport DAMAGED p
   told-damage = on-damage s p
@@ -114,7 +114,7 @@ module _ (s : List ℕ) (size : sizeOk s ≡ true) (pages : PagesSound s) where
 -- both numbers are the same whatever the place
 pub asked : (s p q : List ℕ) → let a = exportStep s p in let b = exportStep s q in (a .length ≡ b .length) × (a .passed ≡ b .passed)
 asked s p q =
-    by-export s p (λ (r : Export). (r .length ≡ exportStep s q .length) × (r .passed ≡ exportStep s q .passed)) (λ e. rw (on-size s q e) (refl, refl))
+    by-export s p (λ (r : Export). (r .length ≡ exportStep s q .length) × (r .passed ≡ exportStep s q .passed)) (λ e. rw (by-size s q e) (refl, refl))
     (λ e d. rw (on-damage s q e d) (refl, refl)) (λ e h l. same e h) (λ e h l. same e h)
   where
     same : sizeOk s ≡ true → PagesSound s → (length (fileIn s) ≡ exportStep s q .length) × (passedIn s ≡ exportStep s q .passed)
