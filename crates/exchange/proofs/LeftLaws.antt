@@ -65,13 +65,13 @@ abbrev withRow : Slot → List ℕ → List (List ℕ) → List (List ℕ)
 withRow x bs rs = cond (isRecord x) (cond (isTarget x) (drop 8 bs) bs ∷ rs) rs
 
 -- a slot as on a sound page
-pub record Lies (p : List ℕ) (x : Slot) : Type 0 where
+record InPage (p : List ℕ) (x : Slot) : Type 0 where
   pub high : off x + len x ≤ length p
   pub short : len x ≤ 16364
   pub target : isTarget x ≡ true → 8 ≤ len x
 
 module _ (p : List ℕ) where
-  slot-file : (x : Slot) → Lies p x → (rs : List (List ℕ))
+  slot-file : (x : Slot) → InPage p x → (rs : List (List ℕ))
       → fileOf (readings (withRow x (cut p (off x) (len x)) rs)) ≡ partFile p (partOf x) ++ fileOf (readings rs)
   slot-file (Ordinary o l) h rs = at-file p o l (h .high) rs
   slot-file Free h rs = refl
@@ -80,7 +80,7 @@ module _ (p : List ℕ) where
       let e = h .target refl in
       ap (λ (r : List ℕ). fileOf (readings (r ∷ rs))) (cut-drop p o l 8) ∙ at-file p (o + 8) (l - 8) (omega arith) rs
 
-  slot-passed : (x : Slot) → Lies p x → (rs : List (List ℕ))
+  slot-passed : (x : Slot) → InPage p x → (rs : List (List ℕ))
       → passedOver (withRow x (cut p (off x) (len x)) rs) ≡ partPassed (partOf x) + passedOver rs
   slot-passed (Ordinary o l) h rs = at-passed p o l (h .high) rs
   slot-passed Free h rs = omega arith
@@ -89,7 +89,7 @@ module _ (p : List ℕ) where
       let e = h .target refl in
       ap (λ (r : List ℕ). passedOver (r ∷ rs)) (cut-drop p o l 8) ∙ at-passed p (o + 8) (l - 8) (omega arith) rs
 
-  slot-lies : (x : Slot) → Lies p x → OnPage p (partOf x)
+  slot-lies : (x : Slot) → InPage p x → OnPage p (partOf x)
   slot-lies (Ordinary o l) h = at-lies p o l (h .high) (h .short)
   slot-lies Free h = tt
   slot-lies (Redirect i) h = tt
@@ -148,7 +148,7 @@ module _ (p : List ℕ) (whole : length p ≡ 16384) (ok : sound (view p) ≡ tr
   used : Sound (view p)
   used = sound-page p whole (used-not-fresh (view p) (λ e. omega arith)) ok
 
-  lies : Lies p (view p .at k)
+  lies : InPage p (view p .at k)
   lies = record { high = omega (arith, used .high k); short = short (lt-or-le 0 (len (view p .at k))); target = used .targets k }
     where
       short : (0 < len (view p .at k)) ⊎ (len (view p .at k) ≤ 0) → len (view p .at k) ≤ 16364
