@@ -14,7 +14,7 @@ use Rattle.store.specs.Slots.{off, len, isRecord, isTarget}
 use Rattle.store.specs.Page.{View, view, fresh, sound}
 use Rattle.store.specs.PageSteps.{initialised, opened}
 use Rattle.store.specs.Records.{Entry, entryOf, entriesFrom, pageEntries, pagesEntries, records, rowsIn}
-use Rattle.store.specs.Report.{one}
+use Rattle.store.specs.Numbers.{one}
 use Rattle.store.specs.Segment.{SegView}
 use Rattle.store.specs.Laws.Cases.{lt-or-le, by-test, tests}
 use Rattle.store.specs.Laws.Numbers.{cut-drop}
@@ -55,8 +55,8 @@ module _ (p : List ℕ) (o n : ℕ) (within : o + n ≤ length p) where
       go true = refl
       go false = refl
 
-  at-lies : n ≤ 16364 → OnPage p (partAt o n)
-  at-lies h = by-test (OnPage p) (ltb n 8) part.Passed (part.Reading o n) (λ e. tt) (λ e. record { headed = omega tests; short = h; within = within })
+  at-lies : OnPage p (partAt o n)
+  at-lies = by-test (OnPage p) (ltb n 8) part.Passed (part.Reading o n) (λ e. tt) (λ e. record { headed = omega tests; within = within })
 
 -- ---- the part that a slot is
 
@@ -67,7 +67,6 @@ withRow x bs rs = cond (isRecord x) (cond (isTarget x) (drop 8 bs) bs ∷ rs) rs
 -- a slot as on a sound page
 record InPage (p : List ℕ) (x : Slot) : Type 0 where
   pub high : off x + len x ≤ length p
-  pub short : len x ≤ 16364
   pub target : isTarget x ≡ true → 8 ≤ len x
 
 module _ (p : List ℕ) where
@@ -90,10 +89,10 @@ module _ (p : List ℕ) where
       ap (λ (r : List ℕ). passedOver (r ∷ rs)) (cut-drop p o l 8) ∙ at-passed p (o + 8) (l - 8) (omega arith) rs
 
   slot-lies : (x : Slot) → InPage p x → OnPage p (partOf x)
-  slot-lies (Ordinary o l) h = at-lies p o l (h .high) (h .short)
+  slot-lies (Ordinary o l) h = at-lies p o l (h .high)
   slot-lies Free h = tt
   slot-lies (Redirect i) h = tt
-  slot-lies (Target o l) h = let e = h .target refl in at-lies p (o + 8) (l - 8) (omega arith) (omega arith)
+  slot-lies (Target o l) h = let e = h .target refl in at-lies p (o + 8) (l - 8) (omega arith)
 
 -- ---- from slot k on
 
@@ -149,11 +148,7 @@ module _ (p : List ℕ) (whole : length p ≡ 16384) (ok : sound (view p) ≡ tr
   used = sound-page p whole (used-not-fresh (view p) (λ e. omega arith)) ok
 
   lies : InPage p (view p .at k)
-  lies = record { high = omega (arith, used .high k); short = short (lt-or-le 0 (len (view p .at k))); target = used .targets k }
-    where
-      short : (0 < len (view p .at k)) ⊎ (len (view p .at k) ≤ 0) → len (view p .at k) ≤ 16364
-      short (inl l) = omega (arith, used .low k l, used .high k, used .dir)
-      short (inr l) = omega arith
+  lies = record { high = omega (arith, used .high k); target = used .targets k }
 
   pub slot-few : k < 2046
   slot-few = omega (arith, used .few)

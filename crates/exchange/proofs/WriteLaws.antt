@@ -39,17 +39,6 @@ module _ (f₀ : List ℕ) (at₀ : ℕ) (w : List ℕ) where
 
 -- ---- a reading
 
--- each is a byte
-pub bytes-all : (p : List ℕ) → ((i : ℕ) → getD p i 0 < 256) → Bytes p
-bytes-all [] f = tt
-bytes-all (x ∷ p) f = (f 0, bytes-all p (λ i. f (suc i)))
-
--- a number that was read, written again
-pub read-back : (p : List ℕ) → Bytes p → (o r : ℕ) → o + 8 ≤ length p → r ≡ be (cut p o 8) → r < 256 ^ 8 → toBE 8 r ≡ cut p o 8
-read-back p b o r h e small =
-    be-same (toBE 8 r) (cut p o 8) (length-toBE 8 r ∙ sym (length-cut p o 8 h)) (bytes-toBE 8 r) (bytes-take 8 (drop o p) (bytes-drop o p b))
-    (be-toBE 8 small ∙ e)
-
 -- mark, head, length and data, one after the other
 module _ (p : List ℕ) (o n : ℕ) (headed : 8 ≤ n) (within : o + n ≤ length p) where
   reading-is : fileRecord (cut p o n) ≡ 82 ∷ 84 ∷ (cut p o 8 ++ (toBE 2 (n - 8) ++ cut p (o + 8) (n - 8)))

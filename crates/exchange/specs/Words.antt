@@ -89,7 +89,6 @@ partPassed part.Nothing = 0
 -- a reading's bytes are on the page
 pub record Reads (p : List ℕ) (o n : ℕ) : Type 0 where
   pub headed : 8 ≤ n
-  pub short : n ≤ 16364
   pub within : o + n ≤ length p
 
 abbrev pub OnPage : List ℕ → Part → Type 0

@@ -12,6 +12,7 @@ use borrow.Author.Tests.{eq-eqb, ne-eqb, lt-ltb, le-ltb}
 use Rattle.store.specs.Numbers.{cut, Bytes, be, toBE}
 use Rattle.store.specs.Refusals.{LONG}
 use Rattle.store.specs.Laws.SoundPage.{and-in}
+use Rattle.store.specs.Laws.Writes.{length-cut}
 use Rattle.store.specs.Laws.Numbers.{length-toBE, be-toBE, bytes-toBE, bytes-take, bytes-drop, be-same}
 use Rattle.exchange.specs.Exchange.{MARK, SHORT, Parsed, wrong, holds, andRecord, marked, dataLength, firstRecord, tooLong, cutOff, behind, turn, parseFrom, parse}
 use Rattle.exchange.specs.Words.{faultOf}
@@ -67,6 +68,13 @@ module _ (f : List ℕ) where
         parse-record l =
             parse-turn f ∙ rw (some, le-ltb (length f) 12 h, m, le-ltb 16356 (dataLength f) s, le-ltb (length f) (12 + dataLength f) l)
 
+-- ---- of bytes, eight that were read as a number are those of the number
+
+pub number-back : (p : List ℕ) → Bytes p → (o r : ℕ) → o + 8 ≤ length p → r ≡ be (cut p o 8) → r < 256 ^ 8 → toBE 8 r ≡ cut p o 8
+number-back p b o r h e small =
+    be-same (toBE 8 r) (cut p o 8) (length-toBE 8 r ∙ sym (length-cut p o 8 h)) (bytes-toBE 8 r) (bytes-take 8 (drop o p) (bytes-drop o p b))
+    (be-toBE 8 small ∙ e)
+
 -- ---- the same at a place of a file
 
 module _ (f : List ℕ) (at : ℕ) where
@@ -93,13 +101,9 @@ module _ (f : List ℕ) (at : ℕ) where
   pub told-at : dataLength (drop at f) ≡ be (cut f (at + 10) 2)
   told-at = ap be (cut-at 10 2)
 
-  -- of bytes, the eight of mirror, reading and row are those of their number
+  -- the eight bytes of mirror, reading and row
   head-at : (h : ℕ) → Bytes f → h ≡ be (cut f (at + 2) 8) → h < 256 ^ 8 → at + 10 ≤ length f → toBE 8 h ≡ cut (drop at f) 2 8
-  head-at h b e u l =
-      let c = cut f (at + 2) 8 in
-      let n : length c ≡ 8 = length-take-le 8 (drop (at + 2) f) (omega (arith, length-drop (at + 2) f)) in
-      be-same (toBE 8 h) c (length-toBE 8 h ∙ sym n) (bytes-toBE 8 h) (bytes-take 8 (drop (at + 2) f) (bytes-drop (at + 2) f b)) (be-toBE 8 u ∙ e)
-      ∙ sym (cut-at 2 8)
+  head-at h b e u l = number-back f b (at + 2) h (omega arith) e u ∙ sym (cut-at 2 8)
 
   pub record-at : (h n : ℕ) → Bytes f → h ≡ be (cut f (at + 2) 8) → h < 256 ^ 8 → dataLength (drop at f) ≡ n → at + 12 + n ≤ length f
       → andRecord (firstRecord (drop at f)) (parse (behind (drop at f)))

@@ -13,7 +13,7 @@ use Rattle.store.specs.Page.{View}
 use Rattle.store.specs.Segment.{SegView, segView, sizeOk}
 use Rattle.store.specs.SoundSegment.{PagesSound}
 use Rattle.store.specs.Records.{Entry, entryOf, entriesFrom, pageEntries, pagesEntries, entries, rowsIn}
-use Rattle.store.specs.Report.{one}
+use Rattle.store.specs.Numbers.{one}
 use Rattle.store.specs.Laws.Cases.{by-test, tests}
 use Rattle.store.specs.Laws.Views.{Sound}
 use Rattle.store.specs.Laws.SoundSegment.{pages-sound, seen-pages}

@@ -8,7 +8,9 @@ use borrow.Author.Needs.{needs}
 use lib.ListN.{length, length-set}
 use Rattle.store.specs.Numbers.{cut, put, toBE}
 use Rattle.store.specs.Laws.Writes.{length-cut}
-use Rattle.exchange.proofs.WriteLaws.{bytes-all, read-back, reading-written}
+use Rattle.store.specs.Laws.Numbers.{bytes-all}
+use Rattle.exchange.specs.Laws.Parse.{number-back}
+use Rattle.exchange.proofs.WriteLaws.{reading-written}
 use Rattle.exchange.proofs.write.write_reading.Statement.{statement}
 use Rattle.exchange.proofs.write.write_reading.Tie as tie
 
@@ -68,7 +70,7 @@ returns c =
     written .copy-in .ensures ∙ ap (λ (f : List ℕ). put f (a .at + 12) tail) (size .put-u16 .ensures)
     ∙ ap (λ (f : List ℕ). put (put f (a .at + 10) (toBE 2 (a .n - 8))) (a .at + 12) tail) (head .put-u64 .ensures)
     ∙ reading-written p (a .offset) (a .n) (pre .headed) (pre .within) (now (a .file)) (a .at) _ tail
-    (read-back p (bytes-all p (λ i. omega (arith, known .shared-slice-known .given i))) (a .offset) _ (omega arith) (number .is) (number .small))
+    (number-back p (bytes-all p (λ i. omega (arith, known .shared-slice-known .given i))) (a .offset) _ (omega arith) (number .is) (number .small))
     (data-is (a .offset) (a .n) p)
 
 pub write-reading-spec : {M : Type 1} → statement M
