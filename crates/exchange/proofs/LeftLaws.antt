@@ -4,7 +4,6 @@ use Prim.Native.Nat.{ℕ, suc, _+_, _-_, _≤_, _<_}
 use mathlib.Core.Path.{_≡_, refl, sym, ap, _∙_}
 use mathlib.Core.Bool.{Bool, true, false, cond}
 use mathlib.Core.List.{List, [], _∷_, _++_}
-use mathlib.Core.Logic.{_⊎_, inl, inr}
 use native.Mathlib.Omega.{arith}
 use native.Mathlib.Nat.{sub-zero}
 use lib.ListN.{length, drop}
@@ -16,7 +15,7 @@ use Rattle.store.specs.PageSteps.{initialised, opened}
 use Rattle.store.specs.Records.{Entry, entryOf, entriesFrom, pageEntries, pagesEntries, records, rowsIn}
 use Rattle.store.specs.Numbers.{one}
 use Rattle.store.specs.Segment.{SegView}
-use Rattle.store.specs.Laws.Cases.{lt-or-le, by-test, tests}
+use Rattle.store.specs.Laws.Cases.{by-test, tests}
 use Rattle.store.specs.Laws.Numbers.{cut-drop}
 use Rattle.store.specs.Laws.SoundPage.{sound-page, fresh-none, used-not-fresh}
 use Rattle.store.specs.Laws.Views.{Sound}

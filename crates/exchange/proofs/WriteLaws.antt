@@ -1,12 +1,12 @@
 -- Writing: what is written so far and what is left to be written give the whole; and the four stores of a reading.
-use Prim.Native.Nat.{ℕ, suc, _+_, _-_, _^_, _≤_, _<_}
+use Prim.Native.Nat.{ℕ, suc, _+_, _-_, _≤_}
 use mathlib.Core.Path.{_≡_, refl, sym, ap, _∙_}
 use mathlib.Core.List.{List, [], _∷_, _++_}
 use native.Mathlib.Omega.{arith}
-use lib.ListN.{length, drop, set, getD, length-append}
+use lib.ListN.{length, drop, set, length-append}
 use lib.Seq.{take-take}
-use Rattle.store.specs.Numbers.{cut, put, Bytes, be, toBE}
-use Rattle.store.specs.Laws.Numbers.{length-put, length-toBE, be-toBE, be-same, bytes-take, bytes-drop, bytes-toBE, put-nil, put-set, cut-drop}
+use Rattle.store.specs.Numbers.{cut, put, toBE}
+use Rattle.store.specs.Laws.Numbers.{length-put, length-toBE, put-nil, put-set, cut-drop}
 use Rattle.store.specs.Laws.Writes.{write-append, length-cut}
 use Rattle.exchange.specs.Exchange.{fileRecord}
 

@@ -2,11 +2,11 @@
 use Prim.Native.Nat.{ℕ, zero, suc, _+_, _-_, _^_, _≤_, _<_}
 use mathlib.Core.Path.{_≡_, refl, sym, ap, _∙_}
 use mathlib.Core.Bool.{Bool, true, false, cond, not, _&&_, and-false}
-use mathlib.Core.List.{List, [], _∷_, _++_}
+use mathlib.Core.List.{List, [], _++_}
 use mathlib.Core.Logic.{_≢_}
 use native.Mathlib.Omega.{arith}
 use lib.ListN.{length, take, drop, getD, length-drop}
-use lib.Seq.{getD-drop, drop-drop, length-take-le}
+use lib.Seq.{getD-drop, drop-drop}
 use lib.Dec.{eqb, ltb}
 use borrow.Author.Tests.{eq-eqb, ne-eqb, lt-ltb, le-ltb}
 use Rattle.store.specs.Numbers.{cut, Bytes, be, toBE}
@@ -14,7 +14,8 @@ use Rattle.store.specs.Refusals.{LONG}
 use Rattle.store.specs.Laws.SoundPage.{and-in}
 use Rattle.store.specs.Laws.Writes.{length-cut}
 use Rattle.store.specs.Laws.Numbers.{length-toBE, be-toBE, bytes-toBE, bytes-take, bytes-drop, be-same}
-use Rattle.exchange.specs.Exchange.{MARK, SHORT, Parsed, wrong, holds, andRecord, marked, dataLength, firstRecord, tooLong, cutOff, behind, turn, parseFrom, parse}
+use Rattle.exchange.specs.Exchange.{MARK, SHORT, Parsed, wrong, holds, andRecord, marked, dataLength, firstRecord, tooLong, cutOff}
+use Rattle.exchange.specs.Exchange.{behind, turn, parseFrom, parse}
 use Rattle.exchange.specs.Words.{faultOf}
 
 -- ---- the turns
