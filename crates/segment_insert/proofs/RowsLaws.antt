@@ -2,9 +2,11 @@
 use Prim.Native.Nat.{ℕ, zero, suc, _+_, _-_, _≤_, _<_}
 use mathlib.Core.Path.{_≡_, refl, sym, ap, subst, _∙_}
 use mathlib.Core.Bool.{Bool, true, false, _&&_, and-false}
-use mathlib.Core.List.{List, _∷_}
+use mathlib.Core.List.{List, [], _∷_}
 use mathlib.Core.Logic.{_≢_}
 use native.Mathlib.Omega.{arith}
+use types.Run.{OneOf, miss}
+use denote.Enum.Declared.{tagOf}
 use lib.ListN.{length, take, drop, set, getD, length-set, drop-of-length-le}
 use lib.Seq.{drop-cons, drop-drop}
 use lib.Dec.{eqb}
@@ -19,8 +21,9 @@ use Rattle.store.specs.Laws.Cases.{never}
 use Rattle.store.specs.Laws.Numbers.{put-set, put-nil}
 use Rattle.store.specs.Laws.ManyRows.{row-in, row-refused, no-row, insert-own}
 use Rattle.store.specs.Promises.Refused.{refused-keeps, length-kept, inventory-kept, sizes-kept}
+use Rattle.store.proofs.Answer.{the-type}
 use Rattle.store.specs.declared.Answer.{Answer}
-use Rattle.store.specs.declared.Answer.the-variants.{Done}
+use Rattle.store.specs.declared.Answer.the-variants.{Done, Size, NoPage, Long, Damaged, NoRecord, Forwarded, Full, Stale}
 use Rattle.store.specs.declared.Inserted.the-variants as many
 use Rattle.segment_insert.specs.Words.{KnownSound}
 
@@ -40,6 +43,19 @@ own-above : (a : ℕ) → ofRow a ≡ true → a ≢ 0 → 1 < a
 own-above zero e n = absurd (n refl)
 own-above (suc zero) e n = never e refl
 own-above (suc (suc a)) e n = omega arith
+
+-- ---- an answer that is not Done
+
+pub not-done : (r : Answer) → OneOf (1 ∷ 2 ∷ 3 ∷ 4 ∷ 5 ∷ 6 ∷ 7 ∷ 8 ∷ []) (tagOf the-type r) → answerNo r ≢ 0
+not-done (Done i) h e = miss (1 ∷ 2 ∷ 3 ∷ 4 ∷ 5 ∷ 6 ∷ 7 ∷ 8 ∷ []) 0 tt h
+not-done Size h e = omega (arith, e)
+not-done NoPage h e = omega (arith, e)
+not-done Long h e = omega (arith, e)
+not-done Damaged h e = omega (arith, e)
+not-done NoRecord h e = omega (arith, e)
+not-done Forwarded h e = omega (arith, e)
+not-done Full h e = omega (arith, e)
+not-done Stale h e = omega (arith, e)
 
 -- ---- one row of the fold
 

@@ -2,7 +2,6 @@
 use Prim.Native.Nat.{ℕ, _-_}
 use mathlib.Core.Path.{_≡_, refl, sym, ap, subst, _∙_}
 use mathlib.Core.List.{List, [], _∷_, _++_}
-use mathlib.Core.Logic.{_≢_}
 use denote.Ref.{now}
 use denote.Enum.Declared.{tagOf}
 use types.Run.{OneOf, miss}
@@ -12,11 +11,11 @@ use borrow.Author.Needs.{needs}
 use Rattle.store.specs.Numbers.{cut, toBE}
 use Rattle.store.specs.Refusals.{DONE}
 use Rattle.store.specs.Segment.{insertStep}
-use Rattle.store.specs.Answers.{answerNo, outcome}
+use Rattle.store.specs.Answers.{outcome}
 use Rattle.store.specs.declared.Answer.{Answer}
-use Rattle.store.specs.declared.Answer.the-variants.{Done, Size, NoPage, Long, Damaged, NoRecord, Forwarded, Full, Stale}
-use Rattle.store.proofs.Answer as answer
+use Rattle.store.specs.declared.Answer.the-variants.{Long}
 use Rattle.segment_insert.proofs.KnownLaws.{none-known}
+use Rattle.segment_insert.proofs.RowsLaws.{not-done}
 use Rattle.exchange.specs.Exchange.{holds, parse}
 use Rattle.exchange.specs.Words.{follows, Inside, Lies, faultOf}
 use Rattle.exchange.specs.declared.format.Next.{Next}
@@ -75,18 +74,6 @@ no-record f next.End o w = refl
 no-record f next.Short o w = absurd (omega arith)
 no-record f next.Mark o w = absurd (omega arith)
 no-record f next.Long o w = absurd (omega arith)
-
--- an answer that is not Done
-not-done : (r : Answer) → OneOf (1 ∷ 2 ∷ 3 ∷ 4 ∷ 5 ∷ 6 ∷ 7 ∷ 8 ∷ []) (tagOf answer.the-type r) → answerNo r ≢ 0
-not-done (Done i) h e = miss (1 ∷ 2 ∷ 3 ∷ 4 ∷ 5 ∷ 6 ∷ 7 ∷ 8 ∷ []) 0 tt h
-not-done Size h e = omega (arith, e)
-not-done NoPage h e = omega (arith, e)
-not-done Long h e = omega (arith, e)
-not-done Damaged h e = omega (arith, e)
-not-done NoRecord h e = omega (arith, e)
-not-done Forwarded h e = omega (arith, e)
-not-done Full h e = omega (arith, e)
-not-done Stale h e = omega (arith, e)
 
 loop-holds : tie.Need-loop-holds Inv-loop μ-loop
 loop-holds c =

@@ -1,21 +1,15 @@
 -- `segment_insert::rows::insert_rows` meets its contract. At each turn what is left to do gives the whole.
 use Prim.Native.Nat.{_+_, _-_, _≤_}
 use mathlib.Core.Path.{_≡_, sym, ap, _∙_}
-use mathlib.Core.List.{[], _∷_}
-use mathlib.Core.Logic.{_≢_}
 use denote.Ref.{now}
 use native.Mathlib.Omega.{arith}
 use lib.ListN.{length, getD}
-use types.Run.{OneOf, miss}
-use denote.Enum.Declared.{tagOf}
 use borrow.Author.Needs.{needs}
-use Rattle.store.proofs.Answer.{the-type}
 use Rattle.store.specs.Segment.{insertStep}
-use Rattle.store.specs.Answers.{answerNo, outcome}
+use Rattle.store.specs.Answers.{outcome}
 use Rattle.store.specs.declared.Answer.{Answer}
-use Rattle.store.specs.declared.Answer.the-variants.{Done, Size, NoPage, Long, Damaged, NoRecord, Forwarded, Full, Stale}
 use Rattle.segment_insert.proofs.KnownLaws.{none-known}
-use Rattle.segment_insert.proofs.RowsLaws.{total-next, row, RowsLeft, left-all, left-none, left-stop, left-next}
+use Rattle.segment_insert.proofs.RowsLaws.{total-next, row, not-done, RowsLeft, left-all, left-none, left-stop, left-next}
 use Rattle.segment_insert.proofs.rows.insert_rows.Statement.{statement}
 use Rattle.segment_insert.proofs.rows.insert_rows.Tie as tie
 
@@ -78,18 +72,6 @@ is-step : (c : tie.After-insert-row Inv-loop μ-loop) →
     outcome (c .insert-row .result) (c .insert-row .last .0) (c .insert-row .last .1 .0)
     ≡ insertStep (t .loop .segment) (t .loop .inventory) (row (now (a .rows)) (now (a .lengths)) (t .loop .at) (t .loop .k))
 is-step c = c .insert-row .ensures .0
-
--- an answer that is not Done
-not-done : (r : Answer) → OneOf (1 ∷ 2 ∷ 3 ∷ 4 ∷ 5 ∷ 6 ∷ 7 ∷ 8 ∷ []) (tagOf the-type r) → answerNo r ≢ 0
-not-done (Done i) h e = miss (1 ∷ 2 ∷ 3 ∷ 4 ∷ 5 ∷ 6 ∷ 7 ∷ 8 ∷ []) 0 tt h
-not-done Size h e = omega (arith, e)
-not-done NoPage h e = omega (arith, e)
-not-done Long h e = omega (arith, e)
-not-done Damaged h e = omega (arith, e)
-not-done NoRecord h e = omega (arith, e)
-not-done Forwarded h e = omega (arith, e)
-not-done Full h e = omega (arith, e)
-not-done Stale h e = omega (arith, e)
 
 same-length : tie.Need-same-length Inv-loop μ-loop
 same-length c = let x = answered (c .before) in x .insert-row .kept .0 ∙ turn (asked x) .loop .inv .segLong
