@@ -34,7 +34,7 @@ andRecord r (holds rs) = holds (r ∷ rs)
 
 -- "a two-byte mark, 52 54"
 abbrev pub marked : List ℕ → Bool
-marked f = eqb (getD f 0 0) 82 && eqb (getD f 1 0) 84
+marked f = eqb (getD f 0 0) 0x52 && eqb (getD f 1 0) 0x54
 
 -- "then mirror (u32), reading (u16), row (u16), length (u16), all big-endian"
 abbrev pub dataLength : List ℕ → ℕ
@@ -78,7 +78,7 @@ parse f = parseFrom (length f) f
 -- ---- a file is written
 
 abbrev pub fileRecord : List ℕ → List ℕ
-fileRecord r = 82 ∷ 84 ∷ (take 8 r ++ (toBE 2 (length r - 8) ++ drop 8 r))
+fileRecord r = 0x52 ∷ 0x54 ∷ (take 8 r ++ (toBE 2 (length r - 8) ++ drop 8 r))
 
 abbrev pub fileOf : List (List ℕ) → List ℕ
 fileOf [] = []

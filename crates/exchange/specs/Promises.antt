@@ -3,3 +3,4 @@ pub mod Import
 pub mod Export
 pub mod RoundTrip
 pub mod Alike
+pub mod Outcome
