@@ -1,63 +1,41 @@
 -- Laws for import: a record's own refusals, and what is left of a file gives the whole.
-use Prim.Native.Nat.{ℕ, _+_, _-_, _≤_, _<_}
+use Prim.Native.Nat.{ℕ, zero, suc, _+_, _-_, _≤_, _<_}
 use mathlib.Core.Path.{_≡_, refl, sym, ap, subst, _∙_}
-use mathlib.Core.Bool.{true, false, not, _&&_}
+use mathlib.Core.Bool.{true, _&&_}
 use mathlib.Core.List.{List, [], _∷_, _++_}
 use mathlib.Core.Logic.{_≢_}
 use native.Mathlib.Omega.{arith}
 use lib.ListN.{length, drop, length-take}
-use borrow.Author.Tests.{le-ltb}
 use Rattle.store.specs.Numbers.{cut, toBE}
-use Rattle.store.specs.Refusals.{DONE, LONG, DAMAGED}
-use Rattle.store.specs.Page.{sound}
-use Rattle.store.specs.PageSteps.{Alloc, noRoom, got, allocate}
-use Rattle.store.specs.Inventory.{foundIn}
-use Rattle.store.specs.Segment.{SegView, segView, sizeOk, invOk, Result, result, Found, nowhere, found, taken, findOn, needFor, find}
-use Rattle.store.specs.Segment.{inserted, insertPlan, insertStep}
+use Rattle.store.specs.Refusals.{DONE, LONG}
+use Rattle.store.specs.Segment.{sizeOk, invOk, Result}
+use Rattle.store.specs.Segment.{inserted, insertStep}
 use Rattle.store.specs.ManyRows.{Rows, noRow, andRow, insertAll}
 use Rattle.store.specs.Answers.{answerNo, outcome}
 use Rattle.store.specs.Calls.{insert}
-use Rattle.store.specs.Laws.Cases.{by-test}
+use Rattle.store.specs.Laws.Cases.{never}
 use Rattle.store.specs.Laws.ManyRows.{row-in, row-refused, no-row}
 use Rattle.store.specs.Promises.Refused.{refused-keeps, length-kept, inventory-kept, sizes-kept}
 use Rattle.store.specs.declared.Answer.{Answer}
 use Rattle.store.specs.declared.Answer.the-variants.{Done}
-use Rattle.store.specs.declared.Named.{Named}
-use Rattle.store.specs.declared.Named.the-variants.{At, Full}
 use Rattle.segment_insert.specs.Words.{KnownSound}
 use Rattle.exchange.specs.Exchange.{Parsed, holds, andRecord, parse, Import, withoutIds, insertParsed, importStep}
 use Rattle.exchange.specs.Told.{imported}
 use Rattle.exchange.specs.Words.{follows, Inside, faultOf}
+use Rattle.exchange.specs.FileTold.{ofInsert}
+use Rattle.exchange.specs.Laws.Import.{by-file, insert-short}
 use Rattle.exchange.specs.Laws.Parse.{fault-behind, fault-is, held, parse-holds}
 use Rattle.exchange.specs.declared.Imported.the-variants as import
 use Rattle.exchange.specs.declared.format.Next.the-variants.{Record}
 
 -- ---- a record of at most 16,364 bytes is refused by 4, 7 or 8 alone
 
-abbrev Late : Found → Type 0
-Late (nowhere a) = LONG < a
-Late (found p k a) = Unit {0}
-
-taken-late : (p : ℕ) (a : Alloc) → Late (taken p a)
-taken-late p noRoom = omega arith
-taken-late p (got k a) = tt
-
-found-late : (u : SegView) (m : ℕ) (n : Named) → Late (findOn u m (λ p. false) n)
-found-late u m Full = omega arith
-found-late u m (At p) =
-    by-test Late (not (sound (u .page p))) (nowhere DAMAGED) (taken p (allocate (u .page p) m)) (λ e. omega arith)
-    (λ e. taken-late p (allocate (u .page p) m))
-
-inserted-late : (u : SegView) (v bs : List ℕ) (f : Found) → Late f → inserted u v bs f .answer ≢ 0 → LONG < inserted u v bs f .answer
-inserted-late u v bs (nowhere a) h n = h
-inserted-late u v bs (found p k a) h n = absurd (n refl)
-
-refused-late : (s v bs : List ℕ) → (sizeOk s && invOk v) ≡ true → length bs ≤ 16364 → insertStep s v bs .answer ≢ 0 → LONG < insertStep s v bs .answer
-unfolding insertStep result insertPlan find
-refused-late s v bs h l =
-    let u : SegView = segView s in
-    let n : Named = foundIn v (u .pages) (needFor (length bs)) in
-    rw (h, le-ltb 16364 (length bs) l) (inserted-late u v bs (findOn u (length bs) (λ p. false) n) (found-late u (length bs) n))
+late : (a : ℕ) → ofInsert a ≡ true → a ≢ 0 → LONG < a
+late zero o n = absurd (n refl)
+late (suc zero) o n = never o refl
+late (suc (suc zero)) o n = never o refl
+late (suc (suc (suc zero))) o n = never o refl
+late (suc (suc (suc (suc a)))) o n = omega arith
 
 -- ---- one record of the fold
 
@@ -129,7 +107,7 @@ module _ (s₀ v₀ f : List ℕ) where
           let inv : v′ ≡ v = (λ j. o j .inv) ∙ kept .1 in (
             (λ j. record { answer = same j; inserted = k; seg = seg j; inv = inv j })
                 ∙ sym (count-none k (here .answer) s v) ∙ ap (countedFrom k) (sym (row-refused s v row rest q)) ∙ whole,
-            subst (λ (m : ℕ). LONG < m) (sym same) (refused-late s v row (g .sizes) short q),
+            subst (λ (m : ℕ). LONG < m) (sym same) (late (here .answer) (insert-short s v row (g .sizes) short) q),
           )
 
       -- it goes in
@@ -152,14 +130,6 @@ module _ (s₀ v₀ f : List ℕ) where
 -- ---- the call
 
 module _ (s v f : List ℕ) where
-  pub import-size : (sizeOk s && invOk v) ≡ false → imported import.Size s v ≡ importStep s v f
-  unfolding importStep
-  import-size e = rw e
-
-  pub import-parsed : (sizeOk s && invOk v) ≡ true → withoutIds (insertParsed s v (parse f)) ≡ importStep s v f
-  unfolding importStep
-  import-parsed e = rw e
-
   -- a fault of the file
   pub import-wrong : (sizeOk s && invOk v) ≡ true → (a : ℕ) → a ≡ faultOf (parse f) → a ≢ 0 → withoutIds (noRow a s v) ≡ importStep s v f
-  import-wrong e a w n = ap (λ (p : Parsed). withoutIds (insertParsed s v p)) (sym (fault-is (parse f) w n)) ∙ import-parsed e
+  import-wrong e a w n = ap (λ (p : Parsed). withoutIds (insertParsed s v p)) (sym (fault-is (parse f) w n)) ∙ sym (by-file s v f e (parse f) refl)

@@ -4,10 +4,10 @@ use mathlib.Core.Bool.{Bool, cond, not, _&&_}
 use mathlib.Core.List.{List, [], _∷_, _++_}
 use lib.ListN.{length, take, drop, getD}
 use lib.Dec.{eqb, ltb}
-use Rattle.store.specs.Numbers.{one, cut, put, be, toBE}
+use Rattle.store.specs.Numbers.{cut, put, be, toBE}
 use Rattle.store.specs.Refusals.{DONE, SIZE, LONG, DAMAGED, ROOM}
 use Rattle.store.specs.Segment.{segView, sizeOk, invOk}
-use Rattle.store.specs.Records.{records}
+use Rattle.store.specs.Records.{records, countIf}
 use Rattle.store.specs.ManyRows.{Rows, noRow, insertAll}
 use Rattle.store.specs.Report.{allSound}
 
@@ -94,8 +94,7 @@ readings (r ∷ rs) = let t = readings rs in cond (isShort r) t (r ∷ t)
 
 -- "export passes over it and says how many it passed"
 abbrev pub passedOver : List (List ℕ) → ℕ
-passedOver [] = 0
-passedOver (r ∷ rs) = one (isShort r) + passedOver rs
+passedOver = countIf isShort
 
 -- ---- import
 

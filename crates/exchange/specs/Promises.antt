@@ -4,3 +4,4 @@ pub mod Export
 pub mod RoundTrip
 pub mod Alike
 pub mod Outcome
+pub mod Examples

@@ -11,7 +11,7 @@ use lib.ListN.{length}
 use Rattle.store.specs.Refusals.{DONE, ROOM}
 use Rattle.store.specs.Segment.{segView, sizeOk}
 use Rattle.store.specs.Report.{allSound}
-use Rattle.exchange.specs.Laws.Export.{by-size, by-damage, by-room, by-done}
+use Rattle.exchange.specs.Laws.Export.{on-size, on-damage, on-room, on-done}
 use Rattle.exchange.proofs.export.Statement.{statement}
 use Rattle.exchange.proofs.export.Tie as tie
 
@@ -32,7 +32,7 @@ abbrev entered : tie.Else2 → tie.After-is-segment
 entered c = measured c .before .before
 
 returns : tie.Need-returns
-returns c = sym (by-size (segment (c .before)) (place (c .before)) (sym (c .before .is-segment .ensures) ∙ not-true _ (c .if1 .taken)))
+returns c = sym (on-size (segment (c .before)) (place (c .before)) (sym (c .before .is-segment .ensures) ∙ not-true _ (c .if1 .taken)))
 
 right : (c : tie.Else1) → sizeOk (segment (c .before)) ≡ true
 right c = sym (c .before .is-segment .ensures) ∙ not-false _ (c .if1 .left)
@@ -41,7 +41,7 @@ returns-2 : tie.Need-returns-2
 returns-2 c =
     let m = c .before .before in
     let at = m .before .before in
-    sym (by-damage (segment at) (place at) (right (m .before)) (sym (m .measure-segment .ensures .sound) ∙ not-true _ (c .if2 .taken)))
+    sym (on-damage (segment at) (place at) (right (m .before)) (sym (m .measure-segment .ensures .sound) ∙ not-true _ (c .if2 .taken)))
 
 -- all pages are sound, and the numbers are right
 module _ (c : tie.Else2) where
@@ -59,7 +59,7 @@ returns-3 c =
     let l = told .length (sounds else) in
     let n = told .passed (sounds else) in
     (λ i. record { answer = ROOM; length = l i; passed = n i; place = place at })
-    ∙ sym (by-room (segment at) (place at) (right (measured else .before)) (all-sound else) (omega arith))
+    ∙ sym (on-room (segment at) (place at) (right (measured else .before)) (all-sound else) (omega arith))
 
 write-file-requires : tie.Need-write-file-requires
 write-file-requires c κs =
@@ -78,7 +78,7 @@ returns-4 c =
     let l = told .length (sounds else) in
     let n = told .passed (sounds else) in
     (λ i. record { answer = DONE; length = l i; passed = n i; place = w .write-file .ensures i })
-    ∙ sym (by-done (segment at) (place at) (right (measured else .before)) (all-sound else) (omega arith))
+    ∙ sym (on-done (segment at) (place at) (right (measured else .before)) (all-sound else) (omega arith))
 
 pub export-spec : {M : Type 1} → statement M
 export-spec =

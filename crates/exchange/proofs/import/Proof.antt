@@ -1,5 +1,5 @@
 -- `exchange::import` meets its contract: 1, then what is wrong with the file, then its records.
-use mathlib.Core.Path.{_≡_, sym, ap, _∙_}
+use mathlib.Core.Path.{_≡_, refl, sym, ap, _∙_}
 use mathlib.Core.Bool.{true, _&&_}
 use mathlib.Core.Logic.{_≢_}
 use denote.Ref.{now}
@@ -12,7 +12,8 @@ use Rattle.exchange.specs.Exchange.{parse, withoutIds, importStep}
 use Rattle.exchange.specs.Words.{faultOf, formatNo}
 use Rattle.exchange.specs.declared.format.Format.{Format}
 use Rattle.exchange.specs.declared.format.Format.the-variants.{Whole, Short, Mark, Long}
-use Rattle.exchange.proofs.ImportLaws.{import-size, import-parsed, import-wrong}
+use Rattle.exchange.specs.Laws.Import.{by-sizes, by-file}
+use Rattle.exchange.proofs.ImportLaws.{import-wrong}
 use Rattle.exchange.proofs.import.Statement.{statement}
 use Rattle.exchange.proofs.import.Tie as tie
 
@@ -43,7 +44,7 @@ wrong-here c r e n =
 returns : tie.Need-returns
 returns c =
     let a = entry (c .before) .args in (
-      import-size (now (a .segment)) (now (a .inventory)) (now (a .file)) (sym (c .before .sizes-ok .ensures) ∙ not-true _ (c .if1 .taken)),
+      sym (by-sizes (now (a .segment)) (now (a .inventory)) (now (a .file)) (sym (c .before .sizes-ok .ensures) ∙ not-true _ (c .if1 .taken))),
       tt,
     )
 
@@ -58,7 +59,7 @@ returns-2 c =
     let x = read (done .before) in
     let a = begun x .args in
     let e = done .insert-file .ensures in
-    (e .0 ∙ import-parsed (now (a .segment)) (now (a .inventory)) (now (a .file)) (sizes-here x), e .1)
+    (e .0 ∙ sym (by-file (now (a .segment)) (now (a .inventory)) (now (a .file)) (sizes-here x) (parse (now (a .file))) refl), e .1)
 
 returns-3 : tie.Need-returns-3
 returns-3 c = (wrong-here (c .before .before) Short (c .enum-told2 .given .1) (λ z. omega arith), tt)

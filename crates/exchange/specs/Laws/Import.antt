@@ -38,7 +38,7 @@ module _ (s v f : List ℕ) where
 
 -- ---- "(3 can't occur any more)"
 
-insert-short : (s v b : List ℕ) → (sizeOk s && invOk v) ≡ true → length b ≤ 16364 → ofInsert (insertStep s v b .answer) ≡ true
+pub insert-short : (s v b : List ℕ) → (sizeOk s && invOk v) ≡ true → length b ≤ 16364 → ofInsert (insertStep s v b .answer) ≡ true
 insert-short s v b h l =
     ⊎-elim (ap ofInsert)
     (λ d. ⊎-elim (ap ofInsert) (λ t. ⊎-elim (ap ofInsert) (ap ofInsert) (insert-fitted s v b h l d t)) (eq-or-ne (insertStep s v b .answer) STALE))

@@ -1,97 +1,28 @@
--- A file by what stands first in it, and the rest; and what is written of a record is read. For all lists of numbers, bytes or not.
-use Prim.Native.Nat.{ℕ, zero, suc, _+_, _-_, _≤_}
-use mathlib.Core.Path.{_≡_, refl, sym, ap, _∙_, subst}
-use mathlib.Core.Bool.{cond, not}
+-- What stands first in a file, in the promises' words; and what is written of a record is read. For all lists of numbers, bytes or not.
+use Prim.Native.Nat.{ℕ, _+_, _-_}
+use mathlib.Core.Path.{_≡_, refl, sym, ap, _∙_}
 use mathlib.Core.List.{List, [], _∷_, _++_, append-assoc}
 use mathlib.Core.Logic.{inl, inr}
 use native.Mathlib.Omega.{arith}
 use lib.ListN.{length, take, drop, length-append, length-drop, take-append-drop}
 use lib.Seq.{length-take-le, drop-drop, take-at, drop-at}
-use lib.Dec.{eqb, ltb}
-use borrow.Author.Tests.{le-ltb, lt-ltb, eq-eqb, ne-eqb, not-true, not-false}
 use Rattle.store.specs.Numbers.{cut, be, toBE}
-use Rattle.store.specs.Refusals.{LONG}
-use Rattle.store.specs.Laws.Cases.{by-test, tests}
 use Rattle.store.specs.Laws.Numbers.{be-toBE}
-use Rattle.exchange.specs.Exchange.{MARK, SHORT, Parsed, wrong, holds, andRecord, marked, dataLength, firstRecord, tooLong, cutOff}
-use Rattle.exchange.specs.Exchange.{parseFrom, parse, fileRecord, fileOf}
+use Rattle.exchange.specs.Exchange.{wrong, holds, andRecord, dataLength, firstRecord, behind}
+use Rattle.exchange.specs.Exchange.{parse, fileRecord, fileOf}
+use Rattle.exchange.specs.Laws.Parse.{parse-end, parse-few, parse-mark, parse-long, parse-cut, parse-record}
 use Rattle.exchange.specs.FileTold.{Reading, Readings, andAll, Whole, Faulty, few, unmarked, long, off}
-
--- ---- the first record's tests, and p behind it
-
-abbrev firstThen : List ℕ → Parsed → Parsed
-firstThen f p =
-    cond (eqb (length f) 0) (holds [])
-    (cond (ltb (length f) 12) (wrong SHORT)
-    (cond (not (marked f)) (wrong MARK)
-    (cond (tooLong f) (wrong LONG)
-    (cond (cutOff f) (wrong SHORT)
-    (andRecord (firstRecord f) p)))))
-
-abbrev behind : List ℕ → List ℕ
-behind f = drop (12 + dataLength f) f
-
--- as many records as bytes, or more
-turns : (m n : ℕ) (f : List ℕ) → length f ≤ m → length f ≤ n → parseFrom m f ≡ parseFrom n f
-turns zero zero f l k = refl
-turns zero (suc n) f l k = rw (eq-eqb (length f) 0 (omega arith))
-turns (suc m) zero f l k = rw (eq-eqb (length f) 0 (omega arith))
-turns (suc m) (suc n) f l k =
-    let d = length-drop (12 + dataLength f) f in
-    ap (firstThen f) (turns m n (behind f) (omega arith) (omega arith))
-
-parse-turn : (f : List ℕ) → parse f ≡ firstThen f (parse (behind f))
-unfolding parse
-parse-turn f =
-    turns (length f) (suc (length f)) f (omega arith) (omega arith)
-    ∙ ap (firstThen f) (turns (length f) (length (behind f)) (behind f) (omega (arith, length-drop (12 + dataLength f) f)) (omega arith))
 
 -- ---- what stands first
 
-pub data First (f : List ℕ) (p : Parsed) : Type 0 where
-  end : length f ≡ 0 → p ≡ holds [] → First f p
-  fault : (a : ℕ) → Faulty f a → p ≡ wrong a → First f p
-  whole : Whole f → p ≡ andRecord (firstRecord f) (parse (behind f)) → First f p
-
-pub first : (f : List ℕ) → First f (parse f)
-first f =
-    subst (First f) (sym (parse-turn f))
-    (by-test (First f) (eqb (length f) 0) (holds []) _ (λ e. end (omega tests) refl)
-    (λ e. by-test (First f) (ltb (length f) 12) (wrong SHORT) _ (λ l. fault SHORT (few (omega tests) (omega tests) refl) refl)
-    (λ l. by-test (First f) (not (marked f)) (wrong MARK) _ (λ m. fault MARK (unmarked (omega tests) (not-true (marked f) m) refl) refl)
-    (λ m. by-test (First f) (tooLong f) (wrong LONG) _ (λ k. fault LONG (long (omega tests) (not-false (marked f) m) (omega tests) refl) refl)
-    (λ k. by-test (First f) (cutOff f) (wrong SHORT) _ (λ c. fault SHORT (off (omega tests) (not-false (marked f) m) (omega tests) (omega tests) refl) refl)
-    (λ c. whole (record { mark = not-false (marked f) m; short = omega tests; fits = omega tests }) refl))))))
-
-pub nothing : parse [] ≡ holds []
-unfolding parse
-nothing = refl
-
 pub faulty : (f : List ℕ) (a : ℕ) → Faulty f a → parse f ≡ wrong a
-faulty f a (few n l e) = parse-turn f ∙ rw (ne-eqb (length f) 0 (λ z. omega arith), lt-ltb (length f) 12 l, e)
-faulty f a (unmarked l m e) = parse-turn f ∙ rw (ne-eqb (length f) 0 (λ z. omega arith), le-ltb (length f) 12 l, m, e)
-faulty f a (long l m k e) = parse-turn f ∙ rw (ne-eqb (length f) 0 (λ z. omega arith), le-ltb (length f) 12 l, m, lt-ltb 16356 (dataLength f) k, e)
-faulty f a (off l m k c e) =
-    parse-turn f
-    ∙ rw (
-      ne-eqb (length f) 0 (λ z. omega arith),
-      le-ltb (length f) 12 l,
-      m,
-      le-ltb 16356 (dataLength f) k,
-      lt-ltb (length f) (12 + dataLength f) c,
-      e,
-    )
+faulty f a (few n l e) = parse-few f (λ z. omega arith) l ∙ ap wrong (sym e)
+faulty f a (unmarked l m e) = parse-mark f l m ∙ ap wrong (sym e)
+faulty f a (long l m k e) = parse-long f l m k ∙ ap wrong (sym e)
+faulty f a (off l m k c e) = parse-cut f l m k c ∙ ap wrong (sym e)
 
 pub whole-read : (f : List ℕ) → Whole f → parse f ≡ andRecord (firstRecord f) (parse (behind f))
-whole-read f w =
-    parse-turn f
-    ∙ rw (
-      ne-eqb (length f) 0 (λ z. omega arith),
-      le-ltb (length f) 12 (omega arith),
-      w .mark,
-      le-ltb 16356 (dataLength f) (w .short),
-      le-ltb (length f) (12 + dataLength f) (w .fits),
-    )
+whole-read f w = parse-record f (omega (arith, w .fits)) (w .mark) (w .short) (w .fits)
 
 -- ---- a record as it is written, and anything behind it
 
@@ -140,5 +71,5 @@ records-read (r ∷ rs) rest h =
 
 -- and nothing behind them is their file
 pub all-read : (rs : List (List ℕ)) → andAll rs (parse []) ≡ holds rs
-all-read [] = nothing
+all-read [] = parse-end [] refl
 all-read (r ∷ rs) = ap (andRecord r) (all-read rs)

@@ -1,7 +1,8 @@
 -- Every file, taken apart: the records that are read, and behind them its end or the record that is refused. A file of bytes is what is written of
 -- its records.
-use Prim.Native.Nat.{ℕ, zero, suc, _+_, _-_, _≤_}
+use Prim.Native.Nat.{ℕ, zero, suc, _+_, _-_, _≤_, _<_}
 use mathlib.Core.Path.{_≡_, refl, sym, ap, _∙_, subst}
+use mathlib.Core.Bool.{Bool, true, false}
 use mathlib.Core.List.{List, [], _∷_, _++_, append-assoc}
 use mathlib.Core.Logic.{_⊎_, inl, inr, ⊎-elim}
 use native.Mathlib.Omega.{arith}
@@ -9,12 +10,13 @@ use lib.ListN.{length, drop, getD, length-append, length-drop, take-append-drop}
 use lib.Seq.{length-take-le, drop-drop, drop-cons, take-at, drop-at}
 use lib.Dec.{eqb}
 use Rattle.store.specs.Numbers.{Bytes, cut, toBE}
-use Rattle.store.specs.Laws.Cases.{tests}
+use Rattle.store.specs.Refusals.{LONG}
+use Rattle.store.specs.Laws.Cases.{lt-or-le, tests}
 use Rattle.store.specs.Laws.Numbers.{be-toBE, be-same, bytes-take, bytes-drop, bytes-toBE}
 use Rattle.store.specs.Laws.SoundPage.{and-both}
-use Rattle.exchange.specs.Exchange.{wrong, holds, andRecord, dataLength, firstRecord, parse, fileRecord, fileOf}
-use Rattle.exchange.specs.FileTold.{Reading, Readings, andAll, Whole, Faulty}
-use Rattle.exchange.specs.Laws.ReadBack.{First, end, fault, whole, first, faulty, whole-read, all-read}
+use Rattle.exchange.specs.Exchange.{MARK, SHORT, wrong, holds, andRecord, marked, dataLength, firstRecord, parse, fileRecord, fileOf}
+use Rattle.exchange.specs.FileTold.{Reading, Readings, andAll, Whole, Faulty, few, unmarked, long, off}
+use Rattle.exchange.specs.Laws.ReadBack.{faulty, whole-read, all-read}
 
 -- ---- the first record, if it can be read
 
@@ -65,6 +67,25 @@ module _ (f : List ℕ) (w : Whole f) where
 
 -- ---- the whole file
 
+-- what stands first
+data First (f : List ℕ) : Type 0 where
+  end : length f ≡ 0 → First f
+  fault : (a : ℕ) → Faulty f a → First f
+  whole : Whole f → First f
+
+first : (f : List ℕ) → First f
+first f =
+    by (lt-or-le 0 (length f)) (lt-or-le (length f) 12) (marked f) refl (lt-or-le 16356 (dataLength f)) (lt-or-le (length f) (12 + dataLength f))
+  where
+    by : (0 < length f) ⊎ (length f ≤ 0) → (length f < 12) ⊎ (12 ≤ length f) → (b : Bool) → marked f ≡ b
+        → (16356 < dataLength f) ⊎ (dataLength f ≤ 16356) → (length f < 12 + dataLength f) ⊎ (12 + dataLength f ≤ length f) → First f
+    by (inr z) l b m k c = end (omega arith)
+    by (inl z) (inl l) b m k c = fault SHORT (few z l refl)
+    by (inl z) (inr l) false m k c = fault MARK (unmarked l m refl)
+    by (inl z) (inr l) true m (inl k) c = fault LONG (long l m k refl)
+    by (inl z) (inr l) true m (inr k) (inl c) = fault SHORT (off l m k c refl)
+    by (inl z) (inr l) true m (inr k) (inr c) = whole (record { mark = m; short = k; fits = c })
+
 -- the records that are read from f, and what is left
 pub record Split (f : List ℕ) : Type 0 where
   pub before : List (List ℕ)
@@ -92,11 +113,11 @@ one-more f w k =
       ends = k .ends;
     }
 
-split-by : (f : List ℕ) → First f (parse f) → (Whole f → Split (drop (12 + dataLength f) f)) → Split f
-split-by [] (end e q) go = none [] (inl refl)
-split-by (x ∷ f) (end e q) go = absurd (omega arith)
-split-by f (fault a x q) go = none f (inr (a, x))
-split-by f (whole w q) go = one-more f w (go w)
+split-by : (f : List ℕ) → First f → (Whole f → Split (drop (12 + dataLength f) f)) → Split f
+split-by [] (end e) more = none [] (inl refl)
+split-by (x ∷ f) (end e) more = absurd (omega arith)
+split-by f (fault a x) more = none f (inr (a, x))
+split-by f (whole w) more = one-more f w (more w)
 
 split-in : (m : ℕ) (f : List ℕ) → length f ≤ m → Split f
 split-in zero f l = split-by f (first f) (λ w. absurd (omega (arith, w .fits)))

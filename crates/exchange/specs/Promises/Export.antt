@@ -20,7 +20,9 @@ use Rattle.store.specs.Laws.Numbers.{length-put, cut-same, put-parts}
 use Rattle.store.specs.Laws.Report.{sound-each, damaged}
 use Rattle.exchange.specs.Exchange.{holds, parse, withoutIds, importStep, Export, noExport, exportStep}
 use Rattle.exchange.specs.FileTold.{readingsIn, passedIn, fileIn, withNumbers, fileWritten, ofInsert}
-use Rattle.exchange.specs.Laws.Export.{by-size, on-damage, on-room, on-done, by-export, scan-read, passed-sum}
+use Rattle.exchange.specs.Laws.Export.{on-size, at-damage, at-room, at-done, by-export}
+use Rattle.exchange.specs.Laws.Room.{file-fits}
+use Rattle.exchange.specs.Laws.Readings.{scan-read, passed-sum}
 use Rattle.exchange.specs.Promises.Format.{reads-back}
 use Rattle.exchange.specs.Promises.Import.{import-fold, read-answers}
 
@@ -37,7 +39,7 @@ module _ (s p : List ℕ) where
   size-exactly = (
     by-export s p (λ (r : Export). r .answer ≡ SIZE → sizeOk s ≡ false) (λ e z. e) (λ e d z. absurd (omega arith)) (λ e h l z. absurd (omega arith))
         (λ e h l z. absurd (omega arith)),
-    λ e. ap (λ (r : Export). r .answer) (by-size s p e),
+    λ e. ap (λ (r : Export). r .answer) (on-size s p e),
   )
 
   -- "4 in export, wherever the page lies, wins over 11": exactly if some page is not sound, whatever the place
@@ -45,7 +47,7 @@ module _ (s p : List ℕ) where
   damaged-exactly = (
     by-export s p (λ (r : Export). r .answer ≡ DAMAGED → (sizeOk s ≡ true) × Damage s) (λ e z. absurd (omega arith)) (λ e d z. (e, d))
         (λ e h l z. absurd (omega arith)) (λ e h l z. absurd (omega arith)),
-    λ x. ap (λ (r : Export). r .answer) (on-damage s p (x .0) (x .1)),
+    λ x. ap (λ (r : Export). r .answer) (at-damage s p (x .0) (x .1)),
   )
 
   -- 11 exactly if every page is sound and the file is longer than the place
@@ -53,7 +55,7 @@ module _ (s p : List ℕ) where
   room-exactly = (
     by-export s p (λ (r : Export). r .answer ≡ ROOM → (sizeOk s ≡ true) × PagesSound s × (length p < length (fileIn s))) (λ e z. absurd (omega arith))
         (λ e d z. absurd (omega arith)) (λ e h l z. (e, h, l)) (λ e h l z. absurd (omega arith)),
-    λ x. ap (λ (r : Export). r .answer) (on-room s p (x .0) (x .1) (x .2)),
+    λ x. ap (λ (r : Export). r .answer) (at-room s p (x .0) (x .1) (x .2)),
   )
 
   -- 0 exactly if it is not
@@ -61,17 +63,17 @@ module _ (s p : List ℕ) where
   done-exactly = (
     by-export s p (λ (r : Export). r .answer ≡ DONE → (sizeOk s ≡ true) × PagesSound s × (length (fileIn s) ≤ length p)) (λ e z. absurd (omega arith))
         (λ e d z. absurd (omega arith)) (λ e h l z. absurd (omega arith)) (λ e h l z. (e, h, l)),
-    λ x. ap (λ (r : Export). r .answer) (on-done s p (x .0) (x .1) (x .2)),
+    λ x. ap (λ (r : Export). r .answer) (at-done s p (x .0) (x .1) (x .2)),
   )
 
   -- ---- what it tells
 
   -- "On 1 and 4 both numbers are 0"
   pub told-none : sizeOk s ≡ false → exportStep s p ≡ noExport SIZE p
-  told-none = by-size s p
+  told-none = on-size s p
 
   pub told-damage : sizeOk s ≡ true → Damage s → exportStep s p ≡ noExport DAMAGED p
-  told-damage = on-damage s p
+  told-damage = at-damage s p
 
   -- on 0 and 11: "the length that the file has, and how many records it passes"
   pub told : sizeOk s ≡ true → PagesSound s → let r = exportStep s p in (r .length ≡ length (fileIn s)) × (r .passed ≡ passedIn s)
@@ -94,28 +96,28 @@ module _ (s p : List ℕ) where
   pub written : exportStep s p .answer ≡ DONE → exportStep s p .place ≡ fileIn s ++ drop (exportStep s p .length) p
   written z =
       let x = done-exactly .0 z in
-      rw (on-done s p (x .0) (x .1) (x .2))
+      rw (at-done s p (x .0) (x .1) (x .2))
       (put-parts p 0 (fileIn s) (omega (arith, x .2)) ∙ ap (λ (n : ℕ). fileIn s ++ drop n p) (zero-add (length (fileIn s))))
 
   -- so the bytes written are the file
   pub file-written : exportStep s p .answer ≡ DONE → fileWritten (exportStep s p) ≡ fileIn s
   file-written z =
       let x = done-exactly .0 z in
-      rw (on-done s p (x .0) (x .1) (x .2)) (cut-same p 0 (fileIn s) (length (fileIn s)) refl (omega (arith, x .2)))
+      rw (at-done s p (x .0) (x .1) (x .2)) (cut-same p 0 (fileIn s) (length (fileIn s)) refl (omega (arith, x .2)))
 
 -- "So a caller who lends an empty place learns the length": with no room it is 11 with both numbers, or 0 if the file has no bytes
 module _ (s : List ℕ) (size : sizeOk s ≡ true) (pages : PagesSound s) where
   pub no-room : 0 < length (fileIn s) → exportStep s [] ≡ withNumbers ROOM s []
-  no-room = on-room s [] size pages
+  no-room = at-room s [] size pages
 
   pub nothing-to-write : length (fileIn s) ≡ 0 → exportStep s [] ≡ withNumbers DONE s []
-  nothing-to-write e = on-done s [] size pages (omega arith)
+  nothing-to-write e = at-done s [] size pages (omega arith)
 
 -- both numbers are the same whatever the place
 pub asked : (s p q : List ℕ) → let a = exportStep s p in let b = exportStep s q in (a .length ≡ b .length) × (a .passed ≡ b .passed)
 asked s p q =
-    by-export s p (λ (r : Export). (r .length ≡ exportStep s q .length) × (r .passed ≡ exportStep s q .passed)) (λ e. rw (by-size s q e) (refl, refl))
-    (λ e d. rw (on-damage s q e d) (refl, refl)) (λ e h l. same e h) (λ e h l. same e h)
+    by-export s p (λ (r : Export). (r .length ≡ exportStep s q .length) × (r .passed ≡ exportStep s q .passed)) (λ e. rw (on-size s q e) (refl, refl))
+    (λ e d. rw (at-damage s q e d) (refl, refl)) (λ e h l. same e h) (λ e h l. same e h)
   where
     same : sizeOk s ≡ true → PagesSound s → (length (fileIn s) ≡ exportStep s q .length) × (passedIn s ≡ exportStep s q .passed)
     same e h = let t = told s q e h in (sym (t .0), sym (t .1))
@@ -123,6 +125,17 @@ asked s p q =
 -- "passed is the number of the others": the file's records and those passed over are the scan's
 pub all-told : (s : List ℕ) → length (readingsIn s) + passedIn s ≡ length (scanAll s)
 all-told s = passed-sum (rowsIn (scanAll s)) ∙ length-map (scanAll s) (λ (e : Entry). e .bytes)
+
+-- ---- "a place as long as the segment always suffices"
+
+-- "the file's length is at most the segment's"
+pub file-short : (s : List ℕ) → sizeOk s ≡ true → PagesSound s → length (fileIn s) ≤ length s
+unfolding scanAll
+file-short = file-fits
+
+-- "export never answers 11 with such a place"
+pub room-enough : (s p : List ℕ) → length s ≤ length p → exportStep s p .answer ≢ ROOM
+room-enough s p l z = let x = room-exactly s p .0 z in omega (arith, x .2, file-short s (x .0) (x .1))
 
 -- ---- "An export is never refused as a file"
 

@@ -1,15 +1,17 @@
 -- The exchange file's format (document 02, "Bench exchange file"): what is written is read and what is read is what was written, and each number of a
--- refusal is given exactly by the first record that is not as it should be. For all files. What is asked of a file's numbers is that they are bytes, where
--- it has to be: with 256 for a length's second byte a list of numbers is read, and is not what would be written of what was read.
+-- refusal is given exactly by the first record that is not as it should be. For all files; that a file's numbers are bytes is asked where it has to be.
 use Prim.Native.Nat.{ℕ}
 use mathlib.Core.Path.{_≡_, refl, sym, ap, _∙_, subst}
-use mathlib.Core.List.{List, [], _∷_, _++_, append-nil, append-assoc}
+use mathlib.Core.List.{List, [], _∷_, _++_, append-nil}
 use mathlib.Core.Logic.{_↔_, _⊎_, inl, inr}
-use Rattle.store.specs.Numbers.{Bytes}
+use lib.ListN.{take}
+use Rattle.store.specs.Numbers.{Bytes, zeros}
 use Rattle.store.specs.Refusals.{LONG}
-use Rattle.exchange.specs.Exchange.{MARK, SHORT, wrong, holds, andRecord, parse, fileRecord, fileOf}
+use Rattle.exchange.specs.Exchange.{MARK, SHORT, wrong, holds, andRecord, parse, fileOf}
 use Rattle.exchange.specs.FileTold.{Readings, andAll, Faulty, few, unmarked, long, off, RefusedAt}
-use Rattle.exchange.specs.Laws.ReadBack.{nothing, faulty, records-read, all-read}
+use Rattle.exchange.specs.Laws.Parse.{parse-end}
+use Rattle.exchange.specs.Laws.Files.{file-append}
+use Rattle.exchange.specs.Laws.ReadBack.{faulty, records-read, all-read}
 use Rattle.exchange.specs.Laws.WriteBack.{split, all-wrong, read-whole, read-part}
 
 -- ---- "One format, both ways"
@@ -24,11 +26,17 @@ writes-back f rs b e =
     let x = read-whole f rs e in
     sym (append-nil (fileOf rs)) ∙ (λ i. fileOf (sym (x .1) i) ++ sym (x .0) i) ∙ split f .written b
 
--- and each record has 8 to 16,364 bytes: one that a store can hold
+-- of numbers that are no bytes it is not so: a length of 0, 256 is read as 256, and written as 1, 0
+pub not-bytes : (parse (82 ∷ 84 ∷ zeros 9 ++ (256 ∷ zeros 256)) ≡ holds (zeros 264 ∷ []))
+    × (take 12 (fileOf (zeros 264 ∷ [])) ≡ 82 ∷ 84 ∷ zeros 8 ++ (1 ∷ 0 ∷ []))
+unfolding parse
+not-bytes = (refl, refl)
+
+-- a file that is read, of bytes or not, holds records of 8 to 16,364 bytes: such as a store can hold
 pub parsed-good : (f : List ℕ) (rs : List (List ℕ)) → parse f ≡ holds rs → Readings rs
 parsed-good f rs e = subst Readings (read-whole f rs e .1) (split f .readings)
 
--- so a file holds rs exactly if it is the file of rs
+-- so a file of bytes holds rs exactly if rs are such records and it is their file
 pub holds-exactly : (f : List ℕ) (rs : List (List ℕ)) → Bytes f → (parse f ≡ holds rs) ↔ (Readings rs × (fileOf rs ≡ f))
 holds-exactly f rs b = (λ e. (parsed-good f rs e, writes-back f rs b e), λ x. ap parse (sym (x .1)) ∙ reads-back rs (x .0))
 
@@ -39,14 +47,16 @@ file-one rs ts h k e = let a = reads-back rs h in let b = reads-back ts k in let
 -- ---- "A file is any number of these end to end, and nothing else."
 
 pub empty-file : parse [] ≡ holds []
-empty-file = nothing
+empty-file = parse-end [] refl
 
 -- two files end to end are a file of both
 pub files-join : (rs ts : List (List ℕ)) → fileOf (rs ++ ts) ≡ fileOf rs ++ fileOf ts
-files-join [] ts = refl
-files-join (r ∷ rs) ts = ap (λ (f : List ℕ). fileRecord r ++ f) (files-join rs ts) ∙ sym (append-assoc (fileRecord r) (fileOf rs) (fileOf ts))
+files-join = file-append
 
--- behind a file that is read, whatever follows is read as it would be alone
+-- behind good records whatever follows is read as it would be alone, a wrong record too; and so behind a file that is read
+pub reads-behind : (rs : List (List ℕ)) (g : List ℕ) → Readings rs → parse (fileOf rs ++ g) ≡ andAll rs (parse g)
+reads-behind = records-read
+
 pub reads-on : (f g : List ℕ) (rs : List (List ℕ)) → Bytes f → parse f ≡ holds rs → parse (f ++ g) ≡ andAll rs (parse g)
 reads-on f g rs b e = ap (λ (h : List ℕ). parse (h ++ g)) (sym (writes-back f rs b e)) ∙ records-read rs g (parsed-good f rs e)
 

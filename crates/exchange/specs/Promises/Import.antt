@@ -78,7 +78,7 @@ module _ (s v f : List ℕ) where
     λ x. ap (λ (r : Import). r .answer) (file-refused a (x .0) (x .1)),
   )
 
-  -- 0 exactly if the sizes are right, the file is read, and all of its records went in
+  -- 0 exactly if the sizes are right, the file is read (`done-tells`), and all of its records went in (`read-done`)
   pub done-tells : importStep s v f .answer ≡ DONE → ((sizeOk s && invOk v) ≡ true) × ((rs : List (List ℕ)) × (parse f ≡ holds rs))
   done-tells =
       by-import s v f (λ (r : Import). r .answer ≡ DONE → ((sizeOk s && invOk v) ≡ true) × ((rs : List (List ℕ)) × (parse f ≡ holds rs)))

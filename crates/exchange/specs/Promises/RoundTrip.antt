@@ -15,7 +15,7 @@ use Rattle.store.specs.SoundSegment.{SoundSegment}
 use Rattle.store.specs.Promises.Blank.{blank-sound, blank-list}
 use Rattle.exchange.specs.Exchange.{importStep, exportStep}
 use Rattle.exchange.specs.FileTold.{readingsIn, fileWritten}
-use Rattle.exchange.specs.Laws.Export.{readings-times}
+use Rattle.exchange.specs.Laws.Readings.{readings-times}
 use Rattle.exchange.specs.Promises.Export.{export-read}
 use Rattle.exchange.specs.Promises.Import.{done-tells, read-done, import-fits, import-adds}
 
