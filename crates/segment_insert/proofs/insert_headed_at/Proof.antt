@@ -6,7 +6,7 @@ use native.Mathlib.Omega.{arith}
 use lib.ListN.{length}
 use borrow.Rule.Slice.PartMut.{putMid}
 use Rattle.store.specs.Numbers.{toBE}
-use Rattle.segment_insert.proofs.Placed.{Wrote, no-place, place-inside, wrote, fit-headed}
+use Rattle.segment_insert.proofs.Placed.{Asked, Wrote, no-place, place-inside, wrote, fit-headed}
 use borrow.Author.Needs.{needs}
 use Rattle.segment_insert.proofs.insert_headed_at.Statement.{statement}
 use Rattle.segment_insert.proofs.insert_headed_at.Tie as tie
@@ -31,6 +31,13 @@ row z = toBE 8 (z .args .head) ++ now (z .args .bytes)
 abbrev long : tie.Start → ℕ
 long z = 8 + length (now (z .args .bytes))
 
+-- the place that was asked for, and the answer
+asked : (c : tie.After-allocate-on) →
+    let z = start c in
+    let a = z .args in
+    Asked (now (a .segment)) (a .p) (long z) (c .allocate-on .result) (c .allocate-on .last .0)
+asked c = c .allocate-on .ensures
+
 -- the bytes stand in their place
 stands : (c : tie.After-head-in) →
     let named = c .before .before in
@@ -44,7 +51,7 @@ stands c =
     let x = allocated named in
     let z = start x in
     let a = z .args in
-    wrote (now (a .segment)) (now (a .inventory)) (row z) (long z) (a .p) (z .pre .1 .0) _ _ (x .allocate-on .ensures) _ _
+    wrote (now (a .segment)) (now (a .inventory)) (row z) (long z) (a .p) (z .pre .1 .0) _ _ (asked x) _ _
     (named .before .place .given .1) (z .pre .0) (c .head-in .last .0)
     (rw (fit-headed (a .head) (now (a .bytes))) (c .head-in .ensures))
 
@@ -53,7 +60,7 @@ returns c =
     let x = c .before .before .before .before in
     let z = start x in
     let a = z .args in
-    no-place (now (a .segment)) (now (a .inventory)) (row z) (long z) (a .p) (z .pre .1 .0) _ _ (x .allocate-on .ensures) (c .enum-told .given .1)
+    no-place (now (a .segment)) (now (a .inventory)) (row z) (long z) (a .p) (z .pre .1 .0) _ _ (asked x) (c .enum-told .given .1)
 
 head-in-requires : tie.Need-head-in-requires
 head-in-requires c κs =
@@ -61,7 +68,7 @@ head-in-requires c κs =
     let x = allocated named in
     let z = start x in
     let a = z .args in
-    place-inside (now (a .segment)) (now (a .inventory)) (row z) (long z) (a .p) (z .pre .1 .0) _ _ (x .allocate-on .ensures) _ _
+    place-inside (now (a .segment)) (now (a .inventory)) (row z) (long z) (a .p) (z .pre .1 .0) _ _ (asked x) _ _
     (named .before .place .given .1)
 
 pub insert-headed-at-spec : {M : Type 1} → statement M

@@ -3,7 +3,7 @@ use denote.Ref.{now}
 use Prim.Native.Nat.{_+_, _-_, _*_}
 use native.Mathlib.Omega.{arith}
 use borrow.Rule.Slice.PartMut.{putMid}
-use Rattle.segment_insert.proofs.Placed.{Wrote, no-place, place-inside, wrote}
+use Rattle.segment_insert.proofs.Placed.{Asked, Wrote, no-place, place-inside, wrote}
 use borrow.Author.Needs.{needs}
 use Rattle.segment_insert.proofs.insert_sound_at.Statement.{statement}
 use Rattle.segment_insert.proofs.insert_sound_at.Tie as tie
@@ -21,6 +21,13 @@ finished c = c .before .before .before
 abbrev written : tie.After-update-on-arg2 → tie.After-fit-in
 written c = c .before .before .before .before
 
+-- the place that was asked for, and the answer
+asked : (c : tie.After-allocate-on) →
+    let z = start c in
+    let a = z .args in
+    Asked (now (a .segment)) (a .p) (a .size) (c .allocate-on .result) (c .allocate-on .last .0)
+asked c = c .allocate-on .ensures
+
 -- the bytes stand in their place
 stands : (c : tie.After-fit-in) →
     let named = c .before .before in
@@ -33,7 +40,7 @@ stands c =
     let x = allocated named in
     let z = start x in
     let a = z .args in
-    wrote (now (a .segment)) (now (a .inventory)) (now (a .bytes)) (a .size) (a .p) (z .pre .1 .0) _ _ (x .allocate-on .ensures) _ _
+    wrote (now (a .segment)) (now (a .inventory)) (now (a .bytes)) (a .size) (a .p) (z .pre .1 .0) _ _ (asked x) _ _
     (named .before .place .given .1) (z .pre .0) (c .fit-in .last .0) (c .fit-in .ensures)
 
 returns : tie.Need-returns
@@ -41,7 +48,7 @@ returns c =
     let x = c .before .before .before .before in
     let z = start x in
     let a = z .args in
-    no-place (now (a .segment)) (now (a .inventory)) (now (a .bytes)) (a .size) (a .p) (z .pre .1 .0) _ _ (x .allocate-on .ensures) (c .enum-told .given .1)
+    no-place (now (a .segment)) (now (a .inventory)) (now (a .bytes)) (a .size) (a .p) (z .pre .1 .0) _ _ (asked x) (c .enum-told .given .1)
 
 fit-in-requires : tie.Need-fit-in-requires
 fit-in-requires c κs =
@@ -49,7 +56,7 @@ fit-in-requires c κs =
     let x = allocated named in
     let z = start x in
     let a = z .args in
-    place-inside (now (a .segment)) (now (a .inventory)) (now (a .bytes)) (a .size) (a .p) (z .pre .1 .0) _ _ (x .allocate-on .ensures) _ _
+    place-inside (now (a .segment)) (now (a .inventory)) (now (a .bytes)) (a .size) (a .p) (z .pre .1 .0) _ _ (asked x) _ _
     (named .before .place .given .1)
 
 pub insert-sound-at-spec : {M : Type 1} → statement M
