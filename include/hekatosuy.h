@@ -9,12 +9,13 @@
  * A record has 0 to 16,364 bytes and an id, page * 65,536 + slot, which stays the same until the record is erased.
  *
  * Each function is proved to meet its contract (crates/hekatosuy): for every segment, inventory and argument it answers one of the
- * numbers below and leaves each byte as the contract says. A call that is refused leaves segment, inventory and tally as they were; only
- * hk_insert_records, refused at one of its rows, leaves what the rows before it changed, and nothing else.
+ * numbers below and leaves each byte as the contract says. A call that is refused leaves segment, inventory, tally and an export's place
+ * as they were; only hk_insert_records and hk_import, refused at one of their rows, leave what the rows before it changed, and nothing
+ * else.
  *
  * The pointer before a length or a count points to so many bytes (lengths, ids and entries: to so many uint64_t), and no pointer is
- * null, also where the length or the count is 0. What one call is lent to write (segment, inventory, ids, entries, the tally and the single
- * numbers) overlaps nothing else that it is lent.
+ * null, also where the length or the count is 0. What one call is lent to write (segment, inventory, ids, entries, the tally, the place for
+ * an export's file and the single numbers) overlaps nothing else that it is lent.
  *
  * A program, whole:
  *
@@ -57,14 +58,15 @@ enum {
 
 /*
  * What a call answers. Where several refusals hold, this is their order: 1, 10, 3, 2, 4 for the id's own page, 5, 6, 4 for a target, 7,
- * 4 for a new page, 8. Of many rows 1 and 10 come before any row, and then each row in its turn. hk_fill_report has 1, 4 for any page, 9,
- * and hk_repair answers 0, 1 or 11.
+ * 4 for a new page, 8. Of many rows 1 and 10 come before any row, and then each row in its turn. hk_import has 1, then for each record of
+ * the file in its turn 13, 12, 3, 13, all before any insert, and then each insert's own. hk_fill_report has 1, 4 for any page, 9;
+ * hk_export 1, 4 for any page, 11; and hk_repair answers 0, 1 or 11.
  */
 enum {
     HK_DONE = 0,      /* the call is carried out */
     HK_SIZE = 1,      /* segment not 0 to 32,527 whole pages, or inventory not 16,384 bytes */
     HK_NOPAGE = 2,    /* the segment has no page of the id's number */
-    HK_LONG = 3,      /* new size above 16,364 */
+    HK_LONG = 3,      /* new size above 16,364; import: data above 16,356, which is the same */
     HK_DAMAGED = 4,   /* a page to be touched is not sound, or a redirect to be followed lacks its target pointing back */
     HK_NONE = 5,      /* the id's slot is at or past the page's slot count, or free */
     HK_FORWARDED = 6, /* write, resize or erase by the id of the place that a record was moved to, and not by its own */
@@ -72,7 +74,9 @@ enum {
     HK_STALE = 8,     /* the inventory names a page that has not the room: it is not true */
     HK_TALLY = 9,     /* fill report: a figure of the tally would pass 2^64 - 1 */
     HK_LIST = 10,     /* many rows: the lengths don't sum to the bytes, or there are fewer id places than rows */
-    HK_ROOM = 11      /* repair: the list has fewer places than there are changes */
+    HK_ROOM = 11,     /* what is to be written does not fit in the place lent for it: repair's entries, an export's file */
+    HK_MARK = 12,     /* import: a record of the file does not begin with 52 54 */
+    HK_SHORT = 13     /* import: the file ends within a record */
 };
 
 /* A new record with these bytes. Its id is written when the answer is 0, and else left as it was. */
@@ -162,6 +166,40 @@ typedef struct hk_tally {
  * followed, and whether each leads to its record is told by hk_repair with a list of no words.
  */
 uint64_t hk_fill_report(const uint8_t *segment, size_t segment_length, hk_tally *tally);
+
+/*
+ * The records of an exchange file, in its order, as new records. Such a file is any number of records end to end and nothing else, each
+ * 52 54, mirror (4 bytes), reading (2), row (2), length of the data (2), all big-endian, and then the data, 0 to 16,356 bytes. The store's
+ * record is the 8 bytes of mirror, reading and row and then the data; what they mean plays no part.
+ *
+ * The file is read through before anything is inserted. Then it equals hk_insert_records of the same records, without places for ids: it
+ * stops at the first record that is refused, and its answer is that record's; `inserted` tells how many went in, and these stay, beside what
+ * the segment had before. After 7 it can go on, lent more pages, with the part of the file that begins with the refused record.
+ *
+ * `inserted` is written on every answer. With 0 it is the number of the file's records. A file of no bytes answers 0 and changes nothing.
+ *
+ * Refusals: 1; then, for each record of the file in its turn, 13 where fewer than 12 bytes are left, 12, 3, and 13 where the data is cut
+ * off; with all these `inserted` is 0 and nothing is changed. Then the insert's own: 7, 4, 8.
+ */
+uint64_t hk_import(uint8_t *segment, size_t segment_length, uint8_t *inventory, size_t inventory_length, const uint8_t *file,
+                   size_t file_length, uint64_t *inserted);
+
+/*
+ * All readings as an exchange file: the records as a scan gives them, in its order, a forwarded record where it lies and without the id of 8
+ * bytes before it. A record under 8 bytes is no reading, and is passed over; one of 8 bytes is a reading without data. No redirect is
+ * followed.
+ *
+ * With 0 and with 11 `length` is the length of the file and `passed` the number of records that are passed over; with 1 and 4 both are 0.
+ * With 0 the first `length` bytes of `file` are written, and those behind them stay. So an export into a place of no bytes asks for the
+ * length. As much room as the segment has is enough.
+ *
+ * What is exported is never refused as a file. Imported into pages of zeros and an inventory of zeros, where all of it goes in, it gives
+ * the same readings, each as often as before; their ids and their order may differ, and as many pages as before may be too few.
+ *
+ * Refusals: 1 by the segment's size; then 4, where any page is not sound; then 11, where the file is longer than `file_room`. Nothing is
+ * written to `file` then.
+ */
+uint64_t hk_export(const uint8_t *segment, size_t segment_length, uint8_t *file, size_t file_room, uint64_t *length, uint64_t *passed);
 
 /* What the place of repair's entry is when it is not a slot. */
 enum { HK_AT_HEADER = 65535, HK_AT_INVENTORY = 65536 };
