@@ -173,8 +173,8 @@ uint64_t hk_fill_report(const uint8_t *segment, size_t segment_length, hk_tally 
  * record is the 8 bytes of mirror, reading and row and then the data; what they mean plays no part.
  *
  * The file is read through before anything is inserted. Then it equals hk_insert_records of the same records, without places for ids: it
- * stops at the first record that is refused, and its answer is that record's; `inserted` tells how many went in, and these stay, beside what
- * the segment had before. After 7 it can go on, lent more pages, with the part of the file that begins with the refused record.
+ * stops at the first record that is refused, and its answer is that record's; `inserted` tells how many went in, and these stay, beside
+ * what the segment had before. After 7 it can go on, lent more pages, with the part of the file that begins with the refused record.
  *
  * `inserted` is written on every answer. With 0 it is the number of the file's records. A file of no bytes answers 0 and changes nothing.
  *
@@ -185,8 +185,8 @@ uint64_t hk_import(uint8_t *segment, size_t segment_length, uint8_t *inventory, 
                    size_t file_length, uint64_t *inserted);
 
 /*
- * All readings as an exchange file: the records as a scan gives them, in its order, a forwarded record where it lies and without the id of 8
- * bytes before it. A record under 8 bytes is no reading, and is passed over; one of 8 bytes is a reading without data. No redirect is
+ * All readings as an exchange file: the records as a scan gives them, in its order, a forwarded record where it lies and without the id of
+ * 8 bytes before it. A record under 8 bytes is no reading, and is passed over; one of 8 bytes is a reading without data. No redirect is
  * followed.
  *
  * With 0 and with 11 `length` is the length of the file and `passed` the number of records that are passed over; with 1 and 4 both are 0.
