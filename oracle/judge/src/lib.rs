@@ -2,6 +2,10 @@
 
 pub mod cases;
 pub mod damage;
+#[path = "../../../rust/tests/exchange_examples/mod.rs"]
+pub mod exchange_examples;
+pub mod exchanges;
+pub mod files;
 pub mod fills;
 pub mod lists;
 pub mod numbers;
@@ -18,6 +22,7 @@ pub mod row_examples;
 pub mod rows;
 pub mod sequence;
 pub mod show;
+pub mod slips;
 pub mod soundness;
 pub mod trace;
 pub mod trial;

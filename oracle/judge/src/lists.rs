@@ -210,7 +210,8 @@ fn shape(random: &mut Random, n: usize) -> Shape {
     }
 }
 
-fn lengths(random: &mut Random, segment: &[u8], inventory: &[u8]) -> Vec<u64> {
+/// The lengths of rows for a store.
+pub fn lengths(random: &mut Random, segment: &[u8], inventory: &[u8]) -> Vec<u64> {
     let shape = shape(random, segment.len() / PAGE_SIZE);
     let mut left = match shape {
         Shape::Filling(_) => 2100,
