@@ -82,6 +82,23 @@ extern "C" {
         count: *mut u64,
     ) -> u64;
     fn hk_fill_report(segment: *const u8, segment_len: usize, tally: *mut Tally) -> u64;
+    fn hk_import(
+        segment: *mut u8,
+        segment_len: usize,
+        inventory: *mut u8,
+        inventory_len: usize,
+        file: *const u8,
+        file_len: usize,
+        inserted: *mut u64,
+    ) -> u64;
+    fn hk_export(
+        segment: *const u8,
+        segment_len: usize,
+        file: *mut u8,
+        file_room: usize,
+        length: *mut u64,
+        passed: *mut u64,
+    ) -> u64;
 }
 
 /// A record in the segment: where it starts, counted from the segment's first byte, and its length.
@@ -222,4 +239,30 @@ pub(crate) fn repair(segment: &mut [u8], inventory: &mut [u8], list: &mut [Touch
 /// The answer. A tally lies in memory as C's does; where the answer is 0 the segment's figures were added to it.
 pub(crate) fn fill_report(segment: &[u8], tally: &mut Tally) -> u64 {
     unsafe { hk_fill_report(segment.as_ptr(), segment.len(), tally) }
+}
+
+/// The answer, and how many records of the file went in.
+pub(crate) fn import(segment: &mut [u8], inventory: &mut [u8], file: &[u8]) -> (u64, u64) {
+    let mut inserted = 0;
+    let answer = unsafe {
+        hk_import(
+            segment.as_mut_ptr(),
+            segment.len(),
+            inventory.as_mut_ptr(),
+            inventory.len(),
+            file.as_ptr(),
+            file.len(),
+            &mut inserted,
+        )
+    };
+    (answer, inserted)
+}
+
+/// The answer; and the file's length, and how many records are passed over, where it is 0 or 11.
+pub(crate) fn export(segment: &[u8], file: &mut [u8]) -> (u64, u64, u64) {
+    let (mut length, mut passed) = (0, 0);
+    let answer = unsafe {
+        hk_export(segment.as_ptr(), segment.len(), file.as_mut_ptr(), file.len(), &mut length, &mut passed)
+    };
+    (answer, length, passed)
 }

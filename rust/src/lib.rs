@@ -40,6 +40,10 @@
 //! figures that are summed up over any number of segments in one [`Tally`]; `examples/fill_report.rs`
 //! prints them for stores in files.
 //!
+//! Readings are passed by file: [`SlottedPages::export`] writes those of a segment as an exchange file, and
+//! [`SlottedPageSegment::import`] stores the records of one; `examples/export.rs` and `examples/import.rs`
+//! do so for stores in files.
+//!
 //! After a crash, [`SlottedPageSegment::repair`] makes a store sound again, keeps what can be kept and
 //! tells what it touched; `examples/repair.rs` does so to a store in a file.
 //!
@@ -71,6 +75,7 @@
 
 #[allow(unsafe_code)]
 mod archive;
+mod exported;
 mod refusal;
 mod rid;
 mod scan;
@@ -79,6 +84,7 @@ mod stopped;
 mod tally;
 mod touched;
 
+pub use exported::Exported;
 pub use refusal::Refusal;
 pub use rid::Rid;
 pub use scan::SlottedPageScan;

@@ -5,12 +5,14 @@ use std::fmt;
 
 /// Why a call was refused, by the number and name of the store's table of answers. (Answer 0,
 /// DONE, is no refusal.) A refused call has changed nothing, but for the rows that
-/// [`SlottedPageSegment::insert_records`](crate::SlottedPageSegment::insert_records) tells to have
-/// gone in before the refused one.
+/// [`SlottedPageSegment::insert_records`](crate::SlottedPageSegment::insert_records) and
+/// [`SlottedPageSegment::import`](crate::SlottedPageSegment::import) tell to have gone in before the
+/// refused one.
 ///
 /// Where several hold, the one given is the first in this order: 1, 10, 3, 2, 4 (the id's page), 5,
-/// 6, 4 (the page it is forwarded to), 7, 4 (the new page), 8; and of a fill report 1, 4 (any page), 9.
-/// Further numbers may be added.
+/// 6, 4 (the page it is forwarded to), 7, 4 (the new page), 8; of a fill report 1, 4 (any page), 9; of
+/// an export 1, 4 (any page), 11; and of an import 1, then for each record of the file in its turn 13,
+/// 12, 3, 13, and then each insert's own. Further numbers may be added.
 #[derive(Debug, Clone, Copy, PartialEq, Eq, Hash)]
 #[non_exhaustive]
 pub enum Refusal {
@@ -18,7 +20,7 @@ pub enum Refusal {
     Size = 1,
     /// The id's page is not in the segment.
     NoPage = 2,
-    /// The new size is above 16,364.
+    /// The new size is above 16,364; of a file's record, its data above 16,356, which is the same.
     Long = 3,
     /// A page to be touched is not sound, or a forwarded record is not where it is said to be.
     Damaged = 4,
@@ -34,6 +36,13 @@ pub enum Refusal {
     Tally = 9,
     /// The lengths of many rows don't sum to their bytes, or there are fewer places for ids than rows.
     List = 10,
+    /// What is to be written does not fit in the place lent for it: of an export, the file. (A repair says it by
+    /// [`RepairRefusal::Room`](crate::RepairRefusal::Room).)
+    Room = 11,
+    /// A record of the file does not begin with 52 54.
+    Mark = 12,
+    /// The file ends within a record.
+    Short = 13,
 }
 
 impl Refusal {
@@ -49,6 +58,9 @@ impl Refusal {
         Refusal::Stale,
         Refusal::Tally,
         Refusal::List,
+        Refusal::Room,
+        Refusal::Mark,
+        Refusal::Short,
     ];
 
     /// The number in the table of answers.
@@ -69,6 +81,9 @@ impl Refusal {
             8 => Refusal::Stale,
             9 => Refusal::Tally,
             10 => Refusal::List,
+            11 => Refusal::Room,
+            12 => Refusal::Mark,
+            13 => Refusal::Short,
             _ => return None,
         })
     }
@@ -86,6 +101,9 @@ impl Refusal {
             Refusal::Stale => "STALE",
             Refusal::Tally => "TALLY",
             Refusal::List => "LIST",
+            Refusal::Room => "ROOM",
+            Refusal::Mark => "MARK",
+            Refusal::Short => "SHORT",
         }
     }
 
@@ -101,10 +119,14 @@ impl Refusal {
             Refusal::Stale => "the inventory names a page that has no room",
             Refusal::Tally => "a figure of the tally would pass 2^64 - 1",
             Refusal::List => "the lengths don't sum to the bytes, or there are fewer places for ids than rows",
+            Refusal::Room => "what is to be written does not fit in the place lent for it",
+            Refusal::Mark => "a record of the file does not begin with 52 54",
+            Refusal::Short => "the file ends within a record",
         }
     }
 
-    /// What a call's number means. The archive answers 0 to 8, 9 to a fill report, and 10 to a list of rows; that is proved.
+    /// What a call's number means. The archive answers 0 to 8, 9 to a fill report, 10 to a list of rows, 11 to an export or a
+    /// repair, and 12 and 13 to an import; that is proved.
     pub(crate) fn of_answer(number: u64) -> Result<(), Refusal> {
         if number == 0 {
             return Ok(());

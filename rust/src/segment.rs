@@ -1,7 +1,9 @@
 //! The calls.
 
 use crate::archive::{self, Place};
-use crate::{Refusal, RepairRefusal, Rid, SlottedPageScan, Stopped, Tally, Touched, MAX_RECORD_SIZE, PAGE_SIZE};
+use crate::{
+    Exported, Refusal, RepairRefusal, Rid, SlottedPageScan, Stopped, Tally, Touched, MAX_RECORD_SIZE, PAGE_SIZE,
+};
 use std::fmt;
 
 /// The part of the segment that is a record.
@@ -85,6 +87,58 @@ impl<'a> SlottedPages<'a> {
     /// ```
     pub fn fill_report(&self, tally: &mut Tally) -> Result<(), Refusal> {
         Refusal::of_answer(archive::fill_report(self.segment, tally))
+    }
+
+    /// Writes all readings as an exchange file to the first bytes of `file`, and tells its length and how many records it
+    /// passed over. Bytes behind the file stay as they were. Nothing is allocated.
+    ///
+    /// A reading is a record of 8 bytes or more: mirror (4 bytes), reading (2) and row (2), and then its data. In the file
+    /// each is 52 54, these 8 bytes, the length of the data (2), all numbers big-endian, and the data. They come as in a
+    /// [`scan`](SlottedPages::scan), a forwarded one where it lies. A record of fewer than 8 bytes is no reading.
+    /// [`SlottedPageSegment::import`] takes such a file; into empty pages, where all of it goes in, it puts the same readings,
+    /// each as often as before, though their ids and order may differ.
+    ///
+    /// A segment of a wrong size is refused by [`Refusal::Size`], then one with a damaged page by [`Refusal::Damaged`], and
+    /// then a file longer than the place by [`Refusal::Room`]; nothing is written then. A place as long as the segment
+    /// always suffices, and [`exported`](SlottedPages::exported) tells how long it has to be.
+    ///
+    /// ```
+    /// use hekatosuy::{Exported, Refusal, SlottedPageSegment, PAGE_SIZE};
+    ///
+    /// let (mut pages, mut inventory) = (vec![0; PAGE_SIZE], vec![0; PAGE_SIZE]);
+    /// let mut segment = SlottedPageSegment::new(&mut pages, &mut inventory);
+    /// segment.insert_record(&[0, 0, 0, 7, 0, 1, 0, 2, 0xAA, 0xBB, 0xCC])?; // mirror 7, reading 1, row 2
+    /// segment.insert_record(b"a note")?; // no reading
+    ///
+    /// let mut place = [0xEE; 17];
+    /// let told = segment.pages().export(&mut place)?;
+    /// assert_eq!(told, Exported { length: 15, passed: 1 });
+    /// assert_eq!(place[..told.length], [0x52, 0x54, 0, 0, 0, 7, 0, 1, 0, 2, 0, 3, 0xAA, 0xBB, 0xCC]);
+    /// assert_eq!(place[told.length..], [0xEE, 0xEE]);
+    /// assert_eq!(segment.pages().export(&mut place[..14]), Err(Refusal::Room));
+    /// # Ok::<(), Refusal>(())
+    /// ```
+    pub fn export(&self, file: &mut [u8]) -> Result<Exported, Refusal> {
+        Exported::of_answer(archive::export(self.segment, file))
+    }
+
+    /// What an [`export`](SlottedPages::export) will tell, without writing it: how long a place it needs, and how many records
+    /// it passes over.
+    ///
+    /// ```
+    /// # use hekatosuy::{SlottedPageSegment, PAGE_SIZE};
+    /// # let (mut pages, mut inventory) = (vec![0; PAGE_SIZE], vec![0; PAGE_SIZE]);
+    /// # let mut segment = SlottedPageSegment::new(&mut pages, &mut inventory);
+    /// # segment.insert_record(&[7; 1_000])?;
+    /// let mut file = vec![0; segment.pages().exported()?.length];
+    /// segment.pages().export(&mut file)?;
+    /// # assert_eq!(file.len(), 1_004);
+    /// # Ok::<(), hekatosuy::Refusal>(())
+    /// ```
+    pub fn exported(&self) -> Result<Exported, Refusal> {
+        // no room: the answer is 0 where the file has no bytes, else 11, and both tell its length
+        let (answer, length, passed) = archive::export(self.segment, &mut []);
+        Exported::of_answer((if answer == Refusal::Room.number() { 0 } else { answer }, length, passed))
     }
 }
 
@@ -190,7 +244,45 @@ impl<'a> SlottedPageSegment<'a> {
     /// # Ok::<(), Box<dyn std::error::Error>>(())
     /// ```
     pub fn insert_records(&mut self, rows: &[u8], lengths: &[u64], ids: &mut [Rid]) -> Result<(), Stopped> {
-        Stopped::of_answer(archive::insert_records(self.segment, self.inventory, rows, lengths, ids))
+        Stopped::of_answer(archive::insert_records(self.segment, self.inventory, rows, lengths, ids)).map(|_| ())
+    }
+
+    /// Stores the records of an exchange file, in the file's order, and gives how many there are. The records that the
+    /// segment has already stay as they are. Nothing is allocated.
+    ///
+    /// A file is any number of records end to end: 52 54, mirror (4 bytes), reading (2), row (2), the length of the data (2),
+    /// all numbers big-endian, and then the data, of at most 16,356 bytes. The store's record is the 8 bytes of mirror, reading
+    /// and row, and then the data. [`SlottedPages::export`] writes such a file.
+    ///
+    /// The file is read through before anything is stored. Wrong sizes are refused by [`Refusal::Size`]; then, record by
+    /// record, fewer than 12 bytes by [`Refusal::Short`], another mark by [`Refusal::Mark`], a length above 16,356 by
+    /// [`Refusal::Long`], and data that is cut off by [`Refusal::Short`]; nothing has changed then. After that this equals
+    /// [`insert_records`](SlottedPageSegment::insert_records) with the same records: it stops at the first that is refused, and
+    /// [`Stopped`] tells how many went in, which stay. A file of no bytes does nothing, and is not refused.
+    ///
+    /// ```
+    /// use hekatosuy::{Refusal, Rid, SlottedPageSegment, Stopped, PAGE_SIZE};
+    ///
+    /// let (mut pages, mut inventory) = (vec![0; PAGE_SIZE], vec![0; PAGE_SIZE]);
+    /// let mut segment = SlottedPageSegment::new(&mut pages, &mut inventory);
+    ///
+    /// // Mirror 7, reading 1: row 2 with three bytes, row 3 without data.
+    /// let file = [
+    ///     0x52, 0x54, 0, 0, 0, 7, 0, 1, 0, 2, 0, 3, 0xAA, 0xBB, 0xCC, //
+    ///     0x52, 0x54, 0, 0, 0, 7, 0, 1, 0, 3, 0, 0,
+    /// ];
+    /// assert_eq!(segment.import(&file)?, 2);
+    /// assert_eq!(segment.get_record(Rid::new(0, 0))?, [0, 0, 0, 7, 0, 1, 0, 2, 0xAA, 0xBB, 0xCC]);
+    ///
+    /// // A file that is cut off is not stored in part.
+    /// let stopped = segment.import(&file[..26]).unwrap_err();
+    /// assert_eq!(stopped, Stopped { rows: 0, refusal: Refusal::Short });
+    /// assert_eq!(stopped.to_string(), "no row went in: 13 SHORT: the file ends within a record");
+    /// assert_eq!(segment.scan().count(), 2);
+    /// # Ok::<(), Box<dyn std::error::Error>>(())
+    /// ```
+    pub fn import(&mut self, file: &[u8]) -> Result<u64, Stopped> {
+        Stopped::of_answer(archive::import(self.segment, self.inventory, file))
     }
 
     /// Stores a record of `size` zeros.

@@ -1,23 +1,25 @@
-//! Where many rows in one call came to a stop.
+//! Where many rows in one call, or the records of a file, came to a stop.
 
 use crate::Refusal;
 use std::error::Error;
 use std::fmt;
 
-/// Where [`SlottedPageSegment::insert_records`](crate::SlottedPageSegment::insert_records) came to a stop, and why. The
-/// rows before are stored and stay; nothing else has changed.
+/// Where [`SlottedPageSegment::insert_records`](crate::SlottedPageSegment::insert_records) or
+/// [`SlottedPageSegment::import`](crate::SlottedPageSegment::import) came to a stop, and why. The rows before, or the file's
+/// records before, are stored and stay; nothing else has changed.
 #[derive(Debug, Clone, Copy, PartialEq, Eq, Hash)]
 pub struct Stopped {
-    /// How many rows went in, which is also the place in the list of the one that was refused.
+    /// How many rows went in, which is also the place in the list, or in the file, of the one that was refused.
     pub rows: usize,
-    /// Why that row was refused; or the whole list, by [`Refusal::Size`] or [`Refusal::List`], and then no row went in.
+    /// Why that row was refused; or the whole list, by [`Refusal::Size`] or [`Refusal::List`], or the whole file, by
+    /// [`Refusal::Size`], [`Refusal::Short`], [`Refusal::Mark`] or [`Refusal::Long`], and then no row went in.
     pub refusal: Refusal,
 }
 
 impl Stopped {
     /// What answer and rows told mean.
-    pub(crate) fn of_answer((number, rows): (u64, u64)) -> Result<(), Stopped> {
-        Refusal::of_answer(number).map_err(|refusal| Stopped { rows: rows as usize, refusal })
+    pub(crate) fn of_answer((number, rows): (u64, u64)) -> Result<u64, Stopped> {
+        Refusal::of_answer(number).map(|()| rows).map_err(|refusal| Stopped { rows: rows as usize, refusal })
     }
 }
 
@@ -25,7 +27,9 @@ impl Stopped {
 impl fmt::Display for Stopped {
     fn fmt(&self, out: &mut fmt::Formatter<'_>) -> fmt::Result {
         match (self.rows, self.refusal) {
-            (_, Refusal::Size | Refusal::List) => write!(out, "no row went in")?,
+            (_, Refusal::Size | Refusal::List | Refusal::Short | Refusal::Mark) => write!(out, "no row went in")?,
+            // of a list the first row, of a file any record
+            (0, Refusal::Long) => write!(out, "no row went in")?,
             (0, _) => write!(out, "no row went in, the first was refused")?,
             (1, _) => write!(out, "1 row went in, the next was refused")?,
             (rows, _) => write!(out, "{rows} rows went in, the next was refused")?,

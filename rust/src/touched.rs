@@ -141,7 +141,7 @@ impl RepairRefusal {
     pub const fn number(self) -> u64 {
         match self {
             RepairRefusal::Size => Refusal::Size.number(),
-            RepairRefusal::Room { .. } => 11,
+            RepairRefusal::Room { .. } => Refusal::Room.number(),
         }
     }
 
@@ -149,7 +149,7 @@ impl RepairRefusal {
     pub const fn name(self) -> &'static str {
         match self {
             RepairRefusal::Size => Refusal::Size.name(),
-            RepairRefusal::Room { .. } => "ROOM",
+            RepairRefusal::Room { .. } => Refusal::Room.name(),
         }
     }
 

@@ -1,6 +1,7 @@
-//! Many rows in one call take no memory, neither where all go in nor where the call stops; and a fill report takes none.
+//! Many rows in one call take no memory, neither where all go in nor where the call stops; a fill report takes none, and neither do an import
+//! and an export.
 
-use hekatosuy::{Refusal, Rid, SlottedPageSegment, Stopped, Tally, PAGE_SIZE};
+use hekatosuy::{Exported, Refusal, Rid, SlottedPageSegment, Stopped, Tally, PAGE_SIZE};
 use std::alloc::{GlobalAlloc, Layout, System};
 use std::cell::Cell;
 
@@ -52,4 +53,22 @@ fn a_fill_report_takes_no_memory() {
     assert_eq!(taken(|| assert_eq!(segment.fill_report(&mut tally), Ok(()))), 0);
     tally.records = u64::MAX;
     assert_eq!(taken(|| assert_eq!(segment.fill_report(&mut tally), Err(Refusal::Tally))), 0);
+}
+
+#[test]
+fn import_and_export_take_no_memory() {
+    let (mut pages, mut inventory) = (vec![0; 2 * PAGE_SIZE], vec![0; PAGE_SIZE]);
+    let mut segment = SlottedPageSegment::new(&mut pages, &mut inventory);
+    let reading = [&[0x52, 0x54, 0, 0, 0, 7, 0, 1, 0, 2, 0, 56][..], &[7; 56]].concat();
+    let (file, mut place) = (reading.repeat(300), vec![0; 2 * PAGE_SIZE]);
+    assert_eq!(taken(|| assert_eq!(segment.import(&file), Ok(300))), 0);
+    let full = Err(Stopped { rows: 134, refusal: Refusal::Full });
+    assert_eq!(taken(|| assert_eq!(segment.import(&file), full)), 0);
+    let short = Err(Stopped { rows: 0, refusal: Refusal::Short });
+    assert_eq!(taken(|| assert_eq!(segment.import(&file[1..]).map_err(|stopped| stopped.rows), Err(0))), 0);
+    assert_eq!(taken(|| assert_eq!(segment.import(&file[..file.len() - 1]), short)), 0);
+    let whole = Exported { length: 434 * 68, passed: 0 };
+    assert_eq!(taken(|| assert_eq!(segment.pages().exported(), Ok(whole))), 0);
+    assert_eq!(taken(|| assert_eq!(segment.pages().export(&mut place), Ok(whole))), 0);
+    assert_eq!(taken(|| assert_eq!(segment.pages().export(&mut place[..99]), Err(Refusal::Room))), 0);
 }

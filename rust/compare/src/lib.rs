@@ -1,6 +1,7 @@
 //! The crate `hekatosuy` as a store that the judge can compare.
 
 use hekatosuy::{Refusal, Rid, SlottedPageSegment, SlottedPages};
+use judge::exchanges::Exchange;
 use std::ops::Range;
 use std::{env, thread};
 use store::{Answer, Found, Store, DONE};
@@ -29,6 +30,23 @@ extern "C" {
         count: *mut u64,
     ) -> u64;
     fn hk_fill_report(segment: *const u8, segment_len: usize, tally: *mut u64) -> u64;
+    fn hk_import(
+        segment: *mut u8,
+        segment_len: usize,
+        inventory: *mut u8,
+        inventory_len: usize,
+        file: *const u8,
+        file_len: usize,
+        inserted: *mut u64,
+    ) -> u64;
+    fn hk_export(
+        segment: *const u8,
+        segment_len: usize,
+        file: *mut u8,
+        file_room: usize,
+        length: *mut u64,
+        passed: *mut u64,
+    ) -> u64;
 }
 
 /// Answer and rows told of an insert of many rows, which stand end to end, into any bytes.
@@ -63,6 +81,52 @@ pub fn fill_report(segment: &[u8], tally: &mut [u64; 23]) -> u64 {
     assert_eq!((words[0], words[24]), (KEPT, KEPT), "a word beside the tally is written");
     tally.copy_from_slice(&words[1..24]);
     answer
+}
+
+/// Answer and records told of an import into any bytes.
+pub fn import(segment: &mut [u8], inventory: &mut [u8], file: &[u8]) -> (u64, u64) {
+    let mut inserted = u64::MAX;
+    let answer = unsafe {
+        hk_import(
+            segment.as_mut_ptr(),
+            segment.len(),
+            inventory.as_mut_ptr(),
+            inventory.len(),
+            file.as_ptr(),
+            file.len(),
+            &mut inserted,
+        )
+    };
+    (answer, inserted)
+}
+
+/// What stands before and behind an export's place.
+const BESIDE: [u8; 8] = [0x77; 8];
+
+/// Answer, length and records passed over of an export of any bytes. The bytes beside the place must stay.
+pub fn export(segment: &[u8], place: &mut [u8]) -> (u64, u64, u64) {
+    let (mut length, mut passed) = (u64::MAX, u64::MAX);
+    let mut bytes = [&BESIDE[..], place, &BESIDE].concat();
+    let lent = &mut bytes[8..8 + place.len()];
+    let answer = unsafe {
+        hk_export(segment.as_ptr(), segment.len(), lent.as_mut_ptr(), lent.len(), &mut length, &mut passed)
+    };
+    place.copy_from_slice(lent);
+    assert!(bytes[..8] == BESIDE && bytes[8 + place.len()..] == BESIDE, "a byte beside the place is written");
+    (answer, length, passed)
+}
+
+/// The archive's import and export, as the judge takes them.
+pub struct Archive;
+
+impl Exchange for Archive {
+    fn import(&self, segment: &mut [u8], inventory: &mut [u8], file: &[u8]) -> (u64, u64) {
+        import(segment, inventory, file)
+    }
+
+    fn export(&self, segment: &[u8], place: &mut [u8]) -> (u64, u64, u64) {
+        export(segment, place)
+    }
 }
 
 /// So many seeds from `first` on: as the environment's variable says, else the usual number.
