@@ -126,6 +126,11 @@ mod ours {
         fn lend(&mut self) -> SlottedPageSegment<'_> {
             SlottedPageSegment::new(&mut self.segment, &mut self.inventory)
         }
+
+        /// Whether all records of an exchange file went in.
+        pub fn import(&mut self, file: &[u8]) -> bool {
+            self.lend().import(file).is_ok()
+        }
     }
 
     impl Held for Ours {

@@ -36,7 +36,7 @@ fn depth(call: &mut dyn FnMut() -> bool) -> usize {
     top + MARGIN - lowest.unwrap_or(top)
 }
 
-const CALLS: [&str; 10] = [
+const CALLS: [&str; 12] = [
     "insert_record",
     "allocate",
     "get_record",
@@ -47,6 +47,8 @@ const CALLS: [&str; 10] = [
     "repair",
     "insert_records",
     "fill_report",
+    "import",
+    "export",
 ];
 
 struct Lent {
@@ -95,6 +97,21 @@ impl Lent {
         depth(&mut || calls.insert_records(&rows, &[length, 0, length], &mut ids).is_ok())
     }
 
+    /// An import of the same three, on a copy, of which a file has no record under 8 bytes.
+    fn import(&self, record: &[u8]) -> usize {
+        let (mut segment, mut inventory) = (self.segment.clone(), self.inventory.clone());
+        let row: Vec<u8> = record.iter().copied().chain([0; 8]).take(record.len().clamp(8, 16364)).collect();
+        let file = model::exchange::file_of(&[&row, &[0; 8], &row]);
+        let mut calls = SlottedPageSegment::new(&mut segment, &mut inventory);
+        depth(&mut || calls.import(&file).is_ok())
+    }
+
+    /// An export of all, into as much room as is enough.
+    fn export(&self) -> usize {
+        let mut place = vec![0; self.segment.len()];
+        depth(&mut || SlottedPages::new(&self.segment).export(&mut place).is_ok())
+    }
+
     fn fill_report(&self) -> usize {
         let mut tally = Tally::default();
         depth(&mut || SlottedPages::new(&self.segment).fill_report(&mut tally).is_ok())
@@ -116,17 +133,20 @@ fn run(seed: u64, most: &mut [usize; CALLS.len()]) {
             Event::Call(call) => {
                 if let Call::Insert { length, seed } = call {
                     most[8] = most[8].max(lent.insert_records(&record(length, seed)));
+                    most[10] = most[10].max(lent.import(&record(length, seed)));
                 }
                 let (kind, depth) = lent.call(call);
                 most[kind] = most[kind].max(depth);
                 if call == Call::Scan {
                     most[9] = most[9].max(lent.fill_report());
+                    most[11] = most[11].max(lent.export());
                 }
             }
             Event::Pokes(pokes) => {
                 pokes.iter().for_each(|poke| poke.apply(&mut lent.segment, &mut lent.inventory));
                 most[7] = most[7].max(lent.repair());
                 most[9] = most[9].max(lent.fill_report());
+                most[11] = most[11].max(lent.export());
             }
         }
     }
