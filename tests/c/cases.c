@@ -1,5 +1,6 @@
 /*
- * The calls from C: document 01's cases of the segment, refusals of each kind, the scan, many rows in one call, the fill report, repair.
+ * The calls from C: document 01's cases of the segment, refusals of each kind, the scan, many rows in one call, the fill report, the
+ * exchange file, repair.
  * Prints one line a case, and what differs.
  */
 #include "hekatosuy.h"
@@ -525,6 +526,168 @@ static void report_refused(void) {
     end("fill report: a damaged page, and sizes");
 }
 
+/* Mirror 7, reading 1: row 2 of three bytes, and row 3 of none; the records of both in the store. */
+static const uint8_t file_a[] = {0x52, 0x54, 0, 0, 0, 7, 0, 1, 0, 2, 0, 3, 0xAA, 0xBB, 0xCC};
+static const uint8_t file_b[] = {0x52, 0x54, 0, 0, 0, 7, 0, 1, 0, 3, 0, 0};
+static const uint8_t stored_a[] = {0, 0, 0, 7, 0, 1, 0, 2, 0xAA, 0xBB, 0xCC};
+static const uint8_t stored_b[] = {0, 0, 0, 7, 0, 1, 0, 3};
+
+enum { FILE_BYTES = 2 * PAGE };
+
+static uint8_t file[FILE_BYTES];
+static size_t file_length;
+
+/* More bytes of the file to be imported. */
+static void add_to_file(const uint8_t *bytes, size_t length) {
+    memcpy(file + file_length, bytes, length);
+    file_length += length;
+}
+
+/* Row 3 with so many bytes of data, all alike, of which so many are there. */
+static void add_row_3(size_t length, size_t there) {
+    add_to_file(file_b, 10);
+    file[file_length++] = (uint8_t)(length >> 8);
+    file[file_length++] = (uint8_t)length;
+    memset(file + file_length, 0xDD, there);
+    file_length += there;
+}
+
+/* Imports the file, and inserts the records told one at a time in a copy: the same segment and inventory. */
+static void import(size_t inventory_length, uint64_t answer, uint64_t told) {
+    uint64_t inserted = 77, id = 77;
+    size_t at = 0;
+    keep_old();
+    expect("import", hk_import(segment, segment_length, inventory, inventory_length, file, file_length, &inserted), answer);
+    expect("records inserted", inserted, told);
+    for (uint64_t k = 0; k < told; k++) {
+        size_t data = (size_t)file[at + 10] << 8 | file[at + 11];
+        memcpy(record, file + at + 2, 8);
+        memcpy(record + 8, file + at + 12, data);
+        expect("one record", hk_insert_record(old_segment, segment_length, old_inventory, PAGE, record, 8 + data, &id), HK_DONE);
+        at += 12 + data;
+    }
+    expect("another segment", memcmp(old_segment, segment, sizeof segment) != 0, 0);
+    expect("another inventory", memcmp(old_inventory, inventory, sizeof inventory) != 0, 0);
+    file_length = 0;
+}
+
+/* A's record alone, by every byte of the page. */
+static void page_of_a(void) {
+    static uint8_t page[PAGE];
+    const uint8_t first[] = {0, 1, 0, 1, 0, 0, 0x3F, 0xF5, 0, 0, 0x3F, 0xE1, 0, 0, 0x3F, 0xF5, 0, 0, 0, 0x0B};
+    memcpy(page, first, sizeof first);
+    memcpy(page + PAGE - sizeof stored_a, stored_a, sizeof stored_a);
+    expect("the page differs", memcmp(segment, page, PAGE) != 0, 0);
+}
+
+static void imported(void) {
+    begin(1);
+    add_to_file(file_a, sizeof file_a);
+    import(PAGE, HK_DONE, 1);
+    page_of_a();
+    import(PAGE, HK_DONE, 0);
+    begin(1);
+    add_row_3(16356, 16356);
+    import(PAGE, HK_DONE, 1);
+    header(0, 1, 1, 20, 0);
+    begin(1);
+    add_to_file(file_a, sizeof file_a);
+    add_row_3(12263, 12263);
+    add_to_file(file_a, sizeof file_a);
+    import(PAGE, HK_FULL, 1);
+    page_of_a();
+    end("import: three bytes, none, the most, and up to the first refusal");
+}
+
+static void import_refused(void) {
+    begin(1);
+    add_to_file(file_a, sizeof file_a);
+    add_to_file(file_b, 11);
+    import(PAGE, HK_SHORT, 0);
+    add_to_file(file_b, 11);
+    file[1] = 0x53;
+    import(PAGE, HK_SHORT, 0);
+    add_row_3(65535, 0);
+    file[1] = 0x53;
+    import(PAGE, HK_MARK, 0);
+    add_row_3(16357, 0);
+    import(PAGE, HK_LONG, 0);
+    add_row_3(16356, 16355);
+    import(PAGE, HK_SHORT, 0);
+    add_to_file(file_a, sizeof file_a);
+    import(PAGE - 1, HK_SIZE, 0);
+    segment_length--;
+    add_to_file(file_a, 1);
+    import(PAGE, HK_SIZE, 0);
+    end("import: files that are none, and sizes");
+}
+
+/* Exports into so much room, whose bytes are EE: the first of them become these, and the others stay. */
+static void export(size_t room, uint64_t answer, uint64_t length, uint64_t passed, const uint8_t *wanted, size_t wanted_length) {
+    static uint8_t place[8 + FILE_BYTES + 8];
+    uint64_t told_length = 77, told_passed = 77;
+    keep_old();
+    memset(place, 0xEE, sizeof place);
+    expect("export", hk_export(segment, segment_length, place + 8, room, &told_length, &told_passed), answer);
+    expect("export's length", told_length, length);
+    expect("records passed over", told_passed, passed);
+    expect("the file differs", memcmp(place + 8, wanted, wanted_length) != 0, 0);
+    for (size_t k = 0; k < 8; k++) expect("a byte before the file", place[k], 0xEE);
+    for (size_t k = 8 + wanted_length; k < sizeof place; k++) expect("a byte behind the file", place[k], 0xEE);
+    expect("an export changed the segment", memcmp(old_segment, segment, sizeof segment) != 0, 0);
+}
+
+static void exported(void) {
+    const uint8_t seven[7] = {7, 7, 7, 7, 7, 7, 7};
+    uint64_t id;
+    begin(2);
+    expect("A", hk_insert_record(segment, segment_length, inventory, PAGE, stored_a, sizeof stored_a, &id), HK_DONE);
+    expect("seven bytes", hk_insert_record(segment, segment_length, inventory, PAGE, seven, sizeof seven, &id), HK_DONE);
+    expect("B", hk_insert_record(segment, segment_length, inventory, PAGE, stored_b, sizeof stored_b, &id), HK_DONE);
+    add_to_file(file_a, sizeof file_a);
+    add_to_file(file_b, sizeof file_b);
+    export(30, HK_DONE, 27, 1, file, 27);
+    export(27, HK_DONE, 27, 1, file, 27);
+    export(26, HK_ROOM, 27, 1, file, 0);
+    export(0, HK_ROOM, 27, 1, file, 0);
+    file_length = 0;
+    begin(2);
+    export(3, HK_DONE, 0, 0, file, 0);
+    segment[PAGE + 1] = 1;
+    export(0, HK_DAMAGED, 0, 0, file, 0);
+    export(30, HK_DAMAGED, 0, 0, file, 0);
+    segment_length--;
+    export(0, HK_SIZE, 0, 0, file, 0);
+    end("export: two readings and a record that is none, too little room, a damaged page, and sizes");
+}
+
+/* A record that was moved comes where it lies, and without its id; into one page less the file does not go. */
+static void exported_forwarded(void) {
+    static uint8_t large[PAGES * PAGE];
+    const uint8_t last[] = {0x52, 0x54, 0x22, 0x22, 0x22, 0x22, 0x22, 0x22, 0x22, 0x22, 0x13, 0x80};
+    const size_t lengths[] = {16000, 100, 12000};
+    uint64_t id, length, passed;
+    begin(3);
+    memset(record, 0x11, sizeof record);
+    for (size_t k = 0; k < 3; k++)
+        expect("insert", hk_insert_record(segment, segment_length, inventory, PAGE, record, lengths[k], &id), HK_DONE);
+    memset(record, 0x22, 5000);
+    expect("write", hk_write_record(segment, segment_length, inventory, PAGE, id_of(1, 0), record, 5000), HK_DONE);
+    expect("export", hk_export(segment, segment_length, large, 33012, &length, &passed), HK_DONE);
+    expect("export's length", length, 33012);
+    expect("records passed over", passed, 0);
+    expect("the last record differs", memcmp(large + 28008, last, sizeof last) != 0, 0);
+    expect("its last byte", large[33011], 0x22);
+    expect("the byte behind", large[33012], 0);
+    begin(3);
+    expect("import", hk_import(segment, 2 * PAGE, inventory, PAGE, large, 33012, &id), HK_FULL);
+    expect("records inserted", id, 2);
+    begin(3);
+    expect("import", hk_import(segment, segment_length, inventory, PAGE, large, 33012, &id), HK_DONE);
+    expect("records inserted", id, 3);
+    end("export: a forwarded record, and the file imported");
+}
+
 enum { WORDS = 3 * (2047 * PAGES + 1) };
 
 static uint64_t entries[WORDS];
@@ -629,7 +792,7 @@ static void repair_refused(void) {
 static void widest(void) {
     size_t whole = (size_t)HK_MAX_PAGES * PAGE;
     uint8_t *pages = calloc(HK_MAX_PAGES + 1, PAGE);
-    uint64_t id = 77;
+    uint64_t id = 77, passed = 77;
     begin(0);
     if (pages == NULL) {
         puts("the most pages: left out, no memory");
@@ -644,6 +807,16 @@ static void widest(void) {
     report(pages, whole, all_figures(0), HK_DONE,
            with_class(with_class(figures(HK_MAX_PAGES, HK_MAX_PAGES - 1, 1, 1, 3, 0, 16361), 0, HK_MAX_PAGES - 1), 2, 1));
     report(pages, whole + PAGE, all_figures(7), HK_SIZE, all_figures(7));
+    expect("one page too many", hk_import(pages, whole + PAGE, inventory, PAGE, file_b, sizeof file_b, &id), HK_SIZE);
+    expect("no record", id, 0);
+    expect("the most pages, imported into", hk_import(pages, whole, inventory, PAGE, file_b, sizeof file_b, &id), HK_DONE);
+    expect("one record", id, 1);
+    expect("one page too many", hk_export(pages, whole + PAGE, record, PAGE, &id, &passed), HK_SIZE);
+    expect("no file", id + passed, 0);
+    expect("the most pages, exported", hk_export(pages, whole, record, PAGE, &id, &passed), HK_DONE);
+    expect("the file's length", id, sizeof file_b);
+    expect("the file differs", memcmp(record, file_b, sizeof file_b) != 0, 0);
+    expect("three bytes passed over", passed, 1);
     expect("the most pages, checked", hk_repair(pages, whole, inventory, PAGE, entries, 0, &id), HK_DONE);
     pages[whole - PAGE] = 0xFF;
     expect("the last page damaged", hk_repair(pages, whole, inventory, PAGE, entries, WORDS, &id), HK_DONE);
@@ -687,6 +860,10 @@ int main(void) {
     report_of_no_records();
     report_of_fresh();
     report_refused();
+    imported();
+    import_refused();
+    exported();
+    exported_forwarded();
     overlapped();
     lost_pages();
     back_id_changed();
