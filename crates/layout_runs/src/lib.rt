@@ -39,7 +39,7 @@ fn copy_block(page: &mut [u8], at: usize, src: &[u8])
     copy_run(page, at, &block);
 }
 
-// All of src from `at` on: block by block, and then its last block, of which some bytes may stand there already.
+// All of src from `at` on: its first block, those that follow, and its last one, of which some bytes may stand there already.
 pub fn copy_in(page: &mut [u8], at: usize, src: &[u8])
     requires { ⌜ at + length (now src) ≤ length (now page) ⌝ }
     ensures { λ _. ⌜ now (page .exit) ≡ put (now (page .entry)) at (now (src .entry)) ⌝ }
@@ -50,7 +50,8 @@ pub fn copy_in(page: &mut [u8], at: usize, src: &[u8])
         return;
     }
     let last = n - BLOCK;
-    let mut k = 0;
+    copy_block(page, at, &src[..BLOCK]);
+    let mut k = BLOCK;
     while k < last {
         copy_block(page, at + k, &src[k..k + BLOCK]);
         k += BLOCK;
