@@ -2,10 +2,11 @@
 use Prim.Native.Nat.{ℕ, _+_, _-_, _≤_}
 use mathlib.Core.Path.{_≡_, sym, ap, _∙_}
 use mathlib.Core.List.{List, _++_, append-nil}
+use mathlib.Core.Logic.{_⊎_, inl, inr}
 use native.Mathlib.Omega.{arith}
 use lib.ListN.{length, take, drop}
-use lib.Seq.{take-length, drop-length, take-add, length-take-le}
-use Rattle.store.specs.Numbers.{cut, put}
+use lib.Seq.{take-length, drop-length, take-add, take-all, length-take-le}
+use Rattle.store.specs.Numbers.{cut, put, zeros, fit}
 use Rattle.store.specs.Laws.Numbers.{put-over}
 use Rattle.store.specs.Laws.Writes.{write-append, length-cut}
 
@@ -32,3 +33,12 @@ part-last p s at k l h m =
     ∙ put-over (put p at (take l s)) (at + l) (cut s l (k - l)) (cut s l (length s - l)) (omega arith)
     ∙ part-next p s at l (length s) (omega arith) (omega arith)
     ∙ rw take-length
+
+-- bytes at another size: the first m of them, and zeros behind, where m is the lesser of the two lengths
+pub fit-parts : (n : ℕ) (s : List ℕ) (m : ℕ) → m ≤ n → m ≤ length s → (m ≡ n) ⊎ (m ≡ length s) → fit n s ≡ take m s ++ zeros (n - m)
+fit-parts n s m a b (inl e) =
+    let z : n - length s ≡ n - m = omega arith in
+    λ i. take (sym e i) s ++ zeros (z i)
+fit-parts n s m a b (inr e) =
+    let z : n - length s ≡ n - m = omega arith in
+    (λ i. take-all n s (omega arith) i ++ zeros (z i)) ∙ ap (λ (q : List ℕ). q ++ zeros (n - m)) (sym (take-all m s (omega arith)))

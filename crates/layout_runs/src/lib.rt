@@ -1,5 +1,6 @@
 // Runs of bytes: copied in, saved, moved within a page, cleared.
 ghost use mathlib.Core.Path.{_≡_};
+ghost use mathlib.Core.Logic.{_⊎_};
 ghost use Prim.Native.Nat.{_+_, _≤_};
 ghost use lib.ListN.{length};
 ghost use Rattle.store.specs.Numbers.{cut, put, zeros, fit};
@@ -68,18 +69,23 @@ pub fn save(page: &[u8], at: usize, n: usize, to: &mut [u8])
     copy_in(to, 0, &page[at..e]);
 }
 
+fn lesser(a: usize, b: usize) -> usize
+    ensures { λ r. ⌜ (r ≤ a) × (r ≤ b) × ((r ≡ a) ⊎ (r ≡ b)) ⌝ }
+{
+    if a < b {
+        return a;
+    }
+    b
+}
+
 // src from `at` on, cut off or filled up with zeros to `size` bytes.
 pub fn fit_in(page: &mut [u8], at: usize, src: &[u8], size: usize)
     requires { ⌜ at + size ≤ length (now page) ⌝ }
     ensures { λ _. ⌜ now (page .exit) ≡ put (now (page .entry)) at (fit size (now (src .entry))) ⌝ }
 {
-    let n = src.len();
-    if size < n {
-        copy_in(page, at, &src[..size]);
-    } else {
-        copy_in(page, at, src);
-        zero_fill(page, at + n, size - n);
-    }
+    let n = lesser(size, src.len());
+    copy_in(page, at, &src[..n]);
+    zero_fill(page, at + n, size - n);
 }
 
 // The n bytes at `from` to `to`, which is not above it: the lowest byte first.
