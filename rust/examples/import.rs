@@ -19,7 +19,7 @@ fn behind(file: &[u8], records: usize) -> &[u8] {
 }
 
 /// Puts the readings in; where no page has room, with one page more, from the refused one on. How many there are.
-fn import(store: &mut Vec<u8>, mut file: &[u8]) -> Result<u64, Stopped> {
+fn import(store: &mut Vec<u8>, mut file: &[u8]) -> Result<u64, Refusal> {
     let (mut stored, mut grown) = (0, false);
     loop {
         let (inventory, segment) = store.split_at_mut(PAGE_SIZE);
@@ -32,7 +32,7 @@ fn import(store: &mut Vec<u8>, mut file: &[u8]) -> Result<u64, Stopped> {
                 store.resize(store.len() + PAGE_SIZE, 0);
                 grown = true;
             }
-            Err(Stopped { rows, refusal }) => return Err(Stopped { rows: stored as usize + rows, refusal }),
+            Err(stopped) => return Err(stopped.refusal),
         }
     }
 }

@@ -9,7 +9,7 @@ use std::fmt;
 /// records before, are stored and stay; nothing else has changed.
 #[derive(Debug, Clone, Copy, PartialEq, Eq, Hash)]
 pub struct Stopped {
-    /// How many rows went in, which is also the place in the list, or in the file, of the one that was refused.
+    /// How many rows went in; where a row was refused, also its place in the list or in the file.
     pub rows: usize,
     /// Why that row was refused; or the whole list, by [`Refusal::Size`] or [`Refusal::List`], or the whole file, by
     /// [`Refusal::Size`], [`Refusal::Short`], [`Refusal::Mark`] or [`Refusal::Long`], and then no row went in.

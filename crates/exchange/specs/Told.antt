@@ -31,7 +31,7 @@ importedRecords (import.Stopped n a) = n
 abbrev pub imported : Imported → List ℕ → List ℕ → Import
 imported r s v = record { answer = importedNo r; inserted = importedRecords r; seg = s; inv = v }
 
--- where it stopped, it is by a refusal of the insert's own: 4, 7 or 8
+-- where it stopped, it is by a refusal of the insert's own: above 3, which is the file's
 abbrev pub ByInsert : Imported → Type 0
 ByInsert (import.Done n) = Unit {0}
 ByInsert import.Size = Unit {0}

@@ -113,7 +113,7 @@ pub record PageSums (v : View) (r : Sums) : Type 0 where
   pub short : r .length ≤ 16372
   pub few : r .passed ≤ 2046
 
--- of a segment, if its pages are sound
+-- of a segment, if its pages are sound; if they are not, its caller asks for no number
 pub record Measured (u : SegView) (r : Measure) : Type 0 where
   pub sound : r .sound ≡ allSound u
   pub length : r .sound ≡ true → r .length ≡ length (segmentFile u)

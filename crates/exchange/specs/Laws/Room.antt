@@ -7,13 +7,12 @@ use mathlib.Core.List.{List, [], _∷_, _++_}
 use native.Mathlib.Omega.{arith}
 use lib.ListN.{length, take, drop, length-drop, length-append}
 use lib.Seq.{length-take-le}
-use Rattle.store.specs.Numbers.{toBE, sum}
+use Rattle.store.specs.Numbers.{toBE, one, sum}
 use Rattle.store.specs.Slots.{len, isTarget, isRecord}
 use Rattle.store.specs.Page.{View}
 use Rattle.store.specs.Segment.{SegView, segView, sizeOk}
 use Rattle.store.specs.SoundSegment.{PagesSound}
 use Rattle.store.specs.Records.{Entry, entryOf, entriesFrom, pageEntries, pagesEntries, entries, rowsIn}
-use Rattle.store.specs.Numbers.{one}
 use Rattle.store.specs.Laws.Cases.{by-test, tests}
 use Rattle.store.specs.Laws.Views.{Sound}
 use Rattle.store.specs.Laws.SoundSegment.{pages-sound, seen-pages}
