@@ -10,7 +10,7 @@ use judge::random::Random;
 use store::PAGE_SIZE;
 
 /// How many files are imported, unless HEKATOSUY_EXCHANGES says another number.
-const USUAL_FILES: u64 = 3000;
+const USUAL_FILES: u64 = 1000;
 
 fn compare_import(seed: u64, case: &Case) {
     let copies = || (case.segment.clone(), case.inventory.clone());
