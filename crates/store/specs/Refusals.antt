@@ -47,6 +47,6 @@ TALLY = 9
 abbrev pub LIST : ℕ
 LIST = 10
 
--- Document 02, Ask 4: "when the entry list is too short for all changes"
+-- Document 02, Ask 4: "when the entry list is too short for all changes"; Ask 7: "when the lent place is too short"
 abbrev pub ROOM : ℕ
 ROOM = 11

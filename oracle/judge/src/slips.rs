@@ -6,8 +6,19 @@ use model::Model;
 use store::{Answer, Store, DONE, PAGE_SIZE};
 use Slip::*;
 
-#[derive(Clone, Copy, PartialEq, Eq, Debug)]
-pub enum Slip {
+/// One list of them, so that none is left untried.
+macro_rules! slips {
+    ($($slip:ident,)*) => {
+        #[derive(Clone, Copy, PartialEq, Eq, Debug)]
+        pub enum Slip {
+            $($slip,)*
+        }
+
+        pub const SLIPS: &[Slip] = &[$($slip,)*];
+    };
+}
+
+slips! {
     MarkTurnedRoundInImport,
     MarkTurnedRoundInExport,
     MarksSecondByteNotRead,
@@ -34,34 +45,6 @@ pub enum Slip {
     RestCleared,
     ForwardedNotCountedAsPassed,
 }
-
-pub const SLIPS: &[Slip] = &[
-    MarkTurnedRoundInImport,
-    MarkTurnedRoundInExport,
-    MarksSecondByteNotRead,
-    LengthOf16357LetIn,
-    SecondShortBeforeLong,
-    MarkBeforeShort,
-    LastBytesIgnored,
-    LengthLittleEndian,
-    SizeAfterFile,
-    InsertsWhileReading,
-    RecordsToldWithFault,
-    GoesOnAfterRefusal,
-    TakesBackOnRefusal,
-    RefusedRecordTold,
-    EightBytesPassedOver,
-    BackIdExported,
-    LengthWithTheEightCounted,
-    RoomBeforeDamaged,
-    LastPageNotChecked,
-    NumbersToldWithDamaged,
-    ExactRoomRefused,
-    PartWrittenWithoutRoom,
-    NothingToldWithoutRoom,
-    RestCleared,
-    ForwardedNotCountedAsPassed,
-];
 
 /// Import and export with one slip, over the model; with none they are right.
 pub struct Broken(pub Option<Slip>);
