@@ -1,52 +1,18 @@
--- Bits of a word, and the marks of a run of bytes.
+-- Masks of a word, and the marks of a run of bytes.
 use Prim.Native.Nat.{ℕ, zero, suc, _+_, _-_, _*_, _/_, _%_, _^_, _<_, _≤_, min, max}
 use mathlib.Core.Path.{_≡_, refl, sym, ap, subst, _∙_}
 use mathlib.Core.Bool.{Bool, true}
 use mathlib.Core.List.{List}
 use native.Mathlib.Omega.{arith}
-use native.Mathlib.Nat.{pow-suc, one-mul, min-le-left, min-zero, min-eq-left, zero-min, max-le, max-zero, max-eq-right}
+use native.Mathlib.Nat.{pow-suc, one-mul, min-zero, min-eq-left, zero-min, max-zero, max-eq-right}
 use native.Mathlib.Decide.{decLt, decLe, ℕ-discrete}
-use lib.Bits.{bitAnd, bitOr, and-step, or-step}
+use lib.Bits.{bitAnd, bitOr}
 use lib.Pow.{pow-pos, high, shl-exact, high-ones, pow-mono}
 use lib.ListN.{length, getD, set, replicate, length-replicate, getD-replicate, List·getD-eq-default}
 use lib.Seq.{getD-set-same, getD-set-other}
+use Rattle.page_check.specs.Bits.{bit-zero, bit-one, no-bits, bit-and, bit-or}
 use Rattle.page_check.specs.Fit.{Tells}
 use Rattle.page_check.specs.Map.{bit, Mask, mark, Blank, Clear, Claimed, Claims}
-
--- ---- bits
-
-bit-zero : (j : ℕ) → bit j 0 ≡ 0
-unfolding bit
-bit-zero zero = refl
-bit-zero (suc j) = bit-zero j
-
-bit-one : (j x : ℕ) → bit j x ≤ 1
-unfolding bit
-bit-one zero x = omega arith
-bit-one (suc j) x = bit-one j (x / 2)
-
--- a number of which no bit is set
-no-bits : (n x : ℕ) → x ≤ n → ((j : ℕ) → bit j x ≡ 0) → x ≡ 0
-unfolding bit
-no-bits zero x h f = omega arith
-no-bits (suc n) x h f = let q : x / 2 ≡ 0 = no-bits n (x / 2) (omega arith) (λ j. f (suc j)) in omega (arith, f 0)
-
-bit-and : (j x y : ℕ) → bit j (bitAnd x y) ≡ min (bit j x) (bit j y)
-unfolding bit
-bit-and zero x y = omega (arith, and-step x y, min-le-left (x % 2) (y % 2))
-bit-and (suc j) x y =
-    let e : bitAnd x y / 2 ≡ bitAnd (x / 2) (y / 2) = omega (arith, and-step x y, min-le-left (x % 2) (y % 2)) in
-    rw e (bit-and j (x / 2) (y / 2))
-
-bit-or : (j x y : ℕ) → bit j (bitOr x y) ≡ max (bit j x) (bit j y)
-unfolding bit
-bit-or zero x y =
-    let m : max (x % 2) (y % 2) ≤ 1 = max-le (omega arith) (omega arith) in
-    omega (arith, or-step x y, m)
-bit-or (suc j) x y =
-    let m : max (x % 2) (y % 2) ≤ 1 = max-le (omega arith) (omega arith) in
-    let e : bitOr x y / 2 ≡ bitOr (x / 2) (y / 2) = omega (arith, or-step x y, m) in
-    rw e (bit-or j (x / 2) (y / 2))
 
 -- ---- masks
 
