@@ -1,43 +1,21 @@
 -- The slots of a page counted: parts of sums are small, and one slot more.
-use Prim.Native.Nat.{ℕ, zero, suc, _+_, _-_, _≤_, _<_}
+use Prim.Native.Nat.{ℕ, suc, _+_, _-_, _≤_, _<_}
 use mathlib.Core.Path.{_≡_, refl}
 use mathlib.Core.Bool.{Bool, true, false, cond}
 use native.Mathlib.Numerals.{add-one}
 use native.Mathlib.Omega.{arith}
-use native.Mathlib.Nat.{not-suc-le-zero}
-use native.Mathlib.Decide.{ℕ-discrete}
 use borrow.Author.Needs.{needs}
-use Rattle.store.specs.Numbers.{sum, one}
+use Rattle.store.specs.Numbers.{sum}
 use Rattle.store.specs.Slots.{len, isRecord, isTarget}
 use Rattle.store.specs.Page.{View, fresh}
 use Rattle.store.specs.PageSteps.{opened}
 use Rattle.store.specs.Inventory.{classOf}
 use Rattle.store.specs.Report.{bytesIn}
 use Rattle.store.specs.Laws.Classes.{class-top}
-use Rattle.store.specs.Laws.Views.{Sound}
+use Rattle.store.specs.Laws.Views.{Sound, sum-few, sum-within}
 use Rattle.store.specs.declared.Slot.{Slot}
 use Rattle.fill_report.specs.Words.{Room, WithSlot, SlotsTo, Fills}
 use Rattle.fill_report.specs.declared.page.Counts.{Counts}
-
--- ---- sums
-
--- fewer summands, and none larger
-sum-within : (m n : ℕ) (f g : ℕ → ℕ) → n ≤ m → ((j : ℕ) → f j ≤ g j) → sum n f ≤ sum m g
-sum-within zero zero f g h le = omega arith
-sum-within zero (suc n) f g h le = absurd (not-suc-le-zero h)
-sum-within (suc m) n f g h le = go (λ k l. sum-within m k f g l le) (ℕ-discrete n (suc m))
-  where
-    go : ((k : ℕ) → k ≤ m → sum k f ≤ sum m g) → Dec (n ≡ suc m) → sum n f ≤ sum (suc m) g
-    go ih (yes e) = rw e (omega (arith, le m, ih m (omega arith)))
-    go ih (no e) = omega (arith, ih n (omega arith))
-
-sum-ones : (n : ℕ) (b : ℕ → Bool) → sum n (λ k. one (b k)) ≤ n
-sum-ones zero b = omega arith
-sum-ones (suc n) b = go (sum-ones n b) (b n)
-  where
-    go : sum n (λ k. one (b k)) ≤ n → (t : Bool) → one t + sum n (λ k. one (b k)) ≤ suc n
-    go ih true = omega arith
-    go ih false = omega arith
 
 -- ---- the slots of a sound page
 
@@ -52,9 +30,9 @@ bytes-in v k = go (isTarget (v .at k))
 module _ (v : View) (k : ℕ) {c : Counts} (so-far : SlotsTo v k c) where
   few : (c .records ≤ k) × (c .bytes ≤ sum k (λ j. len (v .at j))) × (c .forwarded ≤ k)
   few =
-      let records = sum-ones k (λ j. isRecord (v .at j)) in
-      let bytes = sum-within k k (bytesIn v) (λ j. len (v .at j)) (omega arith) (bytes-in v) in
-      let targets = sum-ones k (λ j. isTarget (v .at j)) in
+      let records = sum-few k (λ j. isRecord (v .at j)) in
+      let bytes = sum-within k k (bytesIn v) (λ j. len (v .at j)) (omega arith) (λ j l. bytes-in v j) in
+      let targets = sum-few k (λ j. isTarget (v .at j)) in
       (omega arith, omega arith, omega arith)
 
   -- and one slot more
@@ -62,7 +40,7 @@ module _ (v : View) (k : ℕ) {c : Counts} (so-far : SlotsTo v k c) where
     pub room : Sound v → k < v .slotCount → Room c s
     room sound h =
         let small = few in
-        let part = sum-within (v .slotCount) (suc k) (λ j. len (v .at j)) (λ j. len (v .at j)) h (λ j. omega arith) in
+        let part = sum-within (v .slotCount) (suc k) (λ j. len (v .at j)) (λ j. len (v .at j)) h (λ j l. omega arith) in
         rw is (record { records = omega arith; forwarded = omega arith; bytes = omega arith; target = sound .targets k })
 
     pub with-next : {r : Counts} → WithSlot c s r → SlotsTo v (k + 1) r

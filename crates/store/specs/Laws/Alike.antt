@@ -2,7 +2,7 @@
 -- header bytes, entry bytes and record bytes.
 use Prim.Native.Nat.{ℕ, zero, suc, _+_, _*_, _/_, _%_, _≤_, _<_}
 use mathlib.Core.Path.{_≡_, refl, sym, ap, _∙_, subst}
-use mathlib.Core.Bool.{true, false, cond, _&&_}
+use mathlib.Core.Bool.{Bool, true, false, cond, _&&_}
 use mathlib.Core.List.{List, [], _∷_}
 use mathlib.Core.Logic.{inl, inr, ⊎-elim}
 use native.Mathlib.Omega.{arith}
@@ -253,6 +253,18 @@ alike-seen s t z h =
         (both-fresh (ap (λ (q : List ℕ). fresh (view q)) (page-past s p (omega arith) (z .whole)))
         (ap (λ (q : List ℕ). fresh (view q)) (page-past t p (omega (arith, past)) whole)))
 
+module _ (s t : List ℕ) (l : Alike s t) where
+  size-like : (b : Bool) → sizeOk s ≡ b → sizeOk t ≡ b
+  size-like b e = ap (λ (n : ℕ). eqb (n % 16384) 0 && leb (n / 16384) 32527) (sym (l .long)) ∙ e
+
+  -- a property of both, from their being seen alike and from neither's size being right
+  pub by-size : (P : Type 0) → (AlikeByKind s t → P) → (sizeOk s ≡ false → sizeOk t ≡ false → P) → P
+  by-size P f g = go (sizeOk s) refl
+    where
+      go : (b : Bool) → sizeOk s ≡ b → P
+      go true e = f (alike-seen s t (sized s e) l)
+      go false e = g e (size-like false e)
+
 -- ---- one plan, on two segments that are alike
 
 pub plan-like : (plan : SegView → Out) (w : SegView → Read) (s t v : List ℕ) → Exacting plan → Staying plan w v → SoundSegment s v → Alike s t
@@ -261,7 +273,7 @@ unfolding result
 plan-like plan w s t v x k h l =
     let z = sized s (h .whole) in
     let a = alike-seen s t z l in
-    let wt : sizeOk t ≡ true = ap (λ (n : ℕ). eqb (n % 16384) 0 && leb (n / 16384) 32527) (sym (l .long)) ∙ h .whole in
+    let wt : sizeOk t ≡ true = size-like s t l true (h .whole) in
     rw (h .whole, wt, h .page)
     (subst (λ (u : SegView). Alike (carried (plan (segView s) .steps) s) (carried (plan u .steps) t)) (a .seen)
     (carried-like (plan (segView s) .steps) s t (x s (z .few))

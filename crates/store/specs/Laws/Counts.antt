@@ -15,15 +15,15 @@ use Rattle.store.specs.Laws.Book.{row-one, row-not}
 
 -- ---- a list without one of its entries
 
-less : (x : Entry) (m : List Entry) → In x m → List Entry
+pub less : {A : Type 0} (x : A) (m : List A) → In x m → List A
 less x [] h = []
 less x (y ∷ m) (inl e) = m
 less x (y ∷ m) (inr h) = y ∷ less x m h
 
-less-count : (f : Entry → Bool) (x : Entry) (m : List Entry) (h : In x m) → countIf f m ≡ one (f x) + countIf f (less x m h)
+pub less-count : {A : Type 0} (f : A → Bool) (x : A) (m : List A) (h : In x m) → countIf f m ≡ one (f x) + countIf f (less x m h)
 unfolding less
 less-count f x [] h = absurd h
-less-count f x (y ∷ m) (inl e) = ap (λ (z : Entry). one (f z) + countIf f m) (sym e)
+less-count f x (y ∷ m) (inl e) = ap (λ z. one (f z) + countIf f m) (sym e)
 less-count f x (y ∷ m) (inr h) = omega (arith, less-count f x m h)
 
 less-in : (x y : Entry) (m : List Entry) (h : In x m) → In y m → y .id ≢ x .id → In y (less x m h)

@@ -133,11 +133,14 @@ bytes-drop zero p b = b
 bytes-drop (suc n) [] b = tt
 bytes-drop (suc n) (x ∷ p) b = bytes-drop n p (b .1)
 
+pub bytes-cut : (p : List ℕ) (i n : ℕ) → Bytes p → Bytes (cut p i n)
+bytes-cut p i n b = bytes-take n (drop i p) (bytes-drop i p b)
+
 pub bytes-toBE : (k v : ℕ) → Bytes (toBE k v)
 bytes-toBE zero v = tt
 bytes-toBE (suc k) v = (omega arith, bytes-toBE k v)
 
-be-less : (xs : List ℕ) → Bytes xs → be xs < 256 ^ length xs
+pub be-less : (xs : List ℕ) → Bytes xs → be xs < 256 ^ length xs
 be-less [] b = omega arith
 be-less (x ∷ xs) b = rw (pow-suc, mul-comm (256 ^ length xs) 256) (digits-lt (b .0) (be-less xs (b .1)))
 

@@ -9,7 +9,7 @@ use native.Mathlib.Nat.{not-suc-le-zero, add-zero, add-suc}
 use native.Mathlib.Decide.{ℕ-discrete, decLt}
 use lib.ListN.{length, length-replicate}
 use borrow.Author.Tests.{eq-eqb, ne-eqb}
-use Rattle.store.specs.Numbers.{upd, sum, zeros}
+use Rattle.store.specs.Numbers.{upd, sum, zeros, one}
 use Rattle.store.specs.Slots.{off, len, isFree, isTarget}
 use Rattle.store.specs.Page.{View}
 use Rattle.store.specs.PageSteps.{freeBelow, pruned, startWithout, erased, nextFree, isNew, cost, gap, allocated}
@@ -69,6 +69,25 @@ sum-zero (suc n) f h = omega (arith, h n (omega arith), sum-zero n f (λ k l. h 
 pub sum-add : (n : ℕ) (f g : ℕ → ℕ) → sum n (λ k. f k + g k) ≡ sum n f + sum n g
 sum-add zero f g = refl
 sum-add (suc n) f g = omega (arith, sum-add n f g)
+
+-- of tests
+pub one-few : (b : Bool) → one b ≤ 1
+one-few true = omega arith
+one-few false = omega arith
+
+pub sum-few : (n : ℕ) (f : ℕ → Bool) → sum n (λ j. one (f j)) ≤ n
+sum-few zero f = omega arith
+sum-few (suc n) f = omega (arith, one-few (f n), sum-few n f)
+
+-- fewer summands, and none larger
+pub sum-within : (m n : ℕ) (f g : ℕ → ℕ) → n ≤ m → ((j : ℕ) → j < n → f j ≤ g j) → sum n f ≤ sum m g
+sum-within m zero f g h le = omega arith
+sum-within zero (suc n) f g h le = absurd (not-suc-le-zero h)
+sum-within (suc m) (suc n) f g h le = go (λ l. sum-within m (suc n) f g l le) (sum-within m n f g (omega arith) (λ j l. le j (omega arith))) (ℕ-discrete n m)
+  where
+    go : (suc n ≤ m → sum (suc n) f ≤ sum m g) → sum n f ≤ sum m g → Dec (n ≡ m) → sum (suc n) f ≤ sum (suc m) g
+    go longer ih (yes e) = omega (arith, le n (omega arith), ap g e)
+    go longer ih (no e) = omega (arith, longer (omega arith))
 
 pub sum-turn : (n m : ℕ) (g : ℕ → ℕ → ℕ) → sum n (λ k. sum m (g k)) ≡ sum m (λ x. sum n (λ k. g k x))
 sum-turn zero m g = sym (sum-zero m (λ x. 0) (λ k l. refl))

@@ -1,16 +1,15 @@
 -- Fill report, "Alike: equal figures and answers on alike segments": "the tally too is equal in two alike segments". The call answers the same and
 -- leaves the same tally on every two segments that are alike in the paper's words (`Alike`) or by what is seen (`AlikeByKind`), with right size or
 -- wrong, with sound pages or damaged ones, and whatever the tally was.
-use Prim.Native.Nat.{ℕ, _/_, _%_}
-use mathlib.Core.Path.{_≡_, refl, sym, ap, _∙_}
-use mathlib.Core.Bool.{Bool, true, false, _&&_}
+use Prim.Native.Nat.{ℕ}
+use mathlib.Core.Path.{_≡_, ap}
+use mathlib.Core.Bool.{true}
 use mathlib.Core.List.{List}
-use lib.Dec.{eqb, leb}
 use Rattle.store.specs.Segment.{segView, sizeOk}
 use Rattle.store.specs.Report.{figures, reportStep}
 use Rattle.store.specs.Alike.{Alike, AlikeByKind}
 use Rattle.store.specs.Laws.SoundSegment.{sized}
-use Rattle.store.specs.Laws.Alike.{alike-seen}
+use Rattle.store.specs.Laws.Alike.{alike-seen, by-size}
 
 -- ---- by what is seen
 
@@ -30,8 +29,4 @@ figures-alike s t e l = figures-same s t (alike-seen s t (sized s e) l)
 -- the answer's number, and the tally afterwards
 pub report-alike : (s t x : List ℕ) → Alike s t → reportStep s x ≡ reportStep t x
 unfolding reportStep
-report-alike s t x l = go (sizeOk s) refl
-  where
-    go : (b : Bool) → sizeOk s ≡ b → reportStep s x ≡ reportStep t x
-    go true e = report-same s t x (alike-seen s t (sized s e) l)
-    go false e = let f : sizeOk t ≡ false = ap (λ (n : ℕ). eqb (n % 16384) 0 && leb (n / 16384) 32527) (sym (l .long)) ∙ e in rw (e, f)
+report-alike s t x l = by-size s t l _ (report-same s t x) (λ e f. rw (e, f))
