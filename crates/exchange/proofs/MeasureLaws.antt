@@ -16,6 +16,7 @@ use Rattle.store.specs.Laws.SoundPage.{sound-opened}
 use Rattle.store.specs.Laws.SoundSegment.{seen-pages, seen-page}
 use Rattle.exchange.specs.Exchange.{passedOver}
 use Rattle.exchange.specs.Words.{partOf, partLength, partFile, partPassed, pageFile, pagePassed, segmentFile, PageSums, Measured}
+use Rattle.exchange.specs.Laws.Left.{part-lies}
 use Rattle.exchange.specs.Laws.Room.{page-short, passed-few}
 use Rattle.exchange.specs.declared.measure.Sums.{Sums}
 use Rattle.exchange.specs.declared.parts.Part.{Part}
@@ -45,7 +46,7 @@ module _ (p : List ℕ) (whole : length p ≡ 16384) (ok : sound (view p) ≡ tr
         let x = partOf (view p .at k) in
         ap length (left.file-next p whole ok k counted) ∙ length-append (partFile p x) (left.fileFrom (view p) (k + 1))
         ∙ ap (λ (n : ℕ). n + length (left.fileFrom (view p) (k + 1)))
-        (left.part-length p x (left.part-lies p whole ok k counted) ∙ sym (ap partLength is))
+        (left.part-length p x (part-lies p whole ok k counted) ∙ sym (ap partLength is))
 
     next-passed : left.passedFrom (view p) k ≡ partPassed a + left.passedFrom (view p) (k + 1)
     next-passed = left.passed-next p whole ok k counted ∙ ap (λ (x : Part). partPassed x + left.passedFrom (view p) (k + 1)) (sym is)

@@ -1,5 +1,6 @@
 pub mod Parse
 pub mod Files
+pub mod Left
 pub mod Room
 pub mod ReadBack
 pub mod WriteBack

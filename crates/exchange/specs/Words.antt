@@ -1,8 +1,8 @@
--- Words for the contracts: what stands at a place of a file, and the file's bytes for a slot, a page and a segment.
+-- Words for the contracts: what stands at a place of a file, and the readings and the file's bytes of a slot, a page and a segment.
 use Prim.Native.Nat.{ℕ, _+_, _-_, _≤_}
 use mathlib.Core.Path.{_≡_}
 use mathlib.Core.Bool.{true, cond}
-use mathlib.Core.List.{List, [], _++_}
+use mathlib.Core.List.{List, [], _∷_, _++_}
 use lib.ListN.{length, drop}
 use lib.Dec.{ltb}
 use Rattle.store.specs.Numbers.{cut, toBE}
@@ -86,6 +86,12 @@ partPassed (part.Reading o n) = 0
 partPassed part.Passed = 1
 partPassed part.Nothing = 0
 
+-- the readings that it is: one or none
+abbrev pub partRows : List ℕ → Part → List (List ℕ)
+partRows p (part.Reading o n) = cut p o n ∷ []
+partRows p part.Passed = []
+partRows p part.Nothing = []
+
 -- a reading's bytes are on the page
 pub record Reads (p : List ℕ) (o n : ℕ) : Type 0 where
   pub headed : 8 ≤ n
@@ -96,9 +102,12 @@ OnPage p (part.Reading o n) = Reads p o n
 OnPage p part.Passed = Unit {0}
 OnPage p part.Nothing = Unit {0}
 
--- the file of a page, and how many of its records are passed over; which page it is plays no part
+-- the readings of a page, its file, and how many of its records are passed over; which page it is plays no part
+abbrev pub pageReadings : View → List (List ℕ)
+pageReadings v = readings (rowsIn (pageEntries v 0))
+
 abbrev pub pageFile : View → List ℕ
-pageFile v = fileOf (readings (rowsIn (pageEntries v 0)))
+pageFile v = fileOf (pageReadings v)
 
 abbrev pub pagePassed : View → ℕ
 pagePassed v = passedOver (rowsIn (pageEntries v 0))

@@ -1,7 +1,8 @@
-// The bench exchange file: "Benches pass readings by file." What a mark, a mirror, a reading and a row are is known here alone.
+// The bench exchange file: "Benches pass readings by file." The mark and the form of a file are known here alone; what of a page is a
+// reading (`parts`), for crates above too.
 mod format;
 mod measure;
-mod parts;
+pub mod parts;
 mod write;
 
 use format::Format;

@@ -28,7 +28,8 @@ fn part_at(offset: usize, length: usize) -> Part
     Part::Reading { offset, length }
 }
 
-// As the scan gives it: a target's record without the back id; free slots and redirects are no records.
+// As the scan gives it: a target's record without the back id; free slots and redirects are no records. For crates above; it is no
+// call for users.
 pub fn part_of(s: Slot) -> Part
     requires { ⌜ Codable s × (isTarget s ≡ true → 8 ≤ len s) ⌝ }
     ensures { λ r. ⌜ r ≡ partOf s ⌝ }

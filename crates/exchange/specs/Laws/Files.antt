@@ -1,5 +1,5 @@
--- Files end to end: the file of two lists of records is the one's and then the other's, and so a segment's file is its pages' files. Which
--- page it is plays no part in a page's records.
+-- Lists end to end: the readings, the file and the number passed over of two lists are the one's and then the other's. A segment's rows are its
+-- pages' rows, and which page it is plays no part.
 use Prim.Native.Nat.{ℕ, zero, suc, _+_}
 use mathlib.Core.Path.{_≡_, refl, sym, ap, _∙_}
 use mathlib.Core.Bool.{Bool, true, false, cond}
@@ -10,7 +10,6 @@ use Rattle.store.specs.Page.{View}
 use Rattle.store.specs.Segment.{SegView}
 use Rattle.store.specs.Records.{Entry, entryOf, entriesFrom, pageEntries, pagesEntries, rowsIn}
 use Rattle.exchange.specs.Exchange.{fileRecord, fileOf, isShort, readings, passedOver}
-use Rattle.exchange.specs.Words.{pageFile, pagePassed}
 
 -- ---- two lists
 
@@ -49,16 +48,7 @@ rows-any (suc m) v p k = go (isRecord (v .at k)) (rows-any m v p (k + 1))
 
 module _ (m : ℕ) (u : SegView) (p : ℕ) where
   -- page p and those behind it
-  rows-pages : rowsIn (pagesEntries (suc m) u p) ≡ rowsIn (pageEntries (u .page p) 0) ++ rowsIn (pagesEntries m u (p + 1))
+  pub rows-pages : rowsIn (pagesEntries (suc m) u p) ≡ rowsIn (pageEntries (u .page p) 0) ++ rowsIn (pagesEntries m u (p + 1))
   rows-pages =
       rows-append (pageEntries (u .page p) p) (pagesEntries m u (p + 1))
       ∙ ap (λ (r : List (List ℕ)). r ++ rowsIn (pagesEntries m u (p + 1))) (rows-any (u .page p .slotCount) (u .page p) p 0)
-
-  pub file-pages : fileOf (readings (rowsIn (pagesEntries (suc m) u p))) ≡ pageFile (u .page p) ++ fileOf (readings (rowsIn (pagesEntries m u (p + 1))))
-  file-pages =
-      let a = rowsIn (pageEntries (u .page p) 0) in
-      let b = rowsIn (pagesEntries m u (p + 1)) in
-      ap (λ (r : List (List ℕ)). fileOf (readings r)) rows-pages ∙ ap fileOf (readings-append a b) ∙ file-append (readings a) (readings b)
-
-  pub passed-pages : passedOver (rowsIn (pagesEntries (suc m) u p)) ≡ pagePassed (u .page p) + passedOver (rowsIn (pagesEntries m u (p + 1)))
-  passed-pages = ap passedOver rows-pages ∙ passed-append (rowsIn (pageEntries (u .page p) 0)) (rowsIn (pagesEntries m u (p + 1)))

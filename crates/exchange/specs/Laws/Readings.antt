@@ -70,3 +70,10 @@ readings-times x l (r ∷ rs) =
     by-test (λ (ts : List (List ℕ)). times x ts ≡ times x (r ∷ rs)) (isShort r) (readings rs) (r ∷ readings rs)
     (λ e. omega (arith, ap one (false-by (sameBytes x r) (λ q. omega (tests, ap length (same-is x r q)))), readings-times x l rs))
     (λ e. ap (λ (n : ℕ). one (sameBytes x r) + n) (readings-times x l rs))
+
+-- and none of fewer than 8 bytes is there
+pub short-none : (x : List ℕ) → length x < 8 → (rs : List (List ℕ)) → times x (readings rs) ≡ 0
+short-none x l [] = refl
+short-none x l (r ∷ rs) =
+    by-test (λ (ts : List (List ℕ)). times x ts ≡ 0) (isShort r) (readings rs) (r ∷ readings rs) (λ e. short-none x l rs)
+    (λ e. omega (arith, ap one (false-by (sameBytes x r) (λ q. omega (tests, ap length (same-is x r q)))), short-none x l rs))

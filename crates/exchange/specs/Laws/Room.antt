@@ -7,14 +7,14 @@ use mathlib.Core.List.{List, [], _∷_, _++_}
 use native.Mathlib.Omega.{arith}
 use lib.ListN.{length, take, drop, length-drop, length-append}
 use lib.Seq.{length-take-le}
-use Rattle.store.specs.Numbers.{toBE, one, sum}
+use Rattle.store.specs.Numbers.{toBE, sum}
 use Rattle.store.specs.Slots.{len, isTarget, isRecord}
 use Rattle.store.specs.Page.{View}
 use Rattle.store.specs.Segment.{SegView, segView, sizeOk}
 use Rattle.store.specs.SoundSegment.{PagesSound}
 use Rattle.store.specs.Records.{Entry, entryOf, entriesFrom, pageEntries, pagesEntries, entries, rowsIn}
 use Rattle.store.specs.Laws.Cases.{by-test, tests}
-use Rattle.store.specs.Laws.Views.{Sound}
+use Rattle.store.specs.Laws.Views.{Sound, one-few}
 use Rattle.store.specs.Laws.SoundSegment.{pages-sound, seen-pages}
 use Rattle.exchange.specs.Exchange.{fileRecord, fileOf, isShort, readings, passedOver}
 use Rattle.exchange.specs.Words.{pageFile, segmentFile}
@@ -83,13 +83,9 @@ pub passed-few : (m : ℕ) (v : View) (p k : ℕ) → passedOver (rowsIn (entrie
 passed-few zero v p k = omega arith
 passed-few (suc m) v p k = go (isRecord (v .at k)) (passed-few m v p (k + 1))
   where
-    small : (t : Bool) → one t ≤ 1
-    small true = omega arith
-    small false = omega arith
-
     go : (b : Bool) → passedOver (rowsIn (entriesFrom m v p (k + 1))) ≤ m
         → passedOver (rowsIn (cond b (entryOf v p k ∷ entriesFrom m v p (k + 1)) (entriesFrom m v p (k + 1)))) ≤ suc m
-    go true ih = omega (arith, small (isShort (entryOf v p k .bytes)))
+    go true ih = omega (arith, one-few (isShort (entryOf v p k .bytes)))
     go false ih = omega arith
 
 -- ---- a segment

@@ -2,7 +2,7 @@
 -- equal answers, records told and inventories and leaves them alike. In the paper's words (`Alike`), import from a sound segment; by what is seen
 -- (`AlikeByKind`) of all segments, damaged ones too.
 use Prim.Native.Nat.{ℕ, _/_, _%_}
-use mathlib.Core.Path.{_≡_, refl, sym, ap, _∙_}
+use mathlib.Core.Path.{_≡_, refl, sym, _∙_}
 use mathlib.Core.Bool.{Bool, true, false, _&&_}
 use mathlib.Core.List.{List}
 use lib.ListN.{length}
@@ -12,8 +12,7 @@ use Rattle.store.specs.Alike.{Alike, AlikeByKind, AlikeToRead}
 use Rattle.store.specs.SoundSegment.{SoundSegment}
 use Rattle.store.specs.ManyRows.{insertAll}
 use Rattle.store.specs.ManyRowsTold.{SameRows}
-use Rattle.store.specs.Laws.SoundSegment.{sized}
-use Rattle.store.specs.Laws.Alike.{alike-seen}
+use Rattle.store.specs.Laws.Alike.{by-size}
 use Rattle.store.specs.Promises.Alike.{read-alike}
 use Rattle.store.specs.Promises.ManyRowsAlike.{rows-demand-3, rows-demand-3-by-kind}
 use Rattle.exchange.specs.Exchange.{Parsed, wrong, holds, parse, importStep, exportStep}
@@ -29,11 +28,7 @@ export-same s t p a = rw (a .seen, a .long)
 -- with right size or wrong, with sound pages or damaged ones
 pub export-alike : (s t p : List ℕ) → Alike s t → exportStep s p ≡ exportStep t p
 unfolding exportStep
-export-alike s t p l = go (sizeOk s) refl
-  where
-    go : (b : Bool) → sizeOk s ≡ b → exportStep s p ≡ exportStep t p
-    go true e = export-same s t p (alike-seen s t (sized s e) l)
-    go false e = let f : sizeOk t ≡ false = ap (λ (n : ℕ). eqb (n % 16384) 0 && leb (n / 16384) 32527) (sym (l .long)) ∙ e in rw (e, f)
+export-alike s t p l = by-size s t l _ (export-same s t p) (λ e f. rw (e, f))
 
 -- ---- import
 

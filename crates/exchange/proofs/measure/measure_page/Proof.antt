@@ -7,7 +7,7 @@ use native.Mathlib.Omega.{arith}
 use borrow.Author.Needs.{needs}
 use Rattle.store.specs.Page.{view}
 use Rattle.exchange.specs.Words.{partOf}
-use Rattle.exchange.proofs.LeftLaws.{slot-few, slot-target}
+use Rattle.exchange.specs.Laws.Left.{slot-few, slot-target}
 use Rattle.exchange.proofs.MeasureLaws.{MeasuredTo, measured-none, measured-room, measured-next, measured-all}
 use Rattle.exchange.proofs.measure.measure_page.Statement.{statement}
 use Rattle.exchange.proofs.measure.measure_page.Tie as tie

@@ -9,7 +9,8 @@ use lib.ListN.{length, length-append}
 use Rattle.store.specs.Page.{view}
 use Rattle.store.specs.PageSteps.{opened}
 use Rattle.exchange.specs.Words.{OnPage, partOf, partFile, partLength, pageFile}
-use Rattle.exchange.proofs.LeftLaws.{fileFrom, slot-few, slot-target, part-length, part-lies, file-all, file-next, file-none}
+use Rattle.exchange.specs.Laws.Left.{slot-few, slot-target, part-lies}
+use Rattle.exchange.proofs.LeftLaws.{fileFrom, part-length, file-all, file-next, file-none}
 use Rattle.exchange.proofs.WriteLaws.{Left, left-all, left-next, left-none}
 use Rattle.exchange.specs.declared.parts.Part.{Part}
 use Rattle.exchange.proofs.write.write_page.Statement.{statement}
