@@ -1,0 +1,11 @@
+pub mod Bits
+pub mod Whole
+pub mod Marks
+pub mod Counted
+pub mod Windows
+pub mod Rule
+pub mod Judged
+pub mod Listed
+pub mod NoRecord
+pub mod Same
+pub mod Found
