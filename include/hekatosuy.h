@@ -9,13 +9,13 @@
  * A record has 0 to 16,364 bytes and an id, page * 65,536 + slot, which stays the same until the record is erased.
  *
  * Each function is proved to meet its contract (crates/hekatosuy): for every segment, inventory and argument it answers one of the
- * numbers below and leaves each byte as the contract says. A call that is refused leaves segment, inventory, tally and an export's place
- * as they were; only hk_insert_records and hk_import, refused at one of their rows, leave what the rows before it changed, and nothing
- * else.
+ * numbers below and leaves each byte as the contract says. A call that is refused leaves segment, inventory, tally, an export's place and
+ * the words for whole readings as they were; only hk_insert_records and hk_import, refused at one of their rows, leave what the rows before
+ * it changed, and nothing else.
  *
- * The pointer before a length or a count points to so many bytes (lengths, ids and entries: to so many uint64_t), and no pointer is
- * null, also where the length or the count is 0. What one call is lent to write (segment, inventory, ids, entries, the tally, the place for
- * an export's file and the single numbers) overlaps nothing else that it is lent.
+ * The pointer before a length or a count points to so many bytes (lengths, ids, entries and words: to so many uint64_t), and no pointer is
+ * null, also where the length or the count is 0. What one call is lent to write (segment, inventory, ids, entries, words, the tally, the
+ * place for an export's file and the single numbers) overlaps nothing else that it is lent.
  *
  * A program, whole:
  *
@@ -60,7 +60,7 @@ enum {
  * What a call answers. Where several refusals hold, this is their order: 1, 10, 3, 2, 4 for the id's own page, 5, 6, 4 for a target, 7,
  * 4 for a new page, 8. Of many rows 1 and 10 come before any row, and then each row in its turn. hk_import has 1, then for each record of
  * the file in its turn 13, 12, 3, 13, all before any insert, and then each insert's own. hk_fill_report has 1, 4 for any page, 9;
- * hk_export 1, 4 for any page, 11; and hk_repair answers 0, 1 or 11.
+ * hk_export 1, 4 for any page, 11; hk_cleared 1, 14, 4 for any page, and hk_whole_readings then 11; and hk_repair answers 0, 1 or 11.
  */
 enum {
     HK_DONE = 0,      /* the call is carried out */
@@ -74,9 +74,10 @@ enum {
     HK_STALE = 8,     /* the inventory names a page that has not the room: it is not true */
     HK_TALLY = 9,     /* fill report: a figure of the tally would pass 2^64 - 1 */
     HK_LIST = 10,     /* many rows: the lengths don't sum to the bytes, or there are fewer id places than rows */
-    HK_ROOM = 11,     /* what is to be written does not fit in the place lent for it: repair's entries, an export's file */
+    HK_ROOM = 11,     /* what is to be written does not fit in the place lent for it: repair's entries, an export's file, whole readings */
     HK_MARK = 12,     /* import: a record of the file does not begin with 52 54 */
-    HK_SHORT = 13     /* import: the file ends within a record */
+    HK_SHORT = 13,    /* import: the file ends within a record */
+    HK_RULE = 14      /* another edition than 1 and 2, or rows outside 1 to 2,048 */
 };
 
 /* A new record with these bytes. Its id is written when the answer is 0, and else left as it was. */
@@ -200,6 +201,34 @@ uint64_t hk_import(uint8_t *segment, size_t segment_length, uint8_t *inventory, 
  * written to `file` then.
  */
 uint64_t hk_export(const uint8_t *segment, size_t segment_length, uint8_t *file, size_t file_room, uint64_t *length, uint64_t *passed);
+
+/*
+ * Whether the mirror is cleared for polishing: 1 or 0, and 0 on refusal. A reading is whole when each row from 0 to rows - 1 is there
+ * once and no other. Edition 1: two whole readings. Edition 2: three, at least one numbered below 32,768 and one from there on.
+ * Refusals: 1, 14, 4.
+ *
+ * Judged are the records of 8 bytes or more that a scan gives, as hk_import stores them: mirror (4 bytes), reading (2) and row (2), all
+ * big-endian, and data that plays no part. A shorter record neither helps nor spoils. A row that is there twice spoils its reading, with
+ * equal data too, and so does a row from `rows` on. No redirect is followed. No record has a mirror of 2^32 or more: such a one is not
+ * cleared, and that is no refusal.
+ *
+ * The answer is 1 exactly then. All pages are checked before it is given: one that is not sound is 4, whatever the others hold. A mirror
+ * that is cleared stays so with more whole readings, though a further record may spoil one. What edition 2 clears edition 1 clears. The
+ * answer hangs on the readings alone, each as often as it is there: so it is the same after an export and an import into pages of zeros,
+ * where all of it goes in.
+ */
+uint64_t hk_cleared(const uint8_t *segment, size_t segment_length, uint64_t mirror, uint64_t rows, uint64_t edition,
+                    uint64_t *cleared);
+
+/*
+ * Which readings of the mirror are whole, so that a person sees why it is cleared or not: bit r % 64 of word r / 64 is 1 exactly if
+ * reading r is, by the rule above. The 65,536 bits are the first 1,024 of `words`, all of which are written; those behind them stay.
+ *
+ * Refusals: 1; then 14 by `rows`, there is no edition here; then 4, where any page is not sound; then 11, where `words_length` is below
+ * 1,024. No word is written then.
+ */
+uint64_t hk_whole_readings(const uint8_t *segment, size_t segment_length, uint64_t mirror, uint64_t rows, uint64_t *words,
+                           size_t words_length);
 
 /* What the place of repair's entry is when it is not a slot. */
 enum { HK_AT_HEADER = 65535, HK_AT_INVENTORY = 65536 };

@@ -1,6 +1,8 @@
 // "Answers by number": each answer's number as the documents have it, and what is told beside it.
 use exchange::Exported;
 use exchange::Imported;
+use polishing::Clearing;
+use polishing::Listing;
 use store::Answer;
 use store::Inserted;
 use store::Reading;
@@ -9,6 +11,7 @@ use store::Reported;
 ghost use mathlib.Core.Path.{_≡_};
 ghost use Rattle.store.specs.Answers.{answerNo, answerId, insertedNo, insertedRows, readingPart, repairNo, repairCount, reportedNo};
 ghost use Rattle.exchange.specs.Told.{importedNo, importedRecords, exportedNo, exportedLength, exportedPassed};
+ghost use Rattle.polishing.specs.Told.{clearingNo, clearingYes, listingNo};
 
 // "Answers by number".
 pub fn answer_no(a: Answer) -> u64
@@ -188,5 +191,44 @@ pub fn exported_passed(r: Exported) -> u64
         Exported::Size => 0,
         Exported::Damaged => 0,
         Exported::Room { length: _, passed } => passed as u64,
+    }
+}
+
+// "Refusals: 1, then 14 RULE .., then 4."
+pub fn clearing_no(r: Clearing) -> u64
+    ensures { λ n. ⌜ n ≡ clearingNo r ⌝ }
+{
+    match r {
+        Clearing::Yes => 0,
+        Clearing::No => 0,
+        Clearing::Size => 1,
+        Clearing::Rule => 14,
+        Clearing::Damaged => 4,
+    }
+}
+
+// 1 for a yes alone: a caller who forgets a refusal does not polish.
+pub fn clearing_yes(r: Clearing) -> u64
+    ensures { λ n. ⌜ n ≡ clearingYes r ⌝ }
+{
+    match r {
+        Clearing::Yes => 1,
+        Clearing::No => 0,
+        Clearing::Size => 0,
+        Clearing::Rule => 0,
+        Clearing::Damaged => 0,
+    }
+}
+
+// The list of whole readings: 1, 14 RULE, 4, then 11 ROOM.
+pub fn listing_no(r: Listing) -> u64
+    ensures { λ n. ⌜ n ≡ listingNo r ⌝ }
+{
+    match r {
+        Listing::Done => 0,
+        Listing::Size => 1,
+        Listing::Rule => 14,
+        Listing::Damaged => 4,
+        Listing::Room => 11,
     }
 }

@@ -1,5 +1,5 @@
-// The store for C: the calls of a segment, the scan, repair, the fill report and the exchange file, with the documents' numbers for
-// answers. include/hekatosuy.h declares them.
+// The store for C: the calls of a segment, the scan, repair, the fill report, the exchange file and the polishing rule, with the
+// documents' numbers for answers. include/hekatosuy.h declares them.
 //
 // A slice is a pointer and a length. What a call hands back beside its number it writes through a pointer to one u64; the fill
 // report, through a pointer to a tally.
@@ -21,6 +21,7 @@ ghost use Rattle.store.specs.Repair.{repairStep};
 ghost use Rattle.store.specs.Report.{reportStep};
 ghost use Rattle.store.specs.Answers.{answerNo, answerId, scannedOf, numbers};
 ghost use Rattle.exchange.specs.Exchange.{importStep, exportStep};
+ghost use Rattle.polishing.specs.Polishing.{clearedStep, wholeStep};
 ghost use Rattle.hekatosuy.specs.Handed.{withId, withoutId, stepped, Positioned};
 
 // The number, with the new record's id where there is one; else `id` keeps what it was.
@@ -318,4 +319,34 @@ pub extern "C" fn hk_export(
     *length = answers::exported_length(r);
     *passed = answers::exported_passed(r);
     answers::exported_no(r)
+}
+
+// Whether the mirror is cleared for polishing: 1 or 0, and 0 on refusal.
+#[no_mangle]
+pub extern "C" fn hk_cleared(
+    segment: &[u8],
+    mirror: u64,
+    rows: u64,
+    edition: u64,
+    cleared: &mut u64,
+) -> u64
+    ensures { λ r. ⌜ record { answer = r; cleared = now (cleared .exit) } ≡ clearedStep (now (segment .entry)) mirror rows edition ⌝ }
+{
+    let r = polishing::cleared(segment, mirror, rows as usize, edition as usize);
+    *cleared = answers::clearing_yes(r);
+    answers::clearing_no(r)
+}
+
+// Which readings of the mirror are whole: bit r % 64 of word r / 64 tells of reading r.
+#[no_mangle]
+pub extern "C" fn hk_whole_readings(
+    segment: &[u8],
+    mirror: u64,
+    rows: u64,
+    words: &mut [u64],
+) -> u64
+    ensures { λ r. ⌜ record { answer = r; place = now (words .exit) } ≡ wholeStep (now (segment .entry)) mirror rows (now (words .entry)) ⌝ }
+{
+    let r = polishing::whole_readings(segment, mirror, rows as usize, words);
+    answers::listing_no(r)
 }
