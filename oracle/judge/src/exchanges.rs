@@ -452,7 +452,7 @@ pub fn check_examples(exchange: &dyn Exchange) -> Result<usize, String> {
 }
 
 /// A whole scan by the corrected Rust: the bytes of its records, or nothing where it meets a page that is not sound.
-fn scanned(segment: &[u8]) -> Result<Option<Vec<Vec<u8>>>, String> {
+pub(crate) fn scanned(segment: &[u8]) -> Result<Option<Vec<Vec<u8>>>, String> {
     match corrected::LentStore::new(segment, &[0; PAGE_SIZE]).scan() {
         (DONE, found) => Ok(Some(found.iter().map(|found| segment[found.offset as usize..][..found.length as usize].to_vec()).collect())),
         (Answer::Number(4), _) => Ok(None),

@@ -1,6 +1,7 @@
 //! Compares the published Rust, the corrected Rust and the model, and writes traces.
 
 pub mod cases;
+pub mod clearings;
 pub mod damage;
 #[path = "../../../rust/tests/exchange_examples/mod.rs"]
 pub mod exchange_examples;
@@ -8,8 +9,12 @@ pub mod exchanges;
 pub mod files;
 pub mod fills;
 pub mod lists;
+pub mod mirrors;
+pub mod misjudged;
 pub mod numbers;
 pub mod poke;
+#[path = "../../../rust/tests/polishing_examples/mod.rs"]
+pub mod polishing_examples;
 pub mod populate;
 pub mod random;
 #[path = "../../../rust/tests/repair_examples/mod.rs"]

@@ -7,7 +7,7 @@ use judge::{cases, show, trace, Store};
 use std::process::ExitCode;
 use std::{env, fs};
 
-const USAGE: &str = "judge classes | numbers | quick | long [SEED SEQUENCES] | faults | traces FILE | trace SEED COUNT [PAGES CALLS] | replay FILE.. | repair COUNT | rows COUNT | report COUNT | exchange COUNT";
+const USAGE: &str = "judge classes | numbers | quick | long [SEED SEQUENCES] | faults | traces FILE | trace SEED COUNT [PAGES CALLS] | replay FILE.. | repair COUNT | rows COUNT | report COUNT | exchange COUNT | polishing COUNT";
 
 /// The class table against the published Rust's formula.
 fn classes() -> Result<(), String> {
@@ -167,6 +167,7 @@ fn run(command: &str, rest: &[String]) -> Result<(), String> {
         ("rows", _, Some(&[lists])) => judge::rows::check(lists),
         ("report", _, Some(&[runs])) => judge::reports::check(runs),
         ("exchange", _, Some(&[cases])) => judge::exchanges::check(cases),
+        ("polishing", _, Some(&[cases])) => judge::clearings::check(cases),
         _ => Err(USAGE.to_string()),
     }
 }

@@ -17,6 +17,7 @@ macro_rules! slips {
         pub const SLIPS: &[Slip] = &[$($slip,)*];
     };
 }
+pub(crate) use slips;
 
 slips! {
     MarkTurnedRoundInImport,

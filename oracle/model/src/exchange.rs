@@ -50,8 +50,19 @@ pub fn file_of(records: &[&[u8]]) -> Vec<u8> {
     file
 }
 
-fn is_segment(bytes: &[u8]) -> bool {
+pub(crate) fn is_segment(bytes: &[u8]) -> bool {
     bytes.len() % PAGE == 0 && bytes.len() / PAGE <= 32527
+}
+
+/// The records that the store's scan gives, or the number that it ends with.
+pub(crate) fn scanned(store: &mut dyn Store) -> Result<Vec<&[u8]>, u64> {
+    let found = match store.scan() {
+        (DONE, found) => found,
+        (Answer::Number(number), _) => return Err(number),
+        (ended, _) => panic!("a scan ends by {ended}"),
+    };
+    let bytes = store.segment();
+    Ok(found.iter().map(|found| &bytes[found.offset as usize..][..found.length as usize]).collect())
 }
 
 /// The answer, and how many records went in.
@@ -80,14 +91,11 @@ pub fn export(store: &mut dyn Store, place: &mut [u8]) -> (u64, u64, u64) {
     if !is_segment(store.segment()) {
         return (SIZE, 0, 0);
     }
-    let found = match store.scan() {
-        (DONE, found) => found,
-        (Answer::Number(number), _) => return (number, 0, 0),
-        (ended, _) => panic!("a scan ends by {ended}"),
+    let records = match scanned(store) {
+        Ok(records) => records,
+        Err(number) => return (number, 0, 0),
     };
-    let bytes = store.segment();
-    let records = found.iter().map(|found| &bytes[found.offset as usize..][..found.length as usize]);
-    let (readings, others): (Vec<&[u8]>, Vec<&[u8]>) = records.partition(|record| record.len() >= 8);
+    let (readings, others): (Vec<&[u8]>, Vec<&[u8]>) = records.into_iter().partition(|record| record.len() >= 8);
     let file = file_of(&readings);
     let told = (file.len() as u64, others.len() as u64);
     if place.len() < file.len() {
