@@ -99,6 +99,22 @@ extern "C" {
         length: *mut u64,
         passed: *mut u64,
     ) -> u64;
+    fn hk_cleared(
+        segment: *const u8,
+        segment_len: usize,
+        mirror: u64,
+        rows: u64,
+        edition: u64,
+        cleared: *mut u64,
+    ) -> u64;
+    fn hk_whole_readings(
+        segment: *const u8,
+        segment_len: usize,
+        mirror: u64,
+        rows: u64,
+        words: *mut u64,
+        words_len: usize,
+    ) -> u64;
 }
 
 /// A record in the segment: where it starts, counted from the segment's first byte, and its length.
@@ -265,4 +281,18 @@ pub(crate) fn export(segment: &[u8], file: &mut [u8]) -> (u64, u64, u64) {
         hk_export(segment.as_ptr(), segment.len(), file.as_mut_ptr(), file.len(), &mut length, &mut passed)
     };
     (answer, length, passed)
+}
+
+/// The answer, and 1 where the mirror is cleared.
+pub(crate) fn cleared(segment: &[u8], mirror: u64, rows: u64, edition: u64) -> (u64, u64) {
+    let mut cleared = 0;
+    let answer = unsafe { hk_cleared(segment.as_ptr(), segment.len(), mirror, rows, edition, &mut cleared) };
+    (answer, cleared)
+}
+
+/// The answer; where it is 0, the first 1,024 words have a bit for each reading, 1 where it is whole.
+pub(crate) fn whole_readings(segment: &[u8], mirror: u64, rows: u64, words: &mut [u64]) -> u64 {
+    unsafe {
+        hk_whole_readings(segment.as_ptr(), segment.len(), mirror, rows, words.as_mut_ptr(), words.len())
+    }
 }

@@ -44,6 +44,10 @@
 //! [`SlottedPageSegment::import`] stores the records of one; `examples/export.rs` and `examples/import.rs`
 //! do so for stores in files.
 //!
+//! [`SlottedPages::cleared`] tells whether a mirror is cleared for polishing by its readings, after edition 1
+//! or 2 of the rule sheet, and [`SlottedPages::whole_readings`] why; `examples/cleared.rs` asks it of stores
+//! in files.
+//!
 //! After a crash, [`SlottedPageSegment::repair`] makes a store sound again, keeps what can be kept and
 //! tells what it touched; `examples/repair.rs` does so to a store in a file.
 //!

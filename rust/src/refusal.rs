@@ -11,8 +11,9 @@ use std::fmt;
 ///
 /// Where several hold, the one given is the first in this order: 1, 10, 3, 2, 4 (the id's page), 5,
 /// 6, 4 (the page it is forwarded to), 7, 4 (the new page), 8; of a fill report 1, 4 (any page), 9; of
-/// an export 1, 4 (any page), 11; and of an import 1, then for each record of the file in its turn 13,
-/// 12, 3, 13, and then each insert's own. Further numbers may be added.
+/// an export 1, 4 (any page), 11; of the polishing rule 1, 14, 4 (any page); and of an import 1, then
+/// for each record of the file in its turn 13, 12, 3, 13, and then each insert's own. Further numbers
+/// may be added.
 #[derive(Debug, Clone, Copy, PartialEq, Eq, Hash)]
 #[non_exhaustive]
 pub enum Refusal {
@@ -43,6 +44,8 @@ pub enum Refusal {
     Mark = 12,
     /// The file ends within a record.
     Short = 13,
+    /// The polishing rule has editions 1 and 2 and no other, and readings of 1 to 2,048 rows.
+    Rule = 14,
 }
 
 impl Refusal {
@@ -61,6 +64,7 @@ impl Refusal {
         Refusal::Room,
         Refusal::Mark,
         Refusal::Short,
+        Refusal::Rule,
     ];
 
     /// The number in the table of answers.
@@ -84,6 +88,7 @@ impl Refusal {
             11 => Refusal::Room,
             12 => Refusal::Mark,
             13 => Refusal::Short,
+            14 => Refusal::Rule,
             _ => return None,
         })
     }
@@ -104,6 +109,7 @@ impl Refusal {
             Refusal::Room => "ROOM",
             Refusal::Mark => "MARK",
             Refusal::Short => "SHORT",
+            Refusal::Rule => "RULE",
         }
     }
 
@@ -122,11 +128,12 @@ impl Refusal {
             Refusal::Room => "what is to be written does not fit in the place lent for it",
             Refusal::Mark => "a record of the file does not begin with 52 54",
             Refusal::Short => "the file ends within a record",
+            Refusal::Rule => "another edition than 1 and 2, or rows outside 1 to 2,048",
         }
     }
 
-    /// What a call's number means. The archive answers 0 to 8, 9 to a fill report, 10 to a list of rows, 11 to an export or a
-    /// repair, and 12 and 13 to an import; that is proved.
+    /// What a call's number means. The archive answers 0 to 8, 9 to a fill report, 10 to a list of rows, 11 to an export, a
+    /// repair or a list of whole readings, 12 and 13 to an import, and 14 to the polishing rule; that is proved.
     pub(crate) fn of_answer(number: u64) -> Result<(), Refusal> {
         if number == 0 {
             return Ok(());

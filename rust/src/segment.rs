@@ -140,6 +140,69 @@ impl<'a> SlottedPages<'a> {
         let (answer, length, passed) = archive::export(self.segment, &mut []);
         Exported::of_answer((if answer == Refusal::Room.number() { 0 } else { answer }, length, passed))
     }
+
+    /// Whether a mirror is cleared for polishing, by its readings of so many rows and an edition of the rule sheet.
+    ///
+    /// A reading is whole when each row from 0 to `rows - 1` is there once and no other. Edition 1: at least two whole readings.
+    /// Edition 2: at least three, of which at least one is numbered below 32,768 (as mounted) and one from there on (turned).
+    /// The answer is `true` exactly then; [`whole_readings`](SlottedPages::whole_readings) tells why. Nothing is allocated.
+    ///
+    /// Judged are the readings, the records of 8 bytes or more, as [`SlottedPageSegment::import`] stores them: mirror (4 bytes),
+    /// reading (2), row (2). Their data plays no part, and a shorter record neither helps nor spoils. A row that is there
+    /// twice spoils its reading, with equal data too. A forwarded record counts where it lies, and no redirect is followed.
+    ///
+    /// A segment of a wrong size is refused by [`Refusal::Size`], then another edition, or rows outside 1 to 2,048, by
+    /// [`Refusal::Rule`], and then a damaged page by [`Refusal::Damaged`], also where the other pages would clear the
+    /// mirror.
+    ///
+    /// ```
+    /// use hekatosuy::{Refusal, SlottedPageSegment, PAGE_SIZE};
+    ///
+    /// let (mut pages, mut inventory) = (vec![0; PAGE_SIZE], vec![0; PAGE_SIZE]);
+    /// let mut segment = SlottedPageSegment::new(&mut pages, &mut inventory);
+    ///
+    /// // Mirror 7, of two rows: reading 1 as mounted, and 32,768 (80 00), turned.
+    /// for [reading, row] in [[0x00_01_u16, 0], [0x00_01, 1], [0x80_00, 1], [0x80_00, 0]] {
+    ///     let head = [&7_u32.to_be_bytes()[..], &reading.to_be_bytes(), &row.to_be_bytes()].concat();
+    ///     segment.insert_record(&head)?;
+    /// }
+    /// assert_eq!(segment.pages().cleared(7, 2, 1), Ok(true));
+    /// assert_eq!(segment.pages().cleared(7, 2, 2), Ok(false)); // two are too few
+    /// assert_eq!(segment.pages().cleared(7, 3, 1), Ok(false)); // the third row is missing
+    /// assert_eq!(segment.pages().cleared(7, 2, 3), Err(Refusal::Rule));
+    ///
+    /// // Row 1 of reading 1 once more: it is spoiled.
+    /// segment.insert_record(&[0, 0, 0, 7, 0, 1, 0, 1])?;
+    /// assert_eq!(segment.pages().cleared(7, 2, 1), Ok(false));
+    /// # Ok::<(), Refusal>(())
+    /// ```
+    pub fn cleared(&self, mirror: u32, rows: u64, edition: u64) -> Result<bool, Refusal> {
+        let (answer, cleared) = archive::cleared(self.segment, mirror.into(), rows, edition);
+        Refusal::of_answer(answer).map(|()| cleared == 1)
+    }
+
+    /// The numbers of the readings of a mirror that are whole, upward: why it is [`cleared`](SlottedPages::cleared) or not.
+    ///
+    /// The refusals are those of [`cleared`](SlottedPages::cleared); there is no edition here.
+    ///
+    /// ```
+    /// # use hekatosuy::{SlottedPageSegment, PAGE_SIZE};
+    /// # let (mut pages, mut inventory) = (vec![0; PAGE_SIZE], vec![0; PAGE_SIZE]);
+    /// # let mut segment = SlottedPageSegment::new(&mut pages, &mut inventory);
+    /// # segment.insert_record(&[0, 0, 0, 7, 0, 1, 0, 0])?;
+    /// # segment.insert_record(&[0, 0, 0, 7, 0x80, 1, 0, 0])?;
+    /// # segment.insert_record(&[0, 0, 0, 7, 0x80, 2, 0, 1])?;
+    /// let whole = segment.pages().whole_readings(7, 1)?;
+    /// assert_eq!(whole, [1, 32_769]);
+    /// assert_eq!(segment.pages().cleared(7, 1, 1)?, whole.len() >= 2);
+    /// # Ok::<(), hekatosuy::Refusal>(())
+    /// ```
+    pub fn whole_readings(&self, mirror: u32, rows: u64) -> Result<Vec<u16>, Refusal> {
+        let mut words = [0; 1024];
+        Refusal::of_answer(archive::whole_readings(self.segment, mirror.into(), rows, &mut words))?;
+        let some = words.iter().copied().enumerate().filter(|&(_, word)| word != 0);
+        Ok(some.flat_map(readings_of).collect())
+    }
 }
 
 /// The scan.
@@ -406,6 +469,11 @@ impl fmt::Debug for SlottedPageSegment<'_> {
             .field("inventory", &Bytes(self.inventory))
             .finish()
     }
+}
+
+/// The readings whose bits are 1 in a word: bit r % 64 of word r / 64 tells of reading r.
+fn readings_of((number, word): (usize, u64)) -> impl Iterator<Item = u16> {
+    (0..64).filter(move |bit| word >> bit & 1 == 1).map(move |bit| (64 * number + bit) as u16)
 }
 
 fn new_record((answer, id): (u64, u64)) -> Result<Rid, Refusal> {

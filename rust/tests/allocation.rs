@@ -1,5 +1,5 @@
-//! Many rows in one call take no memory, neither where all go in nor where the call stops; a fill report takes none, and neither do an import
-//! and an export.
+//! Many rows in one call take no memory, neither where all go in nor where the call stops; a fill report takes none, and neither do an import,
+//! an export and the polishing rule.
 
 use hekatosuy::{Exported, Refusal, Rid, SlottedPageSegment, Stopped, Tally, PAGE_SIZE};
 use std::alloc::{GlobalAlloc, Layout, System};
@@ -71,4 +71,15 @@ fn import_and_export_take_no_memory() {
     assert_eq!(taken(|| assert_eq!(segment.pages().exported(), Ok(whole))), 0);
     assert_eq!(taken(|| assert_eq!(segment.pages().export(&mut place), Ok(whole))), 0);
     assert_eq!(taken(|| assert_eq!(segment.pages().export(&mut place[..99]), Err(Refusal::Room))), 0);
+}
+
+#[test]
+fn the_polishing_rule_takes_no_memory() {
+    let (mut pages, mut inventory) = (vec![0; PAGE_SIZE], vec![0; PAGE_SIZE]);
+    let mut segment = SlottedPageSegment::new(&mut pages, &mut inventory);
+    assert!(segment.insert_record(&[0, 0, 0, 7, 0, 1, 0, 0]).is_ok());
+    assert!(segment.insert_record(&[0, 0, 0, 7, 0x80, 1, 0, 0]).is_ok());
+    assert_eq!(taken(|| assert_eq!(segment.pages().cleared(7, 1, 1), Ok(true))), 0);
+    assert_eq!(taken(|| assert_eq!(segment.pages().cleared(7, 1, 2), Ok(false))), 0);
+    assert_eq!(taken(|| assert_eq!(segment.pages().cleared(7, 1, 3), Err(Refusal::Rule))), 0);
 }

@@ -366,7 +366,7 @@ fn ids_and_refusals_as_numbers_and_words() {
     assert_eq!((id(2, 5).page_id(), id(2, 5).slot_id(), id(2, 5).to_string()), (2, 5, "(2,5)".to_string()));
     assert_eq!(id(u64::MAX, 1).page_id(), (1 << 48) - 1);
     let names = [
-        "SIZE", "NOPAGE", "LONG", "DAMAGED", "NONE", "FORWARDED", "FULL", "STALE", "TALLY", "LIST", "ROOM", "MARK", "SHORT",
+        "SIZE", "NOPAGE", "LONG", "DAMAGED", "NONE", "FORWARDED", "FULL", "STALE", "TALLY", "LIST", "ROOM", "MARK", "SHORT", "RULE",
     ];
     for (&refusal, (number, name)) in Refusal::ALL.iter().zip((1..).zip(names)) {
         assert_eq!((refusal.number(), refusal.name()), (number, name));
@@ -374,7 +374,7 @@ fn ids_and_refusals_as_numbers_and_words() {
         assert!(refusal.to_string().starts_with(&format!("{number} {name}: ")));
     }
     assert_eq!(Refusal::ALL.len(), names.len());
-    for none in [0, 14, 15, u64::MAX] {
+    for none in [0, 15, 16, u64::MAX] {
         assert_eq!(Refusal::from_number(none), None);
     }
     assert_eq!((format!("{:?}", id(2, 5)), format!("{:?}", Refusal::None)), ("Rid(2,5)".to_string(), "None".to_string()));

@@ -1,7 +1,9 @@
 //! The crate `hekatosuy` as a store that the judge can compare.
 
 use hekatosuy::{Refusal, Rid, SlottedPageSegment, SlottedPages};
+use judge::clearings::Polishing;
 use judge::exchanges::Exchange;
+use judge::mirrors::Asked;
 use std::ops::Range;
 use std::{env, thread};
 use store::{Answer, Found, Store, DONE};
@@ -47,6 +49,8 @@ extern "C" {
         length: *mut u64,
         passed: *mut u64,
     ) -> u64;
+    fn hk_cleared(segment: *const u8, segment_len: usize, mirror: u64, rows: u64, edition: u64, cleared: *mut u64) -> u64;
+    fn hk_whole_readings(segment: *const u8, segment_len: usize, mirror: u64, rows: u64, words: *mut u64, words_len: usize) -> u64;
 }
 
 /// Answer and rows told of an insert of many rows, which stand end to end, into any bytes.
@@ -70,7 +74,7 @@ pub fn insert_records(segment: &mut [u8], inventory: &mut [u8], rows: &[u8], len
     (answer, inserted)
 }
 
-/// What stands before and behind a tally.
+/// What stands before and behind a tally, and words.
 const KEPT: u64 = 0x7777_7777_7777_7777;
 
 /// The answer to a fill report over any bytes. The words beside the tally must stay.
@@ -116,7 +120,25 @@ pub fn export(segment: &[u8], place: &mut [u8]) -> (u64, u64, u64) {
     (answer, length, passed)
 }
 
-/// The archive's import and export, as the judge takes them.
+/// Answer to a question about any bytes, and whether the mirror is cleared.
+pub fn cleared(segment: &[u8], asked: Asked) -> (u64, u64) {
+    let mut cleared = u64::MAX;
+    let answer = unsafe { hk_cleared(segment.as_ptr(), segment.len(), asked.mirror, asked.rows, asked.edition, &mut cleared) };
+    (answer, cleared)
+}
+
+/// Answer to a list of whole readings of any bytes. The words beside those that are lent must stay.
+pub fn whole_readings(segment: &[u8], asked: Asked, words: &mut [u64]) -> u64 {
+    let mut lent = [&[KEPT][..], words, &[KEPT]].concat();
+    let answer = unsafe {
+        hk_whole_readings(segment.as_ptr(), segment.len(), asked.mirror, asked.rows, lent[1..].as_mut_ptr(), words.len())
+    };
+    words.copy_from_slice(&lent[1..=words.len()]);
+    assert_eq!((lent[0], lent[words.len() + 1]), (KEPT, KEPT), "a word beside those that are lent is written");
+    answer
+}
+
+/// The archive's import, export and polishing rule, as the judge takes them.
 pub struct Archive;
 
 impl Exchange for Archive {
@@ -126,6 +148,16 @@ impl Exchange for Archive {
 
     fn export(&self, segment: &[u8], place: &mut [u8]) -> (u64, u64, u64) {
         export(segment, place)
+    }
+}
+
+impl Polishing for Archive {
+    fn cleared(&self, segment: &[u8], asked: Asked) -> (u64, u64) {
+        cleared(segment, asked)
+    }
+
+    fn whole_readings(&self, segment: &[u8], asked: Asked, words: &mut [u64]) -> u64 {
+        whole_readings(segment, asked, words)
     }
 }
 
