@@ -1,6 +1,6 @@
 /*
  * The calls from C: document 01's cases of the segment, refusals of each kind, the scan, many rows in one call, the fill report, the
- * exchange file, repair.
+ * exchange file, the polishing rule, repair.
  * Prints one line a case, and what differs.
  */
 #include "hekatosuy.h"
@@ -30,11 +30,11 @@ static void begin(size_t pages) {
     memset(segment, 0, sizeof segment);
     memset(inventory, 0, sizeof inventory);
     segment_length = pages * PAGE;
-    faults_before = faults;
 }
 
 static void end(const char *name) {
     printf("%s: %s\n", name, faults == faults_before ? "ok" : "FAILED");
+    faults_before = faults;
 }
 
 static void keep_old(void) {
@@ -688,6 +688,157 @@ static void exported_forwarded(void) {
     end("export: a forwarded record, and the file imported");
 }
 
+/* A record of 9 bytes, of mirror 7. */
+static void put_row(unsigned reading, unsigned row) {
+    const uint8_t bytes[] = {0, 0, 0, 7, (uint8_t)(reading >> 8), (uint8_t)reading, (uint8_t)(row >> 8), (uint8_t)row, 0xDD};
+    uint64_t id;
+    expect("a row", hk_insert_record(segment, segment_length, inventory, PAGE, bytes, sizeof bytes, &id), HK_DONE);
+}
+
+static void put_rows(unsigned reading, unsigned first, unsigned second) {
+    put_row(reading, first);
+    put_row(reading, second);
+}
+
+/* Whether the mirror is cleared, with a word on either side that must stay. */
+static void clear(uint64_t mirror, uint64_t rows, uint64_t edition, uint64_t answer, uint64_t cleared) {
+    uint64_t told[3] = {77, 77, 77};
+    keep_old();
+    expect("cleared or not", hk_cleared(segment, segment_length, mirror, rows, edition, told + 1), answer);
+    expect("cleared", told[1], cleared);
+    expect("the word before", told[0], 77);
+    expect("the word behind", told[2], 77);
+    expect("a question changed the segment", memcmp(old_segment, segment, sizeof segment) != 0, 0);
+}
+
+enum { READING_WORDS = 1024 };
+
+/* The whole readings, lent so many words: these bits of these words with 0, and no word written else. */
+static void list_whole(uint64_t mirror, uint64_t rows, size_t length, uint64_t answer, size_t first, uint64_t first_bits, size_t second,
+                       uint64_t second_bits) {
+    static uint64_t words[1 + READING_WORDS + 3];
+    for (size_t k = 0; k < sizeof words / 8; k++) words[k] = 77;
+    expect("whole readings", hk_whole_readings(segment, segment_length, mirror, rows, words + 1, length), answer);
+    for (size_t k = 0; k < READING_WORDS; k++)
+        expect("a word", words[1 + k], answer != HK_DONE ? 77 : (k == first ? first_bits : 0) | (k == second ? second_bits : 0));
+    expect("the word before", words[0], 77);
+    for (size_t k = 1 + READING_WORDS; k < sizeof words / 8; k++) expect("a word behind", words[k], 77);
+}
+
+/* Two readings of two rows, and the same of other rows and by edition 2. */
+static void two_readings(void) {
+    begin(2);
+    put_rows(1, 0, 1);
+    put_rows(2, 1, 0);
+    clear(7, 2, 1, HK_DONE, 1);
+    clear(7, 2, 2, HK_DONE, 0);
+    clear(7, 1, 1, HK_DONE, 0);
+    clear(7, 3, 1, HK_DONE, 0);
+    clear(((uint64_t)1 << 32) + 7, 2, 1, HK_DONE, 0);
+    list_whole(7, 2, READING_WORDS, HK_DONE, 0, 6, 0, 0);
+    list_whole(7, 2, READING_WORDS + 3, HK_DONE, 0, 6, 0, 0);
+    list_whole(7, 2, READING_WORDS - 1, HK_ROOM, 0, 0, 0, 0);
+    list_whole(7, 2, 0, HK_ROOM, 0, 0, 0, 0);
+    list_whole(7, 1, READING_WORDS, HK_DONE, 0, 0, 0, 0);
+    list_whole(7, 3, READING_WORDS, HK_DONE, 0, 0, 0, 0);
+    list_whole(((uint64_t)1 << 32) + 7, 2, READING_WORDS, HK_DONE, 0, 0, 0, 0);
+    end("polishing: two readings of two rows, by both editions, of other rows and of another mirror");
+}
+
+static void rows_twice(void) {
+    begin(1);
+    put_rows(1, 0, 1);
+    put_rows(2, 0, 1);
+    put_row(2, 0);
+    clear(7, 2, 1, HK_DONE, 0);
+    list_whole(7, 2, READING_WORDS, HK_DONE, 0, 2, 0, 0);
+    begin(1);
+    put_rows(1, 0, 1);
+    put_rows(2, 0, 0);
+    clear(7, 2, 1, HK_DONE, 0);
+    list_whole(7, 2, READING_WORDS, HK_DONE, 0, 2, 0, 0);
+    begin(1);
+    put_rows(1, 0, 1);
+    put_rows(2, 0, 1);
+    put_row(2, 1);
+    clear(7, 2, 1, HK_DONE, 0);
+    erase(id_of(0, 4), HK_DONE);
+    clear(7, 2, 1, HK_DONE, 1);
+    list_whole(7, 2, READING_WORDS, HK_DONE, 0, 6, 0, 0);
+    end("polishing: a row twice, one missing, and one erased");
+}
+
+/* Readings of one row each, by edition 2. */
+static void sides(const unsigned *readings, size_t count, uint64_t cleared, size_t first, uint64_t first_bits, size_t second,
+                  uint64_t second_bits) {
+    begin(1);
+    for (size_t k = 0; k < count; k++) put_row(readings[k], 0);
+    clear(7, 1, 2, HK_DONE, cleared);
+    clear(7, 1, 1, HK_DONE, 1);
+    list_whole(7, 1, READING_WORDS, HK_DONE, first, first_bits, second, second_bits);
+}
+
+static void both_sides(void) {
+    const unsigned mounted[] = {1, 2, 3}, half[] = {1, 32767, 32768}, turned[] = {32768, 32769, 65535}, two[] = {1, 2, 32768, 32769};
+    const uint64_t last = (uint64_t)1 << 63;
+    sides(mounted, 3, 0, 0, 14, 0, 0);
+    sides(half + 1, 2, 0, 511, last, 512, 1);
+    sides(turned, 3, 0, 512, 3, 1023, last);
+    sides(two, 4, 1, 0, 6, 512, 3);
+    begin(1);
+    for (size_t k = 0; k < 3; k++) put_row(half[k], 0);
+    clear(7, 1, 2, HK_DONE, 1);
+    begin(1);
+    put_row(1, 0);
+    put_row(32768, 0);
+    clear(7, 1, 2, HK_DONE, 0);
+    list_whole(7, 1, READING_WORDS, HK_DONE, 0, 2, 512, 1);
+    end("polishing: as mounted and turned");
+}
+
+/* "as 13, edition 3; or rows 0; or rows 2,049", and numbers that fewer bits would make right ones. */
+static void no_rule(void) {
+    const uint64_t wide = (uint64_t)1 << 32;
+    begin(2);
+    put_rows(1, 0, 1);
+    put_rows(2, 1, 0);
+    segment[PAGE + 1] = 1;
+    clear(7, 2, 1, HK_DAMAGED, 0);
+    list_whole(7, 2, READING_WORDS, HK_DAMAGED, 0, 0, 0, 0);
+    list_whole(7, 2, 0, HK_DAMAGED, 0, 0, 0, 0);
+    clear(7, 2, 3, HK_RULE, 0);
+    clear(7, 2, 0, HK_RULE, 0);
+    clear(7, 2, wide + 1, HK_RULE, 0);
+    clear(7, 0, 1, HK_RULE, 0);
+    clear(7, 2049, 1, HK_RULE, 0);
+    clear(7, wide + 2, 1, HK_RULE, 0);
+    list_whole(7, 0, READING_WORDS, HK_RULE, 0, 0, 0, 0);
+    list_whole(7, 2049, 0, HK_RULE, 0, 0, 0, 0);
+    list_whole(7, wide + 2, READING_WORDS, HK_RULE, 0, 0, 0, 0);
+    segment_length = PAGE - 1;
+    clear(7, 2, 3, HK_SIZE, 0);
+    clear(7, 0, 1, HK_SIZE, 0);
+    list_whole(7, 2, READING_WORDS, HK_SIZE, 0, 0, 0, 0);
+    list_whole(7, 0, 0, HK_SIZE, 0, 0, 0, 0);
+    segment_length = 0;
+    clear(7, 1, 1, HK_DONE, 0);
+    clear(7, 2048, 2, HK_DONE, 0);
+    list_whole(7, 1, READING_WORDS, HK_DONE, 0, 0, 0, 0);
+    end("polishing: a damaged page, other editions and rows, and sizes");
+}
+
+static void seven_bytes(void) {
+    const uint8_t seven[] = {0, 0, 0, 7, 0, 1, 0};
+    uint64_t id;
+    begin(1);
+    put_row(1, 0);
+    put_row(2, 0);
+    expect("seven bytes", hk_insert_record(segment, segment_length, inventory, PAGE, seven, sizeof seven, &id), HK_DONE);
+    clear(7, 1, 1, HK_DONE, 1);
+    list_whole(7, 1, READING_WORDS, HK_DONE, 0, 6, 0, 0);
+    end("polishing: a record of seven bytes");
+}
+
 enum { WORDS = 3 * (2047 * PAGES + 1) };
 
 static uint64_t entries[WORDS];
@@ -817,6 +968,10 @@ static void widest(void) {
     expect("the file's length", id, sizeof file_b);
     expect("the file differs", memcmp(record, file_b, sizeof file_b) != 0, 0);
     expect("three bytes passed over", passed, 1);
+    expect("one page too many", hk_cleared(pages, whole + PAGE, 7, 4, 1, &id), HK_SIZE);
+    expect("not cleared", id, 0);
+    expect("the most pages, asked", hk_cleared(pages, whole, 7, 4, 1, &id), HK_DONE);
+    expect("not cleared", id, 0);
     expect("the most pages, checked", hk_repair(pages, whole, inventory, PAGE, entries, 0, &id), HK_DONE);
     pages[whole - PAGE] = 0xFF;
     expect("the last page damaged", hk_repair(pages, whole, inventory, PAGE, entries, WORDS, &id), HK_DONE);
@@ -864,6 +1019,11 @@ int main(void) {
     import_refused();
     exported();
     exported_forwarded();
+    two_readings();
+    rows_twice();
+    both_sides();
+    no_rule();
+    seven_bytes();
     overlapped();
     lost_pages();
     back_id_changed();
