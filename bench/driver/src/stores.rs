@@ -112,6 +112,9 @@ pub trait Lists: Held {
 }
 
 #[cfg(feature = "ours")]
+pub use ours::scan;
+
+#[cfg(feature = "ours")]
 mod ours {
     use super::{fold, Held, Lists, Nothing, Ours};
     use hekatosuy::{Refusal, Rid, SlottedPageSegment, SlottedPages};
@@ -174,6 +177,39 @@ mod ours {
                 }
             }
             sum
+        }
+    }
+
+    extern "C" {
+        fn hk_scan_step(
+            segment: *const u8,
+            segment_len: usize,
+            position: *mut u64,
+            found: *mut u64,
+            id: *mut u64,
+            offset: *mut u64,
+            length: *mut u64,
+        ) -> u64;
+    }
+
+    /// How many records a scan by the archive's own step gives, not through the crate's iterator, and their bytes; nothing where it is
+    /// refused.
+    #[inline(never)]
+    pub fn scan(segment: &[u8]) -> Option<(u64, u64)> {
+        let (mut position, mut found, mut id, mut offset, mut length) = (0, 0, 0, 0, 0);
+        let (mut records, mut bytes) = (0, 0);
+        loop {
+            let answer = unsafe {
+                hk_scan_step(segment.as_ptr(), segment.len(), &mut position, &mut found, &mut id, &mut offset, &mut length)
+            };
+            if answer != 0 {
+                return None;
+            }
+            if found == 0 {
+                return Some((records, bytes));
+            }
+            records += 1;
+            bytes += length;
         }
     }
 

@@ -4,6 +4,7 @@
 //! these tell; `count` makes one or two reports or scans, so that what two take less what one takes is a
 //! report or a scan.
 
+use driver::stores::scan;
 use hekatosuy::{Refusal, SlottedPages, Tally};
 use std::hint::black_box;
 use std::path::Path;
@@ -16,38 +17,6 @@ const USAGE: &str = "report check PLAN | report count report|scan PLAN UNITS";
 fn report(segment: &[u8]) -> Result<Tally, Refusal> {
     let mut tally = Tally::default();
     SlottedPages::new(segment).fill_report(&mut tally).map(|()| tally)
-}
-
-extern "C" {
-    fn hk_scan_step(
-        segment: *const u8,
-        segment_len: usize,
-        position: *mut u64,
-        found: *mut u64,
-        id: *mut u64,
-        offset: *mut u64,
-        length: *mut u64,
-    ) -> u64;
-}
-
-/// How many records a scan gives, and their bytes; nothing where it is refused.
-#[inline(never)]
-fn scan(segment: &[u8]) -> Option<(u64, u64)> {
-    let (mut position, mut found, mut id, mut offset, mut length) = (0, 0, 0, 0, 0);
-    let (mut records, mut bytes) = (0, 0);
-    loop {
-        let answer = unsafe {
-            hk_scan_step(segment.as_ptr(), segment.len(), &mut position, &mut found, &mut id, &mut offset, &mut length)
-        };
-        if answer != 0 {
-            return None;
-        }
-        if found == 0 {
-            return Some((records, bytes));
-        }
-        records += 1;
-        bytes += length;
-    }
 }
 
 fn check(segment: &[u8]) -> Result<(), String> {

@@ -36,7 +36,7 @@ fn depth(call: &mut dyn FnMut() -> bool) -> usize {
     top + MARGIN - lowest.unwrap_or(top)
 }
 
-const CALLS: [&str; 12] = [
+const CALLS: [&str; 14] = [
     "insert_record",
     "allocate",
     "get_record",
@@ -49,6 +49,8 @@ const CALLS: [&str; 12] = [
     "fill_report",
     "import",
     "export",
+    "cleared",
+    "whole_readings",
 ];
 
 struct Lent {
@@ -112,9 +114,33 @@ impl Lent {
         depth(&mut || SlottedPages::new(&self.segment).export(&mut place).is_ok())
     }
 
+    /// The mirror of the first reading, any where there is none.
+    fn mirror(&self) -> u32 {
+        let mut records = SlottedPages::new(&self.segment).scan().flatten();
+        records.find_map(|(_, record)| record.first_chunk().copied()).map_or(7, u32::from_be_bytes)
+    }
+
+    fn cleared(&self) -> usize {
+        let mirror = self.mirror();
+        depth(&mut || SlottedPages::new(&self.segment).cleared(mirror, 2048, 2).is_ok())
+    }
+
+    fn whole_readings(&self) -> usize {
+        let mirror = self.mirror();
+        depth(&mut || SlottedPages::new(&self.segment).whole_readings(mirror, 2048).is_ok())
+    }
+
     fn fill_report(&self) -> usize {
         let mut tally = Tally::default();
         depth(&mut || SlottedPages::new(&self.segment).fill_report(&mut tally).is_ok())
+    }
+
+    /// The calls that read all pages.
+    fn read_all(&self, most: &mut [usize; CALLS.len()]) {
+        most[9] = most[9].max(self.fill_report());
+        most[11] = most[11].max(self.export());
+        most[12] = most[12].max(self.cleared());
+        most[13] = most[13].max(self.whole_readings());
     }
 
     /// The deepest of the first steps.
@@ -138,15 +164,13 @@ fn run(seed: u64, most: &mut [usize; CALLS.len()]) {
                 let (kind, depth) = lent.call(call);
                 most[kind] = most[kind].max(depth);
                 if call == Call::Scan {
-                    most[9] = most[9].max(lent.fill_report());
-                    most[11] = most[11].max(lent.export());
+                    lent.read_all(most);
                 }
             }
             Event::Pokes(pokes) => {
                 pokes.iter().for_each(|poke| poke.apply(&mut lent.segment, &mut lent.inventory));
                 most[7] = most[7].max(lent.repair());
-                most[9] = most[9].max(lent.fill_report());
-                most[11] = most[11].max(lent.export());
+                lent.read_all(most);
             }
         }
     }
