@@ -58,7 +58,7 @@ fn window_word(segment: &[u8], marked: &[u8], mirror: usize, rows: usize, w: usi
     rows::whole_in(segment, wanted)
 }
 
-// The readings of one window more. "a window lies on one side"
+// The readings of one window more, which lies on one side.
 fn with_window(c: Counts, w: usize, word: usize) -> Counts
     requires { ⌜ (c .mounted ≤ 64 * 1024) × (c .turned ≤ 64 * 1024) ⌝ }
     ensures { λ r. ⌜ WithWindow c w (ones word) r ⌝ }

@@ -7,6 +7,7 @@ use crate::mirrors::{case, packed, shuffle, Asked, Case, Head};
 use crate::misjudged::{Broken, SLIPS};
 use crate::polishing_examples::{record, Call, Example, EXAMPLES};
 use crate::random::Random;
+use crate::slips::check_noticed;
 use crate::soundness::has_sound_forwarding;
 use model::page::{self, slot, Kind};
 use model::{exchange, polishing, Model};
@@ -582,18 +583,11 @@ pub fn check_sizes(polishing: &dyn Polishing) -> Result<(), String> {
     Ok(())
 }
 
-/// Each broken rule must be noticed by the generated cases alone; how many the worked examples notice. Without a slip it is not broken.
+/// Each broken rule must be noticed by the generated cases alone; how many the worked examples notice.
 fn check_slips() -> Result<usize, String> {
-    let mut by_examples = 0;
-    (1..=100).try_for_each(|seed| check_case(&Broken(None), &case(seed), seed).map(|_| ()))?;
-    for &slip in SLIPS {
-        let broken = Broken(Some(slip));
-        by_examples += check_examples(&broken).is_err() as usize;
-        if !(1..=1000).any(|seed| check_case(&broken, &case(seed), seed).is_err()) {
-            return Err(format!("a broken rule is not noticed: {slip:?}"));
-        }
-    }
-    Ok(by_examples)
+    let examples = |slip| check_examples(&Broken(slip)).map(drop);
+    let generated = |slip, seed| check_case(&Broken(slip), &case(seed), seed).map(drop);
+    check_noticed(SLIPS, 1000, examples, generated)
 }
 
 /// The examples, and so many segments; an error also where something was never met, or a broken rule is not noticed.

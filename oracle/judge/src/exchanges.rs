@@ -5,7 +5,7 @@ use crate::exchange_examples::{exports, imports, Call, Export, Import, KEPT};
 use crate::files::{case, of_records, written, Case, Fault, Made};
 use crate::fills::unseen;
 use crate::random::Random;
-use crate::slips::{Broken, SLIPS};
+use crate::slips::{check_noticed, Broken, SLIPS};
 use crate::soundness::{has_sound_forwarding, has_true_inventory, is_sound};
 use model::page::{self, slot, Kind};
 use model::rows::insert_records;
@@ -594,18 +594,11 @@ pub fn check_sizes(exchange: &dyn Exchange) -> Result<(), String> {
     Ok(())
 }
 
-/// Each broken exchange must be noticed by the generated cases alone; how many the worked examples notice. Without a slip it is not broken.
+/// Each broken exchange must be noticed by the generated cases alone; how many the worked examples notice.
 fn check_slips() -> Result<usize, String> {
-    let mut by_examples = 0;
-    (1..=100).try_for_each(|seed| check_case(&Broken(None), &case(seed), seed).map(|_| ()))?;
-    for &slip in SLIPS {
-        let broken = Broken(Some(slip));
-        by_examples += check_examples(&broken).is_err() as usize;
-        if !(1..=600).any(|seed| check_case(&broken, &case(seed), seed).is_err()) {
-            return Err(format!("a broken exchange is not noticed: {slip:?}"));
-        }
-    }
-    Ok(by_examples)
+    let examples = |slip| check_examples(&Broken(slip)).map(drop);
+    let generated = |slip, seed| check_case(&Broken(slip), &case(seed), seed).map(drop);
+    check_noticed(SLIPS, 600, examples, generated)
 }
 
 /// The examples, and so many cases; an error also where something was never met, or a broken exchange is not noticed.

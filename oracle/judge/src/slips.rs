@@ -3,6 +3,7 @@
 use crate::exchanges::{is_segment, Exchange};
 use model::page::{self, slot, Kind};
 use model::Model;
+use std::fmt::Debug;
 use store::{Answer, Store, DONE, PAGE_SIZE};
 use Slip::*;
 
@@ -18,6 +19,25 @@ macro_rules! slips {
     };
 }
 pub(crate) use slips;
+
+/// Each slip must be noticed by the generated cases alone, up to this seed; how many the worked examples notice. Without a slip nothing is
+/// wrong.
+pub(crate) fn check_noticed<S: Copy + Debug>(
+    slips: &[S],
+    seeds: u64,
+    examples: impl Fn(Option<S>) -> Result<(), String>,
+    case: impl Fn(Option<S>, u64) -> Result<(), String>,
+) -> Result<usize, String> {
+    (1..=100).try_for_each(|seed| case(None, seed))?;
+    let mut by_examples = 0;
+    for &slip in slips {
+        by_examples += examples(Some(slip)).is_err() as usize;
+        if !(1..=seeds).any(|seed| case(Some(slip), seed).is_err()) {
+            return Err(format!("a slip is not noticed: {slip:?}"));
+        }
+    }
+    Ok(by_examples)
+}
 
 slips! {
     MarkTurnedRoundInImport,
