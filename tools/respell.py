@@ -111,7 +111,13 @@ def turn_words(t, names):
     return re.sub(rf"(?<![{LETTERS}-])[A-Za-z_][{LETTERS}]*(?:-[{LETTERS}]+)*", lambda m: names.get(m.group(), m.group()), t)
 
 
+def turned_in_code(names):
+    """A name that was in snake case already may be a function's of src/: it turns in .antt files alone."""
+    return {w: new for w, new in names.items() if CAMEL.match(w) or "-" in w}
+
+
 def turn_rt(t, names):
+    names = turned_in_code(names)
     lines = []
     for line in t.split("\n"):
         code, sign, comment = line.partition("//")
@@ -127,9 +133,9 @@ def main(check):
     for top, end, how in (
         ("crates", ".antt", lambda t, p: turn_antt(t, names, p.endswith("/Proof.antt"))),
         ("crates", ".rt", lambda t, p: turn_rt(t, names)),
-        ("crates", ".edit", lambda t, p: turn_words(t, names)),
-        ("tests", ".edit", lambda t, p: turn_words(t, names)),
-        ("docs", ".md", lambda t, p: SPAN.sub(lambda m: turn_words(m.group(), names), t)),
+        ("crates", ".edit", lambda t, p: turn_words(t, turned_in_code(names))),
+        ("tests", ".edit", lambda t, p: turn_words(t, turned_in_code(names))),
+        ("docs", ".md", lambda t, p: SPAN.sub(lambda m: turn_words(m.group(), turned_in_code(names)), t)),
     ):
         for p in files(end, top):
             old = read(p)

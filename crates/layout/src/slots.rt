@@ -76,7 +76,7 @@ pub fn write_slot(page: &mut [u8], k: usize, s: Slot)
     crate::put_u64(page, HEADER + ENTRY * k, e);
 }
 
-pub fn is_free_lem(s: Slot) -> bool
+pub fn is_free(s: Slot) -> bool
     ensures { result ≡ is_free s }
 {
     match s {

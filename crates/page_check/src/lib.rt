@@ -21,7 +21,7 @@ fn first_is_free(page: &[u8], n: usize, f: usize) -> bool
     if f == n {
         return true;
     }
-    layout::slots::is_free_lem(layout::slots::get_slot(page, f))
+    layout::slots::is_free(layout::slots::get_slot(page, f))
 }
 
 // "count at most 2,046", "12 + 8 × count ≤ data start ≤ 16,384", and the first free slot. It is asked for between the two bounds of data

@@ -16,7 +16,7 @@ fn next_free(page: &[u8], k: usize, c: usize) -> usize
     let mut i = k;
     while i < c {
         let s = layout::slots::get_slot(page, i);
-        if layout::slots::is_free_lem(s) {
+        if layout::slots::is_free(s) {
             return i;
         }
         i += 1;

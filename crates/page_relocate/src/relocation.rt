@@ -145,7 +145,7 @@ pub fn move_slot(page: &mut [u8], k: usize, size: usize) -> Place
         × (given_place result ≡ allotted (alloc_of k (relocate (view page.old) k size))) × Inside result size }
 {
     let s = layout::slots::get_slot(page, k);
-    if layout::slots::is_free_lem(s) {
+    if layout::slots::is_free(s) {
         return Place::NoRoom;
     }
     if layout::slots::is_record(s) {

@@ -12,7 +12,7 @@ use page_check::map::WORDS;
 use store::{BACK, ENTRY, HEADER, MOST_SLOTS, PAGE_SIZE, Slot};
 
 // Whether the record of an entry lies as it must on a page of c slots, whatever else lies there.
-fn lies_in_lem(c: usize, s: Slot) -> bool
+fn lies_in(c: usize, s: Slot) -> bool
     requires { (c ≤ 2046) × Codable s }
     ensures { result ≡ lies_in c s }
 {
@@ -42,7 +42,7 @@ fn judge_record(page: &[u8], c: usize, k: usize, used: &mut [usize]) -> u8
     if !layout::slots::is_record(s) {
         return 0;
     }
-    if !lies_in_lem(c, s) {
+    if !lies_in(c, s) {
         return 1;
     }
     let o = off_of(s);

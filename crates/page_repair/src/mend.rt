@@ -59,7 +59,7 @@ fn first_with(first: usize, k: usize, s: Slot) -> usize
     if first != k {
         return first;
     }
-    if layout::slots::is_free_lem(s) {
+    if layout::slots::is_free(s) {
         return first;
     }
     k + 1

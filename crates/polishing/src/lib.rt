@@ -139,7 +139,7 @@ pub fn whole_readings(segment: &[u8], mirror: u64, rows: usize, place: &mut [u64
     if !segment_pages::is_segment(segment) {
         return Listing::Size;
     }
-    if !rule::rows_named_lem(rows) {
+    if !rule::rows_named(rows) {
         return Listing::Rule;
     }
     let mut marked = [0u8; WINDOWS];

@@ -19,7 +19,7 @@ pub struct Counts {
 }
 
 // "rows outside 1 to 2,048"
-pub fn rows_named_lem(rows: usize) -> bool
+pub fn rows_named(rows: usize) -> bool
     ensures { result ≡ rows_named rows }
 {
     if rows < 1 {
@@ -41,7 +41,7 @@ pub fn is_named(rows: usize, edition: usize) -> bool
     if EDITIONS < edition {
         return false;
     }
-    rows_named_lem(rows)
+    rows_named(rows)
 }
 
 // "Edition 1: .. at least two readings are whole. Edition 2: at least three, of which one .. (as mounted) and one .. (turned)."

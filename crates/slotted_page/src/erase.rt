@@ -27,7 +27,7 @@ fn free_below(page: &[u8], k: usize) -> usize
     let mut j = k;
     while 0 < j {
         let s = layout::slots::get_slot(page, j - 1);
-        if layout::slots::is_free_lem(s) {
+        if layout::slots::is_free(s) {
             j -= 1;
         } else {
             return k - j;
