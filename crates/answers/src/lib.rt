@@ -1,4 +1,6 @@
 // "Answers by number": each answer's number as the documents have it, and what is told beside it.
+#![tactic(auto)]
+
 ghost use Rattle.std.specs.Prelude.{◌≡◌};
 ghost use Rattle.store.specs.Answers.{answer_no, answer_id, inserted_no, inserted_rows, reading_part, repair_no, repair_count, reported_no};
 ghost use Rattle.exchange.specs.Told.{imported_no, imported_records, exported_no, exported_length, exported_passed};

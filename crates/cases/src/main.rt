@@ -1,5 +1,7 @@
 // Document 01's numbers to meet that are not marked to be proved, and the examples of document 02's requests, on the calls as C has
 // them. What this prints is held to what the documents say, written by hand.
+#![tactic(auto)]
+
 mod headers;
 mod show;
 

@@ -1,5 +1,7 @@
 // The bench exchange file: "Benches pass readings by file." The mark and the form of a file are known here alone; what of a page is a
 // reading (`parts`), for crates above too.
+#![tactic(auto)]
+
 mod format;
 mod measure;
 pub mod parts;

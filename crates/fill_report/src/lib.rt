@@ -1,5 +1,7 @@
 // The fill report: "exact figures over any number of segments". A segment's figures are worked out by value and added to the tally that
 // is lent, where it stands; one that is refused adds nothing.
+#![tactic(auto)]
+
 mod page;
 mod sums;
 

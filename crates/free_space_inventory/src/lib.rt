@@ -1,5 +1,7 @@
 // The inventory of free space: a nibble for each page, and for each class the lowest page that suits. How long it is and how many
 // pages it counts is its caller's: it needs `Room` for them.
+#![tactic(auto)]
+
 ghost use Rattle.std.specs.Prelude.{◌≡◌, ◌+◌, ◌-◌, ◌*◌, ◌/◌, ◌<◌, ◌≤◌, length};
 ghost use Rattle.store.specs.Answers.{named_page};
 ghost use Rattle.store.specs.Inventory.{class_of, nibble_at, set_nibble, entry_at, set_entry, Room, found_in, run_end, next_page, set_from, pulled_back, update};

@@ -3,6 +3,8 @@
 //
 // A slice is a pointer and a length. What a call hands back beside its number it writes through a pointer to one u64; the fill
 // report, through a pointer to a tally.
+#![tactic(auto)]
+
 ghost use Rattle.std.specs.Prelude.{◌≡◌, cond, List, ℕ, ◌^◌, ◌<◌, eqb};
 ghost use Rattle.store.specs.Numbers.{id_of, page_no, slot_no};
 ghost use Rattle.store.specs.Segment.{insert_step, allocate_step, write_step, resize_step, erase_step, locate_step};

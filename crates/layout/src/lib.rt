@@ -1,4 +1,6 @@
 // The leaves: numbers at an offset, the slot codec and the header.
+#![tactic(auto)]
+
 pub mod header;
 pub mod little;
 pub mod slots;

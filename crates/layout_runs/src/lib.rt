@@ -1,4 +1,6 @@
 // Runs of bytes: copied in, saved, moved within a page, cleared.
+#![tactic(auto)]
+
 ghost use Rattle.std.specs.Prelude.{◌≡◌, ◌⊎◌, ◌+◌, ◌≤◌, length};
 ghost use Rattle.store.specs.Numbers.{cut, put, zeros, fit};
 

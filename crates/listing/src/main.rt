@@ -1,5 +1,7 @@
 // Lists the records of a segment of 0 to 3 whole pages on standard input, in the order of the scan: for each the page and the slot of
 // its id, and its length. Last comes `end` and the number of records, or `refused` and the answer's number.
+#![tactic(auto)]
+
 ghost use Rattle.std.specs.Prelude.{◌<◌};
 
 use print::{end_line, named};

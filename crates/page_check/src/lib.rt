@@ -1,5 +1,7 @@
 // Whether a page is sound, by document 01's "Sound page": the header, then every slot in one pass, then the free space. Each call
 // checks every page it touches, so this decides the store's speed: it takes time linear in the slots, and in the page's bytes by 64.
+#![tactic(auto)]
+
 pub mod map;
 mod slot;
 mod sweep;

@@ -1,4 +1,6 @@
 // Relocate: a record's place at another size, and its bytes there; a target's record.
+#![tactic(auto)]
+
 pub mod record;
 pub mod relocate;
 pub mod relocation;

@@ -1,5 +1,7 @@
 // The polishing rule: "cleared when ..", exactly then, by the readings that are whole. All pages are checked before an answer is given, and every
 // doubt is a no.
+#![tactic(auto)]
+
 mod heads;
 mod rows;
 mod rule;

@@ -1,6 +1,8 @@
 // What the programs print with, to standard output. Of output the contracts say what those of io do: each function is safe and ends,
 // given that each call of C's `write` returns. No contract can say what is written: that is seen by running a program, which is held to
 // its file `stdout`. A `write` that fails is passed over.
+#![tactic(auto)]
+
 ghost use Rattle.std.specs.Prelude.{◌≡◌, ◌≤◌, min};
 
 use libc::STDOUT_FILENO;

@@ -1,4 +1,6 @@
 // The entries of a repair in words, one a line. Of output the contracts say what those of `print` do: each function is safe and ends.
+#![tactic(auto)]
+
 use print::{end_line, named, say};
 use store::{AT_HEADER, AT_INVENTORY};
 

@@ -1,4 +1,6 @@
 // The rows of a segment and what a call answered, in print. Of output the contracts say what those of `print` do: each function is safe and ends.
+#![tactic(auto)]
+
 use print::{named, say};
 use store::{Answer, Step};
 

@@ -1,5 +1,7 @@
 // Repairs a store of at most 3 pages on standard input, its inventory first and then its segment, and prints what was done: one line for
 // each slot, header and inventory that changed. Last comes `sound`, or `refused` and the answer's number. The input stays as it is.
+#![tactic(auto)]
+
 use print::{end_line, named, say};
 use store::{PAGE_SIZE, Repair};
 

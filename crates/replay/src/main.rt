@@ -1,5 +1,7 @@
 // Replays a trace (oracle/README.md) from standard input on the store: makes its calls and compares answer, numbers and digests after
 // each. Prints how much was replayed, or the first line that differs and what came instead.
+#![tactic(auto)]
+
 mod calls;
 mod line;
 mod made;

@@ -1,4 +1,6 @@
 // Erase: the record where it stands, or through a redirect the root's slot and its target.
+#![tactic(auto)]
+
 ghost use Rattle.std.specs.Prelude.{◌≡◌};
 ghost use Rattle.store.specs.Numbers.{page_no, slot_no};
 ghost use Rattle.store.specs.Segment.{seg_view, result, erase_by, erase_step};

@@ -1,4 +1,6 @@
 // "Last comes a new target of size + 8 on another page, with the root as redirect"; and "moving home frees the target".
+#![tactic(auto)]
+
 ghost use Rattle.std.specs.Prelude.{◌≡◌, ◌||◌, [], ◌+◌, ◌≤◌, eqb, leb};
 ghost use Rattle.store.specs.Numbers.{fit, page_no, slot_no};
 ghost use Rattle.store.specs.PageSteps.{relocate};

@@ -1,4 +1,6 @@
 // Insert and allocate: "Insert asks the inventory and allocates there; a fresh page is initialised first." Many rows in one call: rows.rt.
+#![tactic(auto)]
+
 pub mod rows;
 
 ghost use Rattle.std.specs.Prelude.{◌≡◌, ◌++◌, ◌+◌, ◌≤◌, length};

@@ -1,5 +1,7 @@
 // What repair does to each slot of a page, by the bytes as they stand: "Then free redirects without a kept target pointing back from another
 // page; a target that no kept redirect names becomes an ordinary record".
+#![tactic(auto)]
+
 ghost use Rattle.std.specs.Prelude.{◌≡◌, true, not, ◌/◌, ◌<◌, length};
 ghost use Rattle.store.specs.Numbers.{all, zeros};
 ghost use Rattle.store.specs.Slots.{is_target};

@@ -1,5 +1,7 @@
 // One page of the segment lent on from its middle, to be written by write and resize: a record of page p at another size, and a root that
 // becomes a redirect. Allocate and erase: segment_steps.
+#![tactic(auto)]
+
 ghost use Rattle.std.specs.Prelude.{◌≡◌, ◌++◌, ◌+◌, ◌≤◌, ◌<◌, ◌^◌, length, drop};
 ghost use Rattle.store.specs.Numbers.{to_be, fit};
 ghost use Rattle.store.specs.PageSteps.{erase_for_redirect, relocate};

@@ -1,4 +1,6 @@
 // Reading a record by its id: "A read answers the part of the lent segment that is the record, without the 8 bytes."
+#![tactic(auto)]
+
 ghost use Rattle.std.specs.Prelude.{◌≡◌, ◌+◌, ◌^◌, ◌≤◌, ◌<◌};
 ghost use Rattle.store.specs.Segment.{seg_view, part_on, read_step, locate_step};
 ghost use Rattle.store.specs.Answers.{reading_no, located};

@@ -1,5 +1,7 @@
 // Repair of a segment and its inventory: "After a crash .. I want what can be kept", with an entry for each slot, header and inventory that
 // changed. All changes are counted before the first is written.
+#![tactic(auto)]
+
 mod count;
 mod tell;
 mod write;

@@ -1,5 +1,7 @@
 // One step of a scan: "The scan goes by page and slot, checks each page on reaching it, skips free slots and redirects, and gives a
 // target its root's id; past the end each step answers 0 without a record."
+#![tactic(auto)]
+
 pub mod held;
 
 ghost use Rattle.std.specs.Prelude.{◌≡◌, ◌+◌, ◌-◌, ◌/◌, ◌^◌, ◌≤◌, ◌<◌, length};

@@ -1,4 +1,6 @@
 // One page of the segment lent on from its middle, to be written: allocate and erase on page p, and the update of its class.
+#![tactic(auto)]
+
 ghost use Rattle.std.specs.Prelude.{◌≡◌, ◌/◌, ◌≤◌, length};
 ghost use Rattle.store.specs.Page.{view};
 ghost use Rattle.store.specs.PageSteps.{allocate, erase};

@@ -1,3 +1,5 @@
 // One page: allocate and erase.
+#![tactic(auto)]
+
 pub mod allocate;
 pub mod erase;

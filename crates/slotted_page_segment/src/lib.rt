@@ -1,6 +1,8 @@
 // The calls on a segment and the scan, under one name: slotted_page_segment.rs for users in Rattle. Each is proved where it stands, with
 // no `requires`, and its contract is one equation with the documents' step (crates/store/specs/Segment.antt, ManyRows.antt,
 // Scan.antt, Repair.antt, Report.antt).
+#![tactic(auto)]
+
 pub use fill_report::fill_report;
 pub use segment_erase::erase_record;
 pub use segment_insert::{allocate, insert_record, insert_records};

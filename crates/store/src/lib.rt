@@ -1,5 +1,6 @@
 // Document 01's sizes, the kinds of a slot's entry, and the answers of the calls: declarations alone. What they mean is defined in
 // specs/, and document 01's number of each answer stands in specs/Answers.antt.
+#![tactic(auto)]
 
 // "page 16,384 bytes"; "an id is page × 65,536 + slot"; "new size above 16,364"; "count at most 2,046"; "n from 0 to 32,527"
 pub const PAGE_SIZE: usize = 16384;
