@@ -13,9 +13,9 @@ use Rattle.store.specs.Segment.{inserted, insert_step}
 use Rattle.store.specs.ManyRows.{Rows, no_row, and_row, insert_all}
 use Rattle.store.specs.Answers.{answer_no, outcome}
 use Rattle.store.specs.Calls.{insert}
-use Rattle.store.specs.Laws.Cases.{never}
-use Rattle.store.specs.Laws.ManyRows.{row_in, row_refused, no_row_lem}
-use Rattle.store.specs.Promises.Refused.{refused_keeps, length_kept, inventory_kept, sizes_kept}
+use Rattle.store.proofs.Laws.Cases.{never}
+use Rattle.store.proofs.Laws.ManyRows.{row_in, row_refused, no_row_lem}
+use Rattle.store.proofs.Promises.Refused.{refused_keeps, length_kept, inventory_kept, sizes_kept}
 use Rattle.store.specs.declared.Answer.{Answer}
 use Rattle.store.specs.declared.Answer.TheVariants.{Done}
 use Rattle.segment_insert.specs.Words.{KnownSound}

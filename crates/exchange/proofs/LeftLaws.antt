@@ -13,8 +13,8 @@ use Rattle.store.specs.Page.{View, view, sound}
 use Rattle.store.specs.PageSteps.{opened}
 use Rattle.store.specs.Records.{page_entries, records, rows_in}
 use Rattle.store.specs.Segment.{SegView}
-use Rattle.store.specs.Laws.Numbers.{cut_drop}
-use Rattle.store.specs.Laws.Writes.{length_cut}
+use Rattle.store.proofs.Laws.Numbers.{cut_drop}
+use Rattle.store.proofs.Laws.Writes.{length_cut}
 use Rattle.store.specs.declared.Slot.{Slot}
 use Rattle.store.specs.declared.Slot.TheVariants.{Ordinary, Free, Redirect, Target}
 use Rattle.exchange.specs.Exchange.{file_record, file_of, passed_over}

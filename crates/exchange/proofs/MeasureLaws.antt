@@ -10,10 +10,10 @@ use Rattle.store.specs.Page.{View, view, sound}
 use Rattle.store.specs.PageSteps.{opened}
 use Rattle.store.specs.Segment.{seg_view, page_of}
 use Rattle.store.specs.Records.{records}
-use Rattle.store.specs.Laws.Cases.{never}
-use Rattle.store.specs.Laws.Report.{sound_each, damaged}
-use Rattle.store.specs.Laws.SoundPage.{sound_opened}
-use Rattle.store.specs.Laws.SoundSegment.{seen_pages, seen_page}
+use Rattle.store.proofs.Laws.Cases.{never}
+use Rattle.store.proofs.Laws.Report.{sound_each, damaged}
+use Rattle.store.proofs.Laws.SoundPage.{sound_opened}
+use Rattle.store.proofs.Laws.SoundSegment.{seen_pages, seen_page}
 use Rattle.exchange.specs.Exchange.{passed_over}
 use Rattle.exchange.specs.Words.{part_of_slot, part_length, part_file, part_passed, page_file, page_passed, segment_file, PageSums, Measured}
 use Rattle.exchange.specs.Laws.Left.{part_lies}

@@ -6,8 +6,8 @@ use native.Mathlib.Omega.{arith}
 use lib.ListN.{length, drop, set, length-append}
 use lib.Seq.{take-take}
 use Rattle.store.specs.Numbers.{cut, put, to_be}
-use Rattle.store.specs.Laws.Numbers.{length_put, length_to_be, put_nil, put_set, cut_drop}
-use Rattle.store.specs.Laws.Writes.{write_append, length_cut}
+use Rattle.store.proofs.Laws.Numbers.{length_put, length_to_be, put_nil, put_set, cut_drop}
+use Rattle.store.proofs.Laws.Writes.{write_append, length_cut}
 use Rattle.exchange.specs.Exchange.{file_record}
 
 -- ---- what is left

@@ -13,9 +13,9 @@ use Rattle.store.specs.PageSteps.{opened}
 use Rattle.store.specs.Segment.{SegView, seg_view, page_of}
 use Rattle.store.specs.Report.{over, meanings, figures_to, added, all_sound}
 use Rattle.store.specs.Answers.{numbers}
-use Rattle.store.specs.Laws.Cases.{never}
-use Rattle.store.specs.Laws.SoundPage.{and_in, all_at}
-use Rattle.store.specs.Laws.Report.{seen_same}
+use Rattle.store.proofs.Laws.Cases.{never}
+use Rattle.store.proofs.Laws.SoundPage.{and_in, all_at}
+use Rattle.store.proofs.Laws.Report.{seen_same}
 use Rattle.store.specs.declared.Tally.{Tally}
 use Rattle.fill_report.specs.Words.{SmallFill, Fills, Filled, AtMost, class_is, counts}
 use Rattle.fill_report.specs.declared.page.Fill.{Fill}

@@ -11,8 +11,9 @@ use Rattle.store.specs.Page.{View, fresh}
 use Rattle.store.specs.PageSteps.{opened}
 use Rattle.store.specs.Inventory.{class_of}
 use Rattle.store.specs.Report.{bytes_in}
-use Rattle.store.specs.Laws.Classes.{class_top}
-use Rattle.store.specs.Laws.Views.{Sound, sum_few, sum_within}
+use Rattle.store.proofs.Laws.Classes.{class_top}
+use Rattle.store.specs.Laws.Views.{Sound}
+use Rattle.store.proofs.Laws.Views.{sum_few, sum_within}
 use Rattle.store.specs.declared.Slot.{Slot}
 use Rattle.fill_report.specs.Words.{Room, WithSlot, SlotsTo, Fills}
 use Rattle.fill_report.specs.declared.page.Counts.{Counts}

@@ -11,9 +11,9 @@ use lib.Seq.{ext_get_or, get_or-set_same, get_or-set_other}
 use lib.Dec.{ltb, leb}
 use borrow.Author.Tests.{lt-ltb, le-ltb, le-leb, lt-leb, eq-eqb, ne_eqb, not-true, not-false}
 use Rattle.store.specs.Report.{added, all_fit}
-use Rattle.store.specs.Laws.Cases.{lt_or_le, eq_or_ne}
-use Rattle.store.specs.Laws.SoundPage.{and_both}
-use Rattle.store.specs.Laws.Report.{length_added, get_d_added}
+use Rattle.store.proofs.Laws.Cases.{lt_or_le, eq_or_ne}
+use Rattle.store.proofs.Laws.SoundPage.{and_both}
+use Rattle.store.proofs.Laws.Report.{length_added, get_d_added}
 use Rattle.fill_report.specs.Words.{AtMost, class_is}
 
 -- ---- the sum

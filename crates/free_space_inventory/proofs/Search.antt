@@ -6,7 +6,7 @@ use mathlib.Core.Logic.{◌⊎◌, ⊎_elim}
 use native.Mathlib.Omega.{arith}
 use lib.ListN.{length}
 use Rattle.store.specs.Inventory.{set_entry, nibble, first_from, next_page, set_from}
-use Rattle.store.specs.Laws.Inventory.{length_set_entry, nibble_entry}
+use Rattle.store.proofs.Laws.Inventory.{length_set_entry, nibble_entry}
 use Rattle.free_space_inventory.proofs.Turns.{first_here, first_next, first_none, down_turn, down_done}
 
 -- what is written depends on f at the entries written alone

@@ -4,7 +4,7 @@ use mathlib.Core.Path.{◌≡◌, ◌∙◌, sym}
 use mathlib.Core.List.{List}
 use native.Mathlib.Omega.{arith}
 use borrow.Author.Tests.{eq-eqb, ne_eqb}
-use Rattle.store.specs.Laws.Classes.{class_top}
+use Rattle.store.proofs.Laws.Classes.{class_top}
 use Rattle.store.specs.Inventory.{class_of, set_nibble, nibble, next_page, run_end, set_from, pulled_back, moved_on, updated}
 
 pub class_le : (r x : ℕ) → r ≡ class_of x → r ≤ 15

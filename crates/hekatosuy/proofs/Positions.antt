@@ -14,8 +14,8 @@ use Rattle.store.specs.Scan.{without, record_at, over_page, next_record, damaged
 use Rattle.store.specs.Answers.{scanned_of}
 use Rattle.store.specs.declared.Step.{Step}
 use Rattle.store.specs.declared.Step.TheVariants.{Record, End, Size, Damaged}
-use Rattle.store.specs.Laws.Cases.{by_test}
-use Rattle.store.specs.Laws.SoundSegment.{sized}
+use Rattle.store.proofs.Laws.Cases.{by_test}
+use Rattle.store.proofs.Laws.SoundSegment.{sized}
 use Rattle.segment_scan.proofs.Positions.{few_at}
 use Rattle.hekatosuy.specs.Handed.{Positioned}
 

@@ -10,7 +10,7 @@ use Rattle.store.specs.Slots.{of_kind, slot_of}
 use Rattle.store.specs.Page.{view, count}
 use Rattle.store.specs.declared.Slot.TheVariants.{Ordinary, Free, Redirect, Target}
 use Rattle.layout.specs.Run.{head_of}
-use Rattle.store.specs.Laws.Writes.{write_append}
+use Rattle.store.proofs.Laws.Writes.{write_append}
 use Rattle.layout.proofs.Numbers.{num8}
 
 -- an entry in its two halves, h and l: the kind k is in the high one, above the offset o

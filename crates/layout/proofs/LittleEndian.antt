@@ -9,7 +9,7 @@ use lib.Bits.{bit_or, or_shifted_r}
 use lib.ListN.{length, get_or, length-reverse}
 use lib.Pow.{pow-add, shl_exact}
 use Rattle.store.specs.Numbers.{cut, be, to_be, le, to_le}
-use Rattle.store.specs.Laws.Writes.{length_cut, cut_snoc}
+use Rattle.store.proofs.Laws.Writes.{length_cut, cut_snoc}
 
 -- a byte's weight, as a power of 256 and as a shift
 weight : (k : ℕ) → 256 ^ k ≡ 2 ^ (8 * k)

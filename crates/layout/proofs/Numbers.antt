@@ -5,12 +5,12 @@ use Prim.Native.Nat.{ℕ, suc, ◌+◌, ◌-◌, ◌*◌, ◌/◌, ◌%◌, ◌^
 use native.Mathlib.Nat.{div-one, mul_assoc, add-mul, div-div-eq-div-mul, pow-suc}
 use lib.Bits.{bit_or, or_shifted}
 use lib.Pow.{pow-add, shl_exact, shl_lt}
-use Rattle.store.specs.Laws.Writes.{write_append, length_cut, cut_snoc}
+use Rattle.store.proofs.Laws.Writes.{write_append, length_cut, cut_snoc}
 use native.Mathlib.Omega.{arith}
 use native.Mathlib.Numerals.{add-one, towards_suc}
 use lib.ListN.{length, get_or, set, length-append}
 use Rattle.store.specs.Numbers.{cut, put, be, to_be}
-use Rattle.store.specs.Laws.Numbers.{put_set, put_nil, cut_cons, cut_add}
+use Rattle.store.proofs.Laws.Numbers.{put_set, put_nil, cut_cons, cut_add}
 
 pub num2 : (at : ℕ) (p : List ℕ) → at + 2 ≤ length p → be (cut p at 2) ≡ get_or p at 0 * 256 + get_or p (at + 1) 0
 num2 at p h = rw (cut_cons p at 1 (omega arith), cut_cons p (suc at) 0 (omega arith)) (simp towards_suc (omega arith))

@@ -7,8 +7,8 @@ use native.Mathlib.Omega.{arith}
 use lib.ListN.{length, take, drop}
 use lib.Seq.{take-length, drop-length, take-add, take_all, length-take-le}
 use Rattle.store.specs.Numbers.{cut, put, zeros, fit}
-use Rattle.store.specs.Laws.Numbers.{put_over}
-use Rattle.store.specs.Laws.Writes.{write_append, length_cut}
+use Rattle.store.proofs.Laws.Numbers.{put_over}
+use Rattle.store.proofs.Laws.Writes.{write_append, length_cut}
 
 -- a run of s's length, all of it written over
 pub over : (s d : List ℕ) → length d ≡ length s → take (length s) s ++ drop (length s) d ≡ s

@@ -15,8 +15,9 @@ use Rattle.store.specs.Numbers.{sum}
 use Rattle.store.specs.Slots.{off, len, is_target}
 use Rattle.store.specs.Page.{View, view, slot_at, sound}
 use Rattle.store.specs.Laws.Edits.{Apart}
-use Rattle.store.specs.Laws.Views.{Sound, apart_flip}
-use Rattle.store.specs.Laws.SoundPage.{used_not_fresh, sound_page, sound_test, past_free, page_codable}
+use Rattle.store.specs.Laws.Views.{Sound}
+use Rattle.store.proofs.Laws.Views.{apart_flip}
+use Rattle.store.proofs.Laws.SoundPage.{used_not_fresh, sound_page, sound_test, past_free, page_codable}
 use Rattle.page_check.specs.Fit.{Allowed, Runs, RecordsFit, Total, HeaderFits}
 use Rattle.page_check.proofs.SlotLaws.{refuted}
 

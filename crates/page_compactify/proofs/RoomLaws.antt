@@ -10,7 +10,7 @@ use borrow.Author.Tests.{lt-ltb, le-ltb}
 use Rattle.store.specs.Page.{view}
 use Rattle.store.specs.PageSteps.{run, gap, compactify}
 use Rattle.store.specs.Laws.Views.{Sound}
-use Rattle.store.specs.Laws.Compactify.{compact_exact, compact_keeps, compact_gap}
+use Rattle.store.proofs.Laws.Compactify.{compact_exact, compact_keeps, compact_gap}
 use Rattle.page_compactify.specs.Room.{Roomed}
 
 module _ (p : List ℕ) (n r : ℕ) (whole : length p ≡ 16384) (s : Sound (view p)) where

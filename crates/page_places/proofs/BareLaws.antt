@@ -7,9 +7,9 @@ use Rattle.store.specs.Numbers.{put}
 use Rattle.store.specs.Slots.{off, slot_bytes}
 use Rattle.store.specs.Page.{View}
 use Rattle.store.specs.PageSteps.{Edit, apply, commit, run, with_slot}
-use Rattle.store.specs.Laws.Numbers.{put_nil}
-use Rattle.store.specs.Laws.Views.{upd_same}
-use Rattle.store.specs.Laws.Exact.{run_append}
+use Rattle.store.proofs.Laws.Numbers.{put_nil}
+use Rattle.store.proofs.Laws.Views.{upd_same}
+use Rattle.store.proofs.Laws.Exact.{run_append}
 use Rattle.store.specs.declared.Slot.{Slot}
 use Rattle.layout.specs.Run.{head_of}
 use Rattle.page_places.specs.Words.{bare, unfilled}

@@ -11,9 +11,10 @@ use Rattle.store.specs.Slots.{slot_bytes, off, is_free}
 use Rattle.store.specs.Page.{View}
 use Rattle.store.specs.Answers.{given_place, allotted}
 use Rattle.store.specs.PageSteps.{Edit, commit, run, with_head, make_room, next_free, is_new, cost, allocated, allocate}
-use Rattle.store.specs.Laws.Changes.{roomy_kept}
-use Rattle.store.specs.Laws.Views.{Sound, upd_same}
-use Rattle.store.specs.Laws.Compactify.{Kept}
+use Rattle.store.proofs.Laws.Changes.{roomy_kept}
+use Rattle.store.specs.Laws.Views.{Sound}
+use Rattle.store.proofs.Laws.Views.{upd_same}
+use Rattle.store.proofs.Laws.Compactify.{Kept}
 use Rattle.store.specs.declared.Slot.{Slot}
 use Rattle.store.specs.declared.Slot.TheVariants.{Ordinary}
 use Rattle.store.specs.declared.Place.TheVariants.{At, NoRoom}

@@ -15,19 +15,19 @@ use Rattle.store.specs.Page.{View, view}
 use Rattle.store.specs.Answers.{given_place, allotted}
 use Rattle.store.specs.PageSteps.{Edit, commit, run, with_head, stay, make_room, gap, move_under, parked, shrunk, resized, relocate_by, relocate, got}
 use Rattle.store.specs.PageSteps.{Relocated, refused, moved}
-use Rattle.store.specs.Laws.Numbers.{put_nil, put_own, put_over, put_swap, length_put, cut_apart, cut_same}
-use Rattle.store.specs.Laws.Views.{upd_same}
+use Rattle.store.proofs.Laws.Numbers.{put_nil, put_own, put_over, put_swap, length_put, cut_apart, cut_same}
+use Rattle.store.proofs.Laws.Views.{upd_same}
 use Rattle.store.specs.Laws.Lent.{UsedSlot}
-use Rattle.store.specs.Laws.Calls.{by_test}
-use Rattle.store.specs.Laws.Exact.{length_run}
-use Rattle.store.specs.Laws.Compactify.{placed_is}
-use Rattle.store.specs.Laws.Relocate.{Answered, relocate_answer}
-use Rattle.store.specs.Laws.Fit.{length_fit, fit_cut, fit_filled, fit_none, fit_add}
+use Rattle.store.proofs.Laws.Calls.{by_test}
+use Rattle.store.proofs.Laws.Exact.{length_run}
+use Rattle.store.proofs.Laws.Compactify.{placed_is}
+use Rattle.store.proofs.Laws.Relocate.{Answered, relocate_answer}
+use Rattle.store.proofs.Laws.Fit.{length_fit, fit_cut, fit_filled, fit_none, fit_add}
 use Rattle.store.specs.declared.Slot.{Slot}
 use Rattle.store.specs.declared.Slot.TheVariants.{Ordinary, Free, Redirect, Target}
 use Rattle.store.specs.declared.Place.TheVariants.{At}
 use Rattle.layout.specs.Run.{head_of}
-use Rattle.store.specs.Laws.Writes.{write_append}
+use Rattle.store.proofs.Laws.Writes.{write_append}
 use Rattle.page_compactify.proofs.PackLaws.{shown_bytes}
 use Rattle.slotted_page.specs.Words.{unfilled, page_bare, place_of, page_after}
 use Rattle.page_relocate.specs.Words.{shrink_plan, grow_plan, alloc_of, page_moved, was_moved, refilled}

@@ -13,13 +13,14 @@ use Rattle.store.specs.Slots.{slot_bytes, off, len, is_free, is_record, placed}
 use Rattle.store.specs.Page.{View, view}
 use Rattle.store.specs.Answers.{given_place, allotted}
 use Rattle.store.specs.PageSteps.{Edit, apply, commit, run, with_head, make_room, move_under, moved_under, parked, resized, relocate_by, relocate, refused}
-use Rattle.store.specs.Laws.Changes.{roomy_kept}
-use Rattle.store.specs.Laws.Numbers.{put_nil}
-use Rattle.store.specs.Laws.Views.{Sound, upd_same}
+use Rattle.store.proofs.Laws.Changes.{roomy_kept}
+use Rattle.store.proofs.Laws.Numbers.{put_nil}
+use Rattle.store.specs.Laws.Views.{Sound}
+use Rattle.store.proofs.Laws.Views.{upd_same}
 use Rattle.store.specs.Laws.Lent.{UsedSlot}
-use Rattle.store.specs.Laws.Exact.{run_append, length_apply}
-use Rattle.store.specs.Laws.Compactify.{placed_is, record_taken}
-use Rattle.store.specs.Laws.Relocate.{park_exact}
+use Rattle.store.proofs.Laws.Exact.{run_append, length_apply}
+use Rattle.store.proofs.Laws.Compactify.{placed_is, record_taken}
+use Rattle.store.proofs.Laws.Relocate.{park_exact}
 use Rattle.store.specs.declared.Slot.{Slot}
 use Rattle.store.specs.declared.Slot.TheVariants.{Ordinary, Free, Redirect, Target}
 use Rattle.store.specs.declared.Place.TheVariants.{At, NoRoom}

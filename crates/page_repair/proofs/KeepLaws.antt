@@ -14,10 +14,10 @@ use borrow.Author.Tests.{le-leb, lt-leb, leb-true, eq-eqb, ne_eqb}
 use Rattle.store.specs.Slots.{off, len, is_record, is_target}
 use Rattle.store.specs.Page.{View}
 use Rattle.store.specs.Repair.{lies_in, lies, kept_below, is_in, keeps}
-use Rattle.store.specs.Laws.Cases.{never, or_in, or_out}
-use Rattle.store.specs.Laws.SoundPage.{and_both}
-use Rattle.store.specs.Laws.RepairPage.{good, in_good, in_cons}
-use Rattle.store.specs.Laws.RepairKept.{kept_more, kept_same, keeps_good, clear_is, clear_by, good_in, good_is}
+use Rattle.store.proofs.Laws.Cases.{never, or_in, or_out}
+use Rattle.store.proofs.Laws.SoundPage.{and_both}
+use Rattle.store.proofs.Laws.RepairPage.{good, in_good, in_cons}
+use Rattle.store.proofs.Laws.RepairKept.{kept_more, kept_same, keeps_good, clear_is, clear_by, good_in, good_is}
 use Rattle.store.specs.declared.Slot.{Slot}
 use Rattle.page_check.specs.Fit.{Runs}
 use Rattle.page_check.specs.Map.{Clear, Claimed, Marked}

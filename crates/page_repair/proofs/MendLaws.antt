@@ -14,9 +14,9 @@ use Rattle.store.specs.Slots.{slot_bytes, off, len, is_free}
 use Rattle.store.specs.Page.{View, view}
 use Rattle.store.specs.PageSteps.{head_bytes, put_head, next_free}
 use Rattle.store.specs.Repair.{Entry, changes, slot_done, slot_by, slot_entries, mended_by, same_head, put_slots, put_mended}
-use Rattle.store.specs.Laws.Cases.{by_test}
+use Rattle.store.proofs.Laws.Cases.{by_test}
 use Rattle.store.specs.Laws.Slots.{Codable}
-use Rattle.store.specs.Laws.RepairBytes.{slots_frame}
+use Rattle.store.proofs.Laws.RepairBytes.{slots_frame}
 use Rattle.store.specs.declared.Deed.{Deed}
 use Rattle.store.specs.declared.Slot.{Slot}
 use Rattle.store.specs.declared.Slot.TheVariants.{Ordinary, Free, Redirect, Target}

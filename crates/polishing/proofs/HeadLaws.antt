@@ -9,7 +9,7 @@ use denote.Enum.Declared.{tag_of}
 use types.Run.{OneOf, miss}
 use borrow.Author.Tests.{eq-eqb, ne_eqb}
 use Rattle.store.specs.Numbers.{cut, be}
-use Rattle.store.specs.Laws.Numbers.{cut_cut}
+use Rattle.store.proofs.Laws.Numbers.{cut_cut}
 use Rattle.exchange.specs.declared.parts.Part.{Part}
 use Rattle.exchange.specs.declared.parts.Part.TheVariants as part
 use Rattle.exchange.specs.contracts.parts.Part.{the_type}

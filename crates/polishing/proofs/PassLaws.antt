@@ -8,7 +8,7 @@ use Rattle.store.specs.Page.{View, view}
 use Rattle.store.specs.PageSteps.{opened}
 use Rattle.store.specs.Records.{records}
 use Rattle.store.specs.Segment.{seg_view, page_of}
-use Rattle.store.specs.Laws.SoundSegment.{seen_pages, seen_page}
+use Rattle.store.proofs.Laws.SoundSegment.{seen_pages, seen_page}
 use Rattle.exchange.specs.Exchange.{readings}
 use Rattle.exchange.specs.Words.{part_of_slot, part_rows, page_readings}
 use Rattle.exchange.specs.Laws.Left as left

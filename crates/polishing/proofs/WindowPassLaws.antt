@@ -11,7 +11,7 @@ use Rattle.store.specs.PageSteps.{opened}
 use Rattle.store.specs.Records.{records}
 use Rattle.store.specs.Report.{all_sound}
 use Rattle.store.specs.Segment.{seg_view, page_of}
-use Rattle.store.specs.Laws.Report.{sound_each}
+use Rattle.store.proofs.Laws.Report.{sound_each}
 use Rattle.exchange.specs.Exchange.{readings}
 use Rattle.exchange.specs.Words.{page_readings}
 use Rattle.exchange.specs.Laws.Left.{pages_readings}

@@ -16,7 +16,7 @@ use Rattle.store.specs.Segment.{seg_view, page_of, size_ok, inv_ok, OnPage, on, 
 use Rattle.store.specs.Segment.{erase_by, erase_plan, erase_step}
 use Rattle.store.specs.Answers.{answer_no, answer_id, outcome}
 use Rattle.store.specs.Laws.Lent.{TakenOn}
-use Rattle.store.specs.Laws.Calls.{back_ok}
+use Rattle.store.proofs.Laws.Calls.{back_ok}
 use Rattle.store.specs.declared.Root.{Root}
 use Rattle.store.specs.declared.Slot.TheVariants.{Ordinary, Redirect}
 use Rattle.store.specs.declared.Answer.{Answer}

@@ -18,9 +18,9 @@ use Rattle.store.specs.Segment.{seg_view, page_of, OnPage, on, carried_on, Resul
 use Rattle.store.specs.Segment.{forwarded, forwarded_again}
 use Rattle.store.specs.Answers.{outcome, answer_no}
 use Rattle.store.specs.Laws.Lent.{Within, SoundOn, TakenOn}
-use Rattle.store.specs.Laws.Segments.{ExactOn}
-use Rattle.store.specs.Laws.Calls.{by_test, NamedOk, named_ok}
-use Rattle.store.specs.Laws.SoundSegment.{seen_pages}
+use Rattle.store.proofs.Laws.Segments.{ExactOn}
+use Rattle.store.proofs.Laws.Calls.{by_test, NamedOk, named_ok}
+use Rattle.store.proofs.Laws.SoundSegment.{seen_pages}
 use Rattle.store.specs.declared.Named.{Named}
 use Rattle.store.specs.declared.Named.TheVariants.{At, Full}
 use Rattle.store.specs.declared.Slot.TheVariants.{Redirect}

@@ -15,8 +15,8 @@ use Rattle.store.specs.Inventory.{found_in}
 use Rattle.store.specs.Segment.{seg_view, page_of, Result, result, taken, find, find_on}
 use Rattle.store.specs.Answers.{outcome}
 use Rattle.store.specs.Laws.Lent.{Within, SoundOn}
-use Rattle.store.specs.Laws.Calls.{named_within, named_tells}
-use Rattle.store.specs.Laws.SoundSegment.{seen_pages}
+use Rattle.store.proofs.Laws.Calls.{named_within, named_tells}
+use Rattle.store.proofs.Laws.SoundSegment.{seen_pages}
 use Rattle.store.specs.declared.Named.{Named}
 use Rattle.store.specs.declared.Named.TheVariants.{At, Full}
 use Rattle.store.specs.declared.Place.TheVariants as place

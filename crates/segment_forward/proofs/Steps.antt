@@ -13,8 +13,8 @@ use Rattle.store.specs.PageSteps.{erase}
 use Rattle.store.specs.Inventory.{update, Room}
 use Rattle.store.specs.Segment.{seg_view, page_of, OnPage, on, carried_on, carried, points_back}
 use Rattle.store.specs.Laws.Lent.{Within, TakenOn}
-use Rattle.store.specs.Laws.Segments.{ExactOn, exact_skip}
-use Rattle.store.specs.Laws.Calls.{back_ok}
+use Rattle.store.proofs.Laws.Segments.{ExactOn, exact_skip}
+use Rattle.store.proofs.Laws.Calls.{back_ok}
 use Rattle.segment_pages.proofs.Root.{back_taken}
 use Rattle.segment_steps.specs.Words.{Sizes}
 use Rattle.segment_steps.proofs.After.{sizes_room, Took, took_length, Left, left_own, left_other, left_room, left_update, still, carried_swap}

@@ -11,8 +11,8 @@ use Rattle.store.specs.Numbers.{zeros, fit}
 use Rattle.store.specs.Page.{sound}
 use Rattle.store.specs.PageSteps.{Alloc, no_room, got, allocate}
 use Rattle.store.specs.Segment.{SegView, seg_view, OnPage, Out, Result, result, carried, taken, inserted}
-use Rattle.store.specs.Laws.Plans.{length_carried}
-use Rattle.store.specs.Laws.Segments.{AllExact, carried_seen, settled_sound}
+use Rattle.store.proofs.Laws.Plans.{length_carried}
+use Rattle.store.proofs.Laws.Segments.{AllExact, carried_seen, settled_sound}
 use Rattle.store.specs.Laws.Lent.{SoundOn}
 use Rattle.store.specs.declared.Named.TheVariants.{At}
 use Rattle.segment_insert.specs.Words.{sized_on, KnownSound}

@@ -15,12 +15,12 @@ use Rattle.store.specs.Refusals.{DONE, LONG}
 use Rattle.store.specs.Inventory.{Room, found_in, update}
 use Rattle.store.specs.Segment.{seg_view, page_of, size_ok, inv_ok, Out, OnPage, on, refuse, refuse_if, result, step, find, insert_plan, insert_step, allocate_step}
 use Rattle.store.specs.Answers.{outcome, given_place, allotted, named_page}
-use Rattle.store.specs.Laws.Segments.{length_page}
-use Rattle.store.specs.Laws.Fit.{length_fit, fit_all, fit_none}
-use Rattle.store.specs.Laws.Relocate.{fill_exact}
+use Rattle.store.proofs.Laws.Segments.{length_page}
+use Rattle.store.proofs.Laws.Fit.{length_fit, fit_all, fit_none}
+use Rattle.store.proofs.Laws.Relocate.{fill_exact}
 use Rattle.store.specs.Laws.Lent.{Within, SoundOn}
-use Rattle.store.specs.Laws.Calls.{named_within}
-use Rattle.store.specs.Promises.Outcome.{named_single}
+use Rattle.store.proofs.Laws.Calls.{named_within}
+use Rattle.store.proofs.Promises.Outcome.{named_single}
 use Rattle.store.specs.declared.Named.{Named}
 use Rattle.store.specs.declared.Named.TheVariants.{At, Full}
 use Rattle.store.specs.declared.Place.{Place}

@@ -17,10 +17,10 @@ use Rattle.store.specs.ManyRows.{Rows, no_row, and_row, insert_all, rows_of, tot
 use Rattle.store.specs.ManyRowsTold.{of_row}
 use Rattle.store.specs.Answers.{answer_no, outcome, told}
 use Rattle.store.specs.Calls.{insert}
-use Rattle.store.specs.Laws.Cases.{never}
-use Rattle.store.specs.Laws.Numbers.{put_set, put_nil}
-use Rattle.store.specs.Laws.ManyRows.{row_in, row_refused, no_row_lem, insert_own}
-use Rattle.store.specs.Promises.Refused.{refused_keeps, length_kept, inventory_kept, sizes_kept}
+use Rattle.store.proofs.Laws.Cases.{never}
+use Rattle.store.proofs.Laws.Numbers.{put_set, put_nil}
+use Rattle.store.proofs.Laws.ManyRows.{row_in, row_refused, no_row_lem, insert_own}
+use Rattle.store.proofs.Promises.Refused.{refused_keeps, length_kept, inventory_kept, sizes_kept}
 use Rattle.store.specs.contracts.Answer.{the_type}
 use Rattle.store.specs.declared.Answer.{Answer}
 use Rattle.store.specs.declared.Answer.TheVariants.{Done, Size, NoPage, Long, Damaged, NoRecord, Forwarded, Full, Stale}

@@ -8,7 +8,7 @@ use native.Mathlib.Decide.{ℕ_discrete}
 use lib.ListN.{length}
 use Rattle.store.specs.Page.{view, sound}
 use Rattle.store.specs.Segment.{page_of}
-use Rattle.store.specs.Laws.Cases.{never}
+use Rattle.store.proofs.Laws.Cases.{never}
 use Rattle.page_check.specs.Map.{mark, Blank, Claimed}
 use Rattle.segment_judge.specs.Words.{Checked}
 

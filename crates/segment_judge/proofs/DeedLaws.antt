@@ -10,7 +10,7 @@ use Rattle.store.specs.Slots.{is_record, is_target}
 use Rattle.store.specs.Page.{View, view}
 use Rattle.store.specs.Segment.{page_of}
 use Rattle.store.specs.Repair.{standing, keeps, holds, named, deed_by, deed, deed_no}
-use Rattle.store.specs.Laws.Repair.{standing_page}
+use Rattle.store.proofs.Laws.Repair.{standing_page}
 use Rattle.store.specs.declared.Deed.TheVariants.{Stays, RecordFreed, RedirectFreed, MadeOrdinary}
 use Rattle.store.specs.declared.Slot.{Slot}
 use Rattle.store.specs.declared.Slot.TheVariants.{Ordinary, Free, Redirect, Target}

@@ -15,13 +15,13 @@ use Rattle.store.specs.Page.{View, view, fresh, sound}
 use Rattle.store.specs.Segment.{SegView, seg_view, page_of}
 use Rattle.store.specs.SoundSegment.{slot_on, back_id}
 use Rattle.store.specs.Repair.{standing, lost, keeps, holds}
-use Rattle.store.specs.Laws.Cases.{never, or_false}
-use Rattle.store.specs.Laws.SoundPage.{past_free, used_not_fresh, sound_page}
-use Rattle.store.specs.Laws.Segments.{length_page}
-use Rattle.store.specs.Laws.RepairPage.{keeps_is}
-use Rattle.store.specs.Laws.RepairPairs.{Holds, holds_is, holds_in}
-use Rattle.store.specs.Laws.RepairAlone.{all_kept, record_by}
-use Rattle.store.specs.Laws.Repair.{seen_slot, seen_bytes, standing_pages, standing_page}
+use Rattle.store.proofs.Laws.Cases.{never, or_false}
+use Rattle.store.proofs.Laws.SoundPage.{past_free, used_not_fresh, sound_page}
+use Rattle.store.proofs.Laws.Segments.{length_page}
+use Rattle.store.proofs.Laws.RepairPage.{keeps_is}
+use Rattle.store.proofs.Laws.RepairPairs.{Holds, holds_is, holds_in}
+use Rattle.store.proofs.Laws.RepairAlone.{all_kept, record_by}
+use Rattle.store.proofs.Laws.Repair.{seen_slot, seen_bytes, standing_pages, standing_page}
 use Rattle.store.specs.declared.Slot.{Slot}
 use Rattle.store.specs.declared.Slot.TheVariants.{Free, Target}
 use Rattle.page_repair.specs.Kept.{CountedPage}

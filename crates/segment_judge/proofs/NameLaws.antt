@@ -15,9 +15,9 @@ use Rattle.store.specs.Numbers.{page_no, slot_no}
 use Rattle.store.specs.Page.{View, view}
 use Rattle.store.specs.Segment.{seg_view, page_of}
 use Rattle.store.specs.Repair.{standing, keeps, named}
-use Rattle.store.specs.Laws.RepairPage.{keeps_is}
-use Rattle.store.specs.Laws.RepairPairs.{Holds, KeptRedirect, named_is, named_in}
-use Rattle.store.specs.Laws.Repair.{standing_pages, standing_page}
+use Rattle.store.proofs.Laws.RepairPage.{keeps_is}
+use Rattle.store.proofs.Laws.RepairPairs.{Holds, KeptRedirect, named_is, named_in}
+use Rattle.store.proofs.Laws.Repair.{standing_pages, standing_page}
 use Rattle.store.specs.declared.Slot.{Slot}
 use Rattle.store.specs.declared.Slot.TheVariants.{Ordinary, Free, Redirect, Target}
 use Rattle.store.specs.contracts.Slot as slot

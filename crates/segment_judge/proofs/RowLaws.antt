@@ -14,9 +14,9 @@ use Rattle.store.specs.Slots.{slot_of, is_record}
 use Rattle.store.specs.Page.{view, sound}
 use Rattle.store.specs.Segment.{page_of}
 use Rattle.store.specs.Repair.{standing, keeps, deed, deed_no, changes}
-use Rattle.store.specs.Laws.Cases.{by_test, never}
-use Rattle.store.specs.Laws.SoundPage.{and_in, all_at, past_free}
-use Rattle.store.specs.Laws.Segments.{length_page}
+use Rattle.store.proofs.Laws.Cases.{by_test, never}
+use Rattle.store.proofs.Laws.SoundPage.{and_in, all_at, past_free}
+use Rattle.store.proofs.Laws.Segments.{length_page}
 use Rattle.store.specs.declared.Deed.{Deed}
 use Rattle.store.specs.declared.Deed.TheVariants.{Stays, RecordFreed, RedirectFreed, MadeOrdinary}
 use Rattle.store.specs.declared.Slot.{Slot}

@@ -12,13 +12,13 @@ use Rattle.store.specs.Page.{View, view}
 use Rattle.store.specs.PageSteps.{move, Plan, plan, stay, with_slot, filled, erase_for_redirect, got, allocate}
 use Rattle.store.specs.PageSteps.{Relocated, refused, moved, relocate}
 use Rattle.store.specs.Segment.{seg_view, page_of, on}
-use Rattle.store.specs.Laws.Numbers.{put_own}
-use Rattle.store.specs.Laws.Exact.{exact_then, length_run}
-use Rattle.store.specs.Laws.Segments.{length_page, ExactOn}
-use Rattle.store.specs.Laws.OneSlot.{redirect_exact}
-use Rattle.store.specs.Laws.Relocate.{fill_exact, retype_exact, relocate_answer, Answered, Moved}
+use Rattle.store.proofs.Laws.Numbers.{put_own}
+use Rattle.store.proofs.Laws.Exact.{exact_then, length_run}
+use Rattle.store.proofs.Laws.Segments.{length_page, ExactOn}
+use Rattle.store.proofs.Laws.OneSlot.{redirect_exact}
+use Rattle.store.proofs.Laws.Relocate.{fill_exact, retype_exact, relocate_answer, Answered, Moved}
 use Rattle.store.specs.Laws.Lent.{SoundOn, TakenOn}
-use Rattle.store.specs.Laws.Calls.{PageOk, page_ok, shows_ok}
+use Rattle.store.proofs.Laws.Calls.{PageOk, page_ok, shows_ok}
 use Rattle.store.specs.declared.Slot.{Slot}
 use Rattle.store.specs.declared.Slot.TheVariants.{Redirect, Target}
 use Rattle.slotted_page.specs.Words.{target_plan, redirect_plan}

@@ -12,7 +12,7 @@ use Rattle.store.specs.Numbers.{cut, be, page_no, slot_no}
 use Rattle.store.specs.Slots.{is_target}
 use Rattle.store.specs.Page.{sound}
 use Rattle.store.specs.Segment.{seg_view, points_back}
-use Rattle.store.specs.Laws.SoundSegment.{seen_pages}
+use Rattle.store.proofs.Laws.SoundSegment.{seen_pages}
 use Rattle.store.specs.declared.Slot.{Slot}
 use Rattle.store.specs.declared.Slot.TheVariants.{Target}
 use Rattle.segment_pages.proofs.Seen.{slot_high, target_long, target_head}

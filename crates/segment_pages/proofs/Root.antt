@@ -11,11 +11,11 @@ use Rattle.store.specs.Numbers.{page_no, slot_no}
 use Rattle.store.specs.Slots.{is_free}
 use Rattle.store.specs.Page.{sound}
 use Rattle.store.specs.Segment.{seg_view, root_of, points_back}
-use Rattle.store.specs.Laws.SoundSegment.{seen_pages}
+use Rattle.store.proofs.Laws.SoundSegment.{seen_pages}
 use Rattle.store.specs.Laws.Lent.{SoundOn, TakenOn, RootIs}
-use Rattle.store.specs.Laws.Calls.{page_below, back_ok, target_taken}
-use Rattle.store.specs.Laws.SoundPage.{sound_test}
-use Rattle.store.specs.Laws.Cases.{by_test}
+use Rattle.store.proofs.Laws.Calls.{page_below, back_ok, target_taken}
+use Rattle.store.proofs.Laws.SoundPage.{sound_test}
+use Rattle.store.proofs.Laws.Cases.{by_test}
 use Rattle.store.specs.declared.Root.{Root}
 use Rattle.store.specs.declared.Root.TheVariants.{Entry, NoPage, Damaged}
 use Rattle.store.specs.declared.Slot.{Slot}

@@ -15,10 +15,10 @@ use Rattle.store.specs.Slots.{off, len, is_target}
 use Rattle.store.specs.Page.{view, count, sound}
 use Rattle.store.specs.Segment.{seg_view, page_of}
 use Rattle.store.specs.Laws.Views.{Sound}
-use Rattle.store.specs.Laws.Segments.{length_page}
-use Rattle.store.specs.Laws.Calls.{shows_opened, sound_seen}
-use Rattle.store.specs.Laws.SoundSegment.{open_sound, seen_page}
-use Rattle.store.specs.Laws.Parts.{seen_bytes}
+use Rattle.store.proofs.Laws.Segments.{length_page}
+use Rattle.store.proofs.Laws.Calls.{shows_opened, sound_seen}
+use Rattle.store.proofs.Laws.SoundSegment.{open_sound, seen_page}
+use Rattle.store.proofs.Laws.Parts.{seen_bytes}
 use Rattle.store.specs.declared.Slot.{Slot}
 use Rattle.store.specs.declared.Slot.TheVariants.{Ordinary, Free, Redirect, Target}
 use Rattle.store.specs.contracts.Slot as slot

@@ -14,12 +14,12 @@ use Rattle.store.specs.Slots.{is_target}
 use Rattle.store.specs.Segment.{SegView, seg_view, size_ok, points_back, Read, no_read, read_by, read_plan, read_step, Part, no_part, part_on, part_by, Located, held}
 use Rattle.store.specs.Segment.{root_of, by_root, locate_step}
 use Rattle.store.specs.Refusals.{DONE, SIZE, DAMAGED}
-use Rattle.store.specs.Laws.Roots.{by_root_lem}
+use Rattle.store.proofs.Laws.Roots.{by_root_lem}
 use Rattle.store.specs.Laws.Lent.{SoundOn}
 use Rattle.store.specs.Answers.{reading_no, reading_part, located}
-use Rattle.store.specs.Laws.Cases.{by_test}
-use Rattle.store.specs.Laws.Calls.{back_ok, page_below}
-use Rattle.store.specs.Promises.Parts.{part_read}
+use Rattle.store.proofs.Laws.Cases.{by_test}
+use Rattle.store.proofs.Laws.Calls.{back_ok, page_below}
+use Rattle.store.proofs.Promises.Parts.{part_read}
 use Rattle.store.specs.declared.Root.{Root}
 use Rattle.store.specs.declared.Root.TheVariants as root
 use Rattle.store.specs.declared.Slot.{Slot}

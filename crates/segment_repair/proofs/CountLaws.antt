@@ -14,11 +14,11 @@ use Rattle.store.specs.Repair.{standing, lost, deed, deed_no, changes, mended, p
 use Rattle.store.specs.Repair.{entry, slot_entries, head_entries, page_entries, seg_entries}
 use Rattle.store.specs.declared.Deed.{Deed}
 use Rattle.store.specs.declared.Deed.TheVariants.{Stays, RecordFreed, RedirectFreed, MadeOrdinary}
-use Rattle.store.specs.Laws.Segments.{length_page}
-use Rattle.store.specs.Laws.RepairPage.{after}
-use Rattle.store.specs.Laws.RepairBytes.{shown_page}
-use Rattle.store.specs.Laws.RepairQuiet.{lost_many, lost_none, lost_fresh, lost_entries, fresh_fresh, fresh_entries, used_after, used_fresh, used_space}
-use Rattle.store.specs.Laws.RepairQuiet.{used_entries, quiet_page}
+use Rattle.store.proofs.Laws.Segments.{length_page}
+use Rattle.store.proofs.Laws.RepairPage.{after}
+use Rattle.store.proofs.Laws.RepairBytes.{shown_page}
+use Rattle.store.proofs.Laws.RepairQuiet.{lost_many, lost_none, lost_fresh, lost_entries, fresh_fresh, fresh_entries, used_after, used_fresh, used_space}
+use Rattle.store.proofs.Laws.RepairQuiet.{used_entries, quiet_page}
 use Rattle.page_repair.specs.Mended.{deed_of, deeds_of, CodableBy, Gathered, head_after, says_head}
 use Rattle.page_repair.proofs.MendLaws.{space_after_lem, says_same}
 use Rattle.segment_judge.specs.Words.{UsedPageOn, Deeds}

@@ -12,16 +12,16 @@ use Rattle.store.specs.Numbers.{put}
 use Rattle.store.specs.Segment.{size_ok, inv_ok}
 use Rattle.store.specs.Answers.{repaired}
 use Rattle.store.specs.Repair.{standing, seg_bytes, seg_entries, true_of, seg_after, same_inv, inv_after, Entry, entry, inv_entries, entries, words, repair_step}
-use Rattle.store.specs.Laws.Numbers.{cut_same, length_put}
-use Rattle.store.specs.Laws.SoundPage.{and_both}
-use Rattle.store.specs.Laws.SoundSegment.{Sized, sized}
-use Rattle.store.specs.Laws.Repair.{standing_pages}
-use Rattle.store.specs.Laws.RepairInventory.{true_length}
-use Rattle.store.specs.Laws.RepairBytes.{seg_length}
-use Rattle.store.specs.Laws.RepairAlone.{left_alone}
-use Rattle.store.specs.Laws.RepairCall.{carried_out}
-use Rattle.store.specs.Promises.Repair.{none_sound, count_is}
-use Rattle.store.specs.Laws.RepairList.{entries_most}
+use Rattle.store.proofs.Laws.Numbers.{cut_same, length_put}
+use Rattle.store.proofs.Laws.SoundPage.{and_both}
+use Rattle.store.proofs.Laws.SoundSegment.{Sized, sized}
+use Rattle.store.proofs.Laws.Repair.{standing_pages}
+use Rattle.store.proofs.Laws.RepairInventory.{true_length}
+use Rattle.store.proofs.Laws.RepairBytes.{seg_length}
+use Rattle.store.proofs.Laws.RepairAlone.{left_alone}
+use Rattle.store.proofs.Laws.RepairCall.{carried_out}
+use Rattle.store.proofs.Promises.Repair.{none_sound, count_is}
+use Rattle.store.proofs.Laws.RepairList.{entries_most}
 use Rattle.store.specs.declared.Repair.TheVariants.{Size, Done, Room}
 use Rattle.segment_repair.proofs.TellLaws.{put_more}
 

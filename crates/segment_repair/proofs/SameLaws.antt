@@ -11,10 +11,10 @@ use borrow.Author.Tests.{eq-eqb, eqb-true}
 use Rattle.store.specs.Numbers.{cut, same_bytes, Bytes, le, all}
 use Rattle.store.specs.Inventory.{entry_at}
 use Rattle.store.specs.Repair.{same_inv}
-use Rattle.store.specs.Laws.Cases.{lt_or_le}
-use Rattle.store.specs.Laws.SoundPage.{and_both, and_in, all_at, all_in}
-use Rattle.store.specs.Laws.Numbers.{bytes_take, bytes_drop, be_same}
-use Rattle.store.specs.Laws.RepairInventory.{same_is, same_own}
+use Rattle.store.proofs.Laws.Cases.{lt_or_le}
+use Rattle.store.proofs.Laws.SoundPage.{and_both, and_in, all_at, all_in}
+use Rattle.store.proofs.Laws.Numbers.{bytes_take, bytes_drop, be_same}
+use Rattle.store.proofs.Laws.RepairInventory.{same_is, same_own}
 use mathlib.Core.Logic.{◌⊎◌, inl, inr}
 
 -- ---- turned round

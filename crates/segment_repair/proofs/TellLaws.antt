@@ -7,12 +7,12 @@ use native.Mathlib.Numerals.{towards_suc, add-one}
 use native.Mathlib.Omega.{arith}
 use lib.ListN.{length, get_or, set, length-append}
 use mathlib.Core.Logic.{⊎_elim}
-use Rattle.store.specs.Laws.Cases.{lt_or_le}
+use Rattle.store.proofs.Laws.Cases.{lt_or_le}
 use Rattle.store.specs.Numbers.{put}
 use Rattle.store.specs.Repair.{Entry, words, entry, slot_entries, changes, deed_no}
-use Rattle.store.specs.Laws.Numbers.{put_set, put_nil}
-use Rattle.store.specs.Laws.Writes.{write_append}
-use Rattle.store.specs.Promises.RepairKept.{words_length}
+use Rattle.store.proofs.Laws.Numbers.{put_set, put_nil}
+use Rattle.store.proofs.Laws.Writes.{write_append}
+use Rattle.store.proofs.Promises.RepairKept.{words_length}
 use Rattle.store.specs.declared.Deed.{Deed}
 use Rattle.page_repair.specs.Mended.{deed_of, deeds_of}
 use Rattle.segment_judge.specs.Words.{Deeds}

@@ -29,14 +29,14 @@ use Rattle.store.specs.Repair.{
   words,
 }
 use Rattle.store.specs.Laws.Lent.{Within}
-use Rattle.store.specs.Laws.Cases.{lt_or_le}
-use Rattle.store.specs.Laws.RepairMixed.{mixed_length, mixed_sound, mixed_next, told_next}
-use Rattle.store.specs.Laws.Numbers.{lent, put_own, put_nil}
-use Rattle.store.specs.Laws.Segments.{length_page, lent_part_lem}
-use Rattle.store.specs.Laws.Repair.{standing_page}
-use Rattle.store.specs.Laws.RepairBytes.{page_length}
-use Rattle.store.specs.Laws.RepairQuiet.{lost_many, lost_none, lost_bytes, lost_entries, fresh_bytes, fresh_entries, used_bytes, used_entries, quiet_page}
-use Rattle.store.specs.Laws.RepairQuiet.{quiet_written}
+use Rattle.store.proofs.Laws.Cases.{lt_or_le}
+use Rattle.store.proofs.Laws.RepairMixed.{mixed_length, mixed_sound, mixed_next, told_next}
+use Rattle.store.proofs.Laws.Numbers.{lent, put_own, put_nil}
+use Rattle.store.proofs.Laws.Segments.{length_page, lent_part_lem}
+use Rattle.store.proofs.Laws.Repair.{standing_page}
+use Rattle.store.proofs.Laws.RepairBytes.{page_length}
+use Rattle.store.proofs.Laws.RepairQuiet.{lost_many, lost_none, lost_bytes, lost_entries, fresh_bytes, fresh_entries, used_bytes, used_entries, quiet_page}
+use Rattle.store.proofs.Laws.RepairQuiet.{quiet_written}
 use Rattle.store.specs.declared.Deed.{Deed}
 use Rattle.layout.specs.Run.{head_of}
 use Rattle.page_repair.specs.Kept.{CountedPage}

@@ -15,10 +15,10 @@ use Rattle.store.specs.Refusals.{DONE, SIZE}
 use Rattle.store.specs.Segment.{SegView, seg_view, size_ok}
 use Rattle.store.specs.Scan.{Scanned, without, over_page, next_record, damaged_at, scan_from, scan_plan, scan_step}
 use Rattle.store.specs.Answers.{scanned_of}
-use Rattle.store.specs.Laws.Cases.{by_test, or_true}
-use Rattle.store.specs.Laws.SoundPage.{and_both, fresh_none}
-use Rattle.store.specs.Laws.Scan.{next_record_lem}
-use Rattle.store.specs.Laws.SoundSegment.{seen_pages}
+use Rattle.store.proofs.Laws.Cases.{by_test, or_true}
+use Rattle.store.proofs.Laws.SoundPage.{and_both, fresh_none}
+use Rattle.store.proofs.Laws.Scan.{next_record_lem}
+use Rattle.store.proofs.Laws.SoundSegment.{seen_pages}
 use Rattle.store.specs.declared.Step.{Step}
 use Rattle.store.specs.declared.Step.TheVariants.{Record, End, Size, Damaged}
 use Rattle.segment_scan.specs.Held.{page_after, slot_after}

@@ -15,9 +15,9 @@ use Rattle.store.specs.PageSteps.{initialised}
 use Rattle.store.specs.Segment.{seg_view, page_of, part_on}
 use Rattle.store.specs.Scan.{Scanned, without, over_page, record_at}
 use Rattle.store.specs.Answers.{scanned_of}
-use Rattle.store.specs.Laws.SoundPage.{and_both, in_page}
-use Rattle.store.specs.Laws.Cases.{by_test}
-use Rattle.store.specs.Laws.Parts.{ordinary_part, target_part}
+use Rattle.store.proofs.Laws.SoundPage.{and_both, in_page}
+use Rattle.store.proofs.Laws.Cases.{by_test}
+use Rattle.store.proofs.Laws.Parts.{ordinary_part, target_part}
 use Rattle.store.specs.declared.Slot.{Slot}
 use Rattle.store.specs.declared.Slot.TheVariants.{Ordinary, Free, Redirect, Target}
 use Rattle.store.specs.declared.Step.{Step}

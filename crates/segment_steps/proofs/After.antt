@@ -13,13 +13,13 @@ use Rattle.store.specs.Page.{View, view, sound}
 use Rattle.store.specs.PageSteps.{opened, run, Plan, plan, erase, Alloc, no_room, got, allocate}
 use Rattle.store.specs.Inventory.{Room, update}
 use Rattle.store.specs.Segment.{seg_view, page_of, OnPage, on, carried_on, size_ok, inv_ok}
-use Rattle.store.specs.Laws.Numbers.{length_put, put_own, put_swap}
-use Rattle.store.specs.Laws.Exact.{length_run}
-use Rattle.store.specs.Laws.Segments.{length_page, page_same, page_other, ExactOn, exact_skip}
+use Rattle.store.proofs.Laws.Numbers.{length_put, put_own, put_swap}
+use Rattle.store.proofs.Laws.Exact.{length_run}
+use Rattle.store.proofs.Laws.Segments.{length_page, page_same, page_other, ExactOn, exact_skip}
 use Rattle.store.specs.Laws.Lent.{SoundOn, TakenOn}
-use Rattle.store.specs.Laws.Calls.{PageOk, page_ok, erase_on, AllocOk, alloc_ok}
-use Rattle.store.specs.Laws.SoundPage.{and_both}
-use Rattle.store.specs.Laws.SoundSegment.{seen_page, seen_pages, sized}
+use Rattle.store.proofs.Laws.Calls.{PageOk, page_ok, erase_on, AllocOk, alloc_ok}
+use Rattle.store.proofs.Laws.SoundPage.{and_both}
+use Rattle.store.proofs.Laws.SoundSegment.{seen_page, seen_pages, sized}
 use Rattle.store.specs.declared.Place.{Place}
 use Rattle.store.specs.declared.Place.TheVariants.{At, NoRoom}
 use Rattle.segment_steps.specs.Words.{Sizes}

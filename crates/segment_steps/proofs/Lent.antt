@@ -11,11 +11,11 @@ use Rattle.store.specs.Page.{View, view, sound}
 use Rattle.store.specs.PageSteps.{run, Plan, Alloc, no_room, got}
 use Rattle.store.specs.Segment.{seg_view, page_of, on, carried_on}
 use Rattle.store.specs.Laws.Views.{Sound}
-use Rattle.store.specs.Laws.Exact.{length_run}
-use Rattle.store.specs.Laws.Segments.{length_page, lent_part_lem, lent_page}
+use Rattle.store.proofs.Laws.Exact.{length_run}
+use Rattle.store.proofs.Laws.Segments.{length_page, lent_part_lem, lent_page}
 use Rattle.store.specs.Laws.Lent.{UsedSlot, TakenOn}
-use Rattle.store.specs.Laws.Calls.{page_ok}
-use Rattle.store.specs.Laws.SoundSegment.{seen_page, sound_closed}
+use Rattle.store.proofs.Laws.Calls.{page_ok}
+use Rattle.store.proofs.Laws.SoundSegment.{seen_page, sound_closed}
 use Rattle.slotted_page.specs.Words.{unfilled, page_bare}
 
 -- page p as the code lends it

@@ -11,8 +11,8 @@ use Rattle.store.specs.Page.{sound}
 use Rattle.store.specs.PageSteps.{allocate}
 use Rattle.store.specs.Segment.{seg_view, page_of}
 use Rattle.store.specs.Laws.Lent.{SoundOn}
-use Rattle.store.specs.Laws.Numbers.{length_put, put_over, lent}
-use Rattle.store.specs.Laws.Segments.{length_page, page_same, lent_part_lem}
+use Rattle.store.proofs.Laws.Numbers.{length_put, put_over, lent}
+use Rattle.store.proofs.Laws.Segments.{length_page, page_same, lent_part_lem}
 use Rattle.store.specs.declared.Slot.TheVariants.{Target}
 use Rattle.store.specs.declared.Place.TheVariants.{At, NoRoom}
 use Rattle.segment_pages.proofs.Seen.{page_right}

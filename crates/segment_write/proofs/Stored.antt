@@ -17,7 +17,7 @@ use Rattle.store.specs.Segment.{seg_view, page_of, size_ok, inv_ok, OnPage, on, 
 use Rattle.store.specs.Segment.{forwarded, forwarded_again, at_home, at_target, root_of, by_root, store_by, store_plan, write_step, resize_step}
 use Rattle.store.specs.Answers.{outcome}
 use Rattle.store.specs.Laws.Lent.{Within, TakenOn}
-use Rattle.store.specs.Laws.Numbers.{cut_same, cut_drop}
+use Rattle.store.proofs.Laws.Numbers.{cut_same, cut_drop}
 use Rattle.store.specs.declared.Root.{Root}
 use Rattle.store.specs.declared.Root.TheVariants as root
 use Rattle.store.specs.declared.Slot.{Slot}

@@ -7,9 +7,10 @@ use Rattle.store.specs.Numbers.{zeros}
 use Rattle.store.specs.Slots.{len}
 use Rattle.store.specs.Page.{View}
 use Rattle.store.specs.PageSteps.{Edit, commit, plan, and_then, make_room, cost, allocated, no_room, got, allocate}
-use Rattle.store.specs.Laws.Changes.{roomy_kept}
-use Rattle.store.specs.Laws.Views.{Sound, upd_same}
-use Rattle.store.specs.Laws.Calls.{by_test}
+use Rattle.store.proofs.Laws.Changes.{roomy_kept}
+use Rattle.store.specs.Laws.Views.{Sound}
+use Rattle.store.proofs.Laws.Views.{upd_same}
+use Rattle.store.proofs.Laws.Calls.{by_test}
 use Rattle.store.specs.declared.Slot.TheVariants.{Ordinary}
 use Rattle.slotted_page.proofs.FillLaws.{Ends, Ended, Sized, commit_ends}
 use Rattle.page_places.proofs.ReserveLaws.{head_after}

@@ -9,7 +9,7 @@ use Rattle.store.specs.Numbers.{put}
 use Rattle.store.specs.Slots.{slot_bytes, off, len, is_free}
 use Rattle.store.specs.Page.{View}
 use Rattle.store.specs.PageSteps.{run, with_head, free_below, pruned, start_without, erase_for_redirect, erase}
-use Rattle.store.specs.Laws.Numbers.{put_nil}
+use Rattle.store.proofs.Laws.Numbers.{put_nil}
 use Rattle.store.specs.declared.Slot.{Slot}
 use Rattle.store.specs.declared.Slot.TheVariants.{Free, Redirect}
 use Rattle.layout.specs.Run.{head_of}

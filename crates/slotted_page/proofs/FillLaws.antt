@@ -9,9 +9,9 @@ use Rattle.store.specs.Numbers.{put}
 use Rattle.store.specs.Slots.{off, len, slot_bytes}
 use Rattle.store.specs.Page.{View}
 use Rattle.store.specs.PageSteps.{Edit, apply, commit, fill, move, run, with_slot, Alloc, no_room, got}
-use Rattle.store.specs.Laws.Numbers.{put_over, put_swap}
-use Rattle.store.specs.Laws.Views.{upd_same}
-use Rattle.store.specs.Laws.Exact.{run_append}
+use Rattle.store.proofs.Laws.Numbers.{put_over, put_swap}
+use Rattle.store.proofs.Laws.Views.{upd_same}
+use Rattle.store.proofs.Laws.Exact.{run_append}
 use Rattle.store.specs.declared.Slot.{Slot}
 use Rattle.store.specs.declared.Slot.TheVariants.{Target}
 use Rattle.store.specs.declared.Place.TheVariants.{At, NoRoom}

@@ -13,11 +13,11 @@ use Rattle.store.specs.Slots.{slot_bytes}
 use Rattle.store.specs.Page.{View, view, fresh, sound}
 use Rattle.store.specs.Answers.{given_place, allotted}
 use Rattle.store.specs.PageSteps.{opened, initialised, apply, put_head, head_bytes, with_head, allocate}
-use Rattle.store.specs.Laws.Numbers.{length_put, put_over}
-use Rattle.store.specs.Laws.Edits.{head_view}
-use Rattle.store.specs.Laws.Views.{sound_fits}
+use Rattle.store.proofs.Laws.Numbers.{length_put, put_over}
+use Rattle.store.proofs.Laws.Edits.{head_view}
+use Rattle.store.proofs.Laws.Views.{sound_fits}
 use Rattle.store.specs.Laws.Lent.{UsedPage}
-use Rattle.store.specs.Laws.SoundPage.{used_not_fresh, sound_none, sound_init, sound_page}
+use Rattle.store.proofs.Laws.SoundPage.{used_not_fresh, sound_none, sound_init, sound_page}
 use Rattle.store.specs.declared.Slot.{Slot}
 use Rattle.store.specs.declared.Slot.TheVariants.{Ordinary}
 use Rattle.store.specs.declared.Place.{Place}

@@ -19,4 +19,3 @@ pub mod RepairTold
 pub mod Answers
 pub mod Alike
 pub mod Laws
-pub mod Promises

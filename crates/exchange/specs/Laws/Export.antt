@@ -9,8 +9,8 @@ use Rattle.store.specs.Records.{records, scan_all}
 use Rattle.store.specs.Report.{all_sound}
 use Rattle.store.specs.SoundSegment.{PagesSound}
 use Rattle.store.specs.ReportTold.{Damage}
-use Rattle.store.specs.Laws.Cases.{lt_or_le}
-use Rattle.store.specs.Laws.Report.{each_sound, sound_each, damage, damaged}
+use Rattle.store.proofs.Laws.Cases.{lt_or_le}
+use Rattle.store.proofs.Laws.Report.{each_sound, sound_each, damage, damaged}
 use Rattle.exchange.specs.Exchange.{passed_over, no_export, export_step, Export}
 use Rattle.exchange.specs.Words.{segment_file}
 use Rattle.exchange.specs.FileTold.{file_in, with_numbers}

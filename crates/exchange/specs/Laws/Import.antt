@@ -5,9 +5,9 @@ use Rattle.store.specs.Refusals.{SIZE, DAMAGED, STALE}
 use Rattle.store.specs.Segment.{size_ok, inv_ok, insert_step}
 use Rattle.store.specs.Calls.{insert}
 use Rattle.store.specs.ManyRows.{Rows, insert_all}
-use Rattle.store.specs.Laws.Cases.{eq_or_ne}
-use Rattle.store.specs.Laws.ManyRows.{by_row, no_row_lem, insert_fitted}
-use Rattle.store.specs.Promises.Refused.{sizes_kept}
+use Rattle.store.proofs.Laws.Cases.{eq_or_ne}
+use Rattle.store.proofs.Laws.ManyRows.{by_row, no_row_lem, insert_fitted}
+use Rattle.store.proofs.Promises.Refused.{sizes_kept}
 use Rattle.exchange.specs.Exchange.{Parsed, wrong, holds, parse, Import, without_ids, insert_parsed, import_step}
 use Rattle.exchange.specs.FileTold.{Readings, no_import, of_insert}
 

@@ -10,11 +10,11 @@ use Rattle.store.specs.Page.{View, view, fresh, sound}
 use Rattle.store.specs.PageSteps.{initialised, opened}
 use Rattle.store.specs.Records.{Entry, entry_of, entries_from, page_entries, pages_entries, records, rows_in}
 use Rattle.store.specs.Segment.{SegView}
-use Rattle.store.specs.Laws.Cases.{by_test, tests}
-use Rattle.store.specs.Laws.Numbers.{cut_drop}
-use Rattle.store.specs.Laws.SoundPage.{sound_page, fresh_none, used_not_fresh}
+use Rattle.store.proofs.Laws.Cases.{by_test, tests}
+use Rattle.store.proofs.Laws.Numbers.{cut_drop}
+use Rattle.store.proofs.Laws.SoundPage.{sound_page, fresh_none, used_not_fresh}
 use Rattle.store.specs.Laws.Views.{Sound}
-use Rattle.store.specs.Laws.Writes.{length_cut}
+use Rattle.store.proofs.Laws.Writes.{length_cut}
 use Rattle.store.specs.declared.Slot.{Slot}
 use Rattle.store.specs.declared.Slot.TheVariants.{Ordinary, Free, Redirect, Target}
 use Rattle.exchange.specs.Exchange.{readings}

@@ -4,9 +4,9 @@ use Rattle.std.proofs.Common.{sym, ap, ◌∙◌, arith, length-drop, get_or-dro
 use Rattle.std.proofs.Math.Bool.{and-false}
 use Rattle.store.specs.Numbers.{cut, Bytes, be, to_be}
 use Rattle.store.specs.Refusals.{LONG}
-use Rattle.store.specs.Laws.SoundPage.{and_in}
-use Rattle.store.specs.Laws.Writes.{length_cut}
-use Rattle.store.specs.Laws.Numbers.{length_to_be, be_to_be, bytes_to_be, bytes_take, bytes_drop, be_same}
+use Rattle.store.proofs.Laws.SoundPage.{and_in}
+use Rattle.store.proofs.Laws.Writes.{length_cut}
+use Rattle.store.proofs.Laws.Numbers.{length_to_be, be_to_be, bytes_to_be, bytes_take, bytes_drop, be_same}
 use Rattle.exchange.specs.Exchange.{MARK, SHORT, Parsed, wrong, holds, and_record, marked, data_length, first_record, too_long, cut_off}
 use Rattle.exchange.specs.Exchange.{behind, turn, parse_from, parse}
 use Rattle.exchange.specs.Words.{fault_of}

@@ -2,7 +2,7 @@
 use Rattle.std.specs.Prelude.{ℕ, ◌+◌, ◌-◌, ◌≡◌, refl, List, [], ◌∷◌, ◌++◌, length, take, drop}
 use Rattle.std.proofs.Common.{sym, ap, ◌∙◌, append_assoc, inl, inr, arith, length-append, length-drop, take-append-drop, length-take-le, drop-drop, take_at, drop_at}
 use Rattle.store.specs.Numbers.{cut, be, to_be}
-use Rattle.store.specs.Laws.Numbers.{be_to_be}
+use Rattle.store.proofs.Laws.Numbers.{be_to_be}
 use Rattle.exchange.specs.Exchange.{wrong, holds, and_record, data_length, first_record, behind}
 use Rattle.exchange.specs.Exchange.{parse, file_record, file_of}
 use Rattle.exchange.specs.Laws.Parse.{parse_end, parse_few, parse_mark, parse_long, parse_cut, parse_record}

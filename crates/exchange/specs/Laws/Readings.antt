@@ -7,11 +7,11 @@ use Rattle.store.specs.Page.{View}
 use Rattle.store.specs.Segment.{seg_view, size_ok}
 use Rattle.store.specs.SoundSegment.{PagesSound}
 use Rattle.store.specs.Records.{Entry, entry_of, entries, scan_all, rows_in, times}
-use Rattle.store.specs.Laws.Cases.{lt_or_le, by_test, false_by, tests}
+use Rattle.store.proofs.Laws.Cases.{lt_or_le, by_test, false_by, tests}
 use Rattle.store.specs.Laws.Views.{Sound}
-use Rattle.store.specs.Laws.SoundSegment.{pages_sound}
-use Rattle.store.specs.Laws.Listed.{entry_slot}
-use Rattle.store.specs.Laws.RepairInventory.{same_is}
+use Rattle.store.proofs.Laws.SoundSegment.{pages_sound}
+use Rattle.store.proofs.Laws.Listed.{entry_slot}
+use Rattle.store.proofs.Laws.RepairInventory.{same_is}
 use Rattle.exchange.specs.Exchange.{is_short, readings, passed_over}
 use Rattle.exchange.specs.FileTold.{Readings, readings_in}
 

@@ -8,9 +8,10 @@ use Rattle.store.specs.Page.{View}
 use Rattle.store.specs.Segment.{SegView, seg_view, size_ok}
 use Rattle.store.specs.SoundSegment.{PagesSound}
 use Rattle.store.specs.Records.{Entry, entry_of, entries_from, page_entries, pages_entries, entries, rows_in}
-use Rattle.store.specs.Laws.Cases.{by_test, tests}
-use Rattle.store.specs.Laws.Views.{Sound, one_few}
-use Rattle.store.specs.Laws.SoundSegment.{pages_sound, seen_pages}
+use Rattle.store.proofs.Laws.Cases.{by_test, tests}
+use Rattle.store.specs.Laws.Views.{Sound}
+use Rattle.store.proofs.Laws.Views.{one_few}
+use Rattle.store.proofs.Laws.SoundSegment.{pages_sound, seen_pages}
 use Rattle.exchange.specs.Exchange.{file_record, file_of, is_short, readings, passed_over}
 use Rattle.exchange.specs.Words.{page_file, segment_file}
 

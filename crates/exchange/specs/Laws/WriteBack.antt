@@ -4,9 +4,9 @@ use Rattle.std.specs.Prelude.{ℕ, zero, suc, ◌+◌, ◌-◌, ◌≤◌, ◌<�
 use Rattle.std.proofs.Common.{sym, ap, ◌∙◌, subst, append_assoc, inl, inr, ⊎_elim, arith, length-append, length-drop, take-append-drop, length-take-le, drop-drop, drop-cons, take_at, drop_at}
 use Rattle.store.specs.Numbers.{Bytes, cut, to_be}
 use Rattle.store.specs.Refusals.{LONG}
-use Rattle.store.specs.Laws.Cases.{lt_or_le, tests}
-use Rattle.store.specs.Laws.Numbers.{be_to_be, be_same, bytes_take, bytes_drop, bytes_to_be}
-use Rattle.store.specs.Laws.SoundPage.{and_both}
+use Rattle.store.proofs.Laws.Cases.{lt_or_le, tests}
+use Rattle.store.proofs.Laws.Numbers.{be_to_be, be_same, bytes_take, bytes_drop, bytes_to_be}
+use Rattle.store.proofs.Laws.SoundPage.{and_both}
 use Rattle.exchange.specs.Exchange.{MARK, SHORT, wrong, holds, and_record, marked, data_length, first_record, parse, file_record, file_of}
 use Rattle.exchange.specs.FileTold.{Reading, Readings, and_all, Whole, Faulty, few, unmarked, long, off}
 use Rattle.exchange.specs.Laws.ReadBack.{faulty, whole_read, all_read}

@@ -8,9 +8,9 @@ use Rattle.store.specs.Alike.{Alike, AlikeByKind, AlikeToRead}
 use Rattle.store.specs.SoundSegment.{SoundSegment}
 use Rattle.store.specs.ManyRows.{insert_all}
 use Rattle.store.specs.ManyRowsTold.{SameRows}
-use Rattle.store.specs.Laws.Alike.{by_size}
-use Rattle.store.specs.Promises.Alike.{read_alike}
-use Rattle.store.specs.Promises.ManyRowsAlike.{rows_demand_3, rows_demand_3_by_kind}
+use Rattle.store.proofs.Laws.Alike.{by_size}
+use Rattle.store.proofs.Promises.Alike.{read_alike}
+use Rattle.store.proofs.Promises.ManyRowsAlike.{rows_demand_3, rows_demand_3_by_kind}
 use Rattle.exchange.specs.Exchange.{Parsed, wrong, holds, parse, import_step, export_step}
 use Rattle.exchange.specs.FileTold.{SameImports}
 use Rattle.exchange.specs.Promises.Import.{size_refused, file_refused, import_fold}

@@ -15,10 +15,10 @@ use Rattle.store.specs.Segment.{SegView, seg_view, page_of, size_ok, inv_ok, res
 use Rattle.store.specs.ManyRows.{insert_all}
 use Rattle.store.specs.Records.{records}
 use Rattle.store.specs.Report.{all_sound}
-use Rattle.store.specs.Laws.SoundPage.{and_in}
-use Rattle.store.specs.Promises.Blank.{blank_sound}
-use Rattle.store.specs.Promises.Examples.{State, start, did, then}
-use Rattle.store.specs.Promises.ManyRowsExamples.{Seen, all_seen, fresh_pages, blank_rows}
+use Rattle.store.proofs.Laws.SoundPage.{and_in}
+use Rattle.store.proofs.Promises.Blank.{blank_sound}
+use Rattle.store.proofs.Promises.Examples.{State, start, did, then}
+use Rattle.store.proofs.Promises.ManyRowsExamples.{Seen, all_seen, fresh_pages, blank_rows}
 use Rattle.exchange.specs.Exchange.{MARK, SHORT, holds, first_record, parse, Import, import_step, Export, no_export, export_of, export_step}
 use Rattle.exchange.specs.FileTold.{no_import, file_written}
 use Rattle.exchange.specs.Laws.Parse.{held}

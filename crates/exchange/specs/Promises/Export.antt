@@ -10,9 +10,9 @@ use Rattle.store.specs.SoundSegment.{PagesSound}
 use Rattle.store.specs.ManyRows.{insert_all}
 use Rattle.store.specs.Records.{Entry, scan_all, rows_in}
 use Rattle.store.specs.ReportTold.{Damage}
-use Rattle.store.specs.Laws.Cases.{never}
-use Rattle.store.specs.Laws.Numbers.{length_put, cut_same, put_parts}
-use Rattle.store.specs.Laws.Report.{sound_each, damaged}
+use Rattle.store.proofs.Laws.Cases.{never}
+use Rattle.store.proofs.Laws.Numbers.{length_put, cut_same, put_parts}
+use Rattle.store.proofs.Laws.Report.{sound_each, damaged}
 use Rattle.exchange.specs.Exchange.{holds, parse, without_ids, import_step, Export, no_export, export_step}
 use Rattle.exchange.specs.FileTold.{readings_in, passed_in, file_in, with_numbers, file_written, of_insert}
 use Rattle.exchange.specs.Laws.Export.{on_size, at_damage, at_room, at_done, by_export}

@@ -9,13 +9,13 @@ use Rattle.store.specs.Segment.{size_ok, inv_ok, read_step}
 use Rattle.store.specs.ManyRows.{Rows, insert_all}
 use Rattle.store.specs.Records.{times, times_in}
 use Rattle.store.specs.SoundSegment.{Rooted, SoundSegment}
-use Rattle.store.specs.Laws.Cases.{never}
-use Rattle.store.specs.Laws.Numbers.{in_left}
-use Rattle.store.specs.Laws.SoundPage.{and_in}
-use Rattle.store.specs.Laws.ManyRows.{no_row_lem, counted, cut_joined, cut_refused, told_alone}
-use Rattle.store.specs.Promises.ManyRows.{rows_long, rows_sized}
-use Rattle.store.specs.Promises.ManyRowsSound.{rows_sound}
-use Rattle.store.specs.Promises.Counts.{insert_all_adds, insert_all_answers}
+use Rattle.store.proofs.Laws.Cases.{never}
+use Rattle.store.proofs.Laws.Numbers.{in_left}
+use Rattle.store.proofs.Laws.SoundPage.{and_in}
+use Rattle.store.proofs.Laws.ManyRows.{no_row_lem, counted, cut_joined, cut_refused, told_alone}
+use Rattle.store.proofs.Promises.ManyRows.{rows_long, rows_sized}
+use Rattle.store.proofs.Promises.ManyRowsSound.{rows_sound}
+use Rattle.store.proofs.Promises.Counts.{insert_all_adds, insert_all_answers}
 use Rattle.exchange.specs.Exchange.{MARK, SHORT, wrong, holds, parse, file_of, Import, without_ids, import_step}
 use Rattle.exchange.specs.FileTold.{no_import, then_import, of_insert}
 use Rattle.exchange.specs.Laws.Import.{by_sizes, by_file, by_import, rows_short}

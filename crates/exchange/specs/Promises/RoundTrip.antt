@@ -7,7 +7,7 @@ use Rattle.store.specs.Numbers.{zeros}
 use Rattle.store.specs.Refusals.{DONE, FULL}
 use Rattle.store.specs.Records.{Entry, scan_all, rows_in, times, times_in}
 use Rattle.store.specs.SoundSegment.{SoundSegment}
-use Rattle.store.specs.Promises.Blank.{blank_sound, blank_list}
+use Rattle.store.proofs.Promises.Blank.{blank_sound, blank_list}
 use Rattle.exchange.specs.Exchange.{import_step, export_step}
 use Rattle.exchange.specs.FileTold.{readings_in, file_written}
 use Rattle.exchange.specs.Laws.Readings.{readings_times}

@@ -9,8 +9,8 @@ use borrow.Author.Tests.{not-true, not-false}
 use Rattle.store.specs.Page.{view, sound}
 use Rattle.store.specs.PageSteps.{opened}
 use Rattle.store.specs.Segment.{page_of}
-use Rattle.store.specs.Laws.Segments.{length_page}
-use Rattle.store.specs.Laws.SoundSegment.{sized}
+use Rattle.store.proofs.Laws.Segments.{length_page}
+use Rattle.store.proofs.Laws.SoundSegment.{sized}
 use Rattle.fill_report.specs.Words.{Fills}
 use Rattle.fill_report.proofs.FillLaws.{FilledTo, filled_none, filled_room, filled_more, filled_stops, filled_all}
 use Rattle.fill_report.proofs.segment_fill.Statement.{statement}

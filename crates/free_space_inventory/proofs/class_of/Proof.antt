@@ -1,6 +1,6 @@
 -- `free_space_inventory::class_of` meets its contract.
 use native.Mathlib.Omega.{arith}
-use Rattle.store.specs.Laws.Classes.{arm}
+use Rattle.store.proofs.Laws.Classes.{arm}
 use Rattle.free_space_inventory.proofs.class_of.Statement.{statement}
 use Rattle.free_space_inventory.proofs.class_of.Tie as tie
 

@@ -4,7 +4,7 @@ use mathlib.Core.Path.{◌≡◌, refl, ◌∙◌, sym, ap}
 use native.Mathlib.Omega.{arith}
 use lib.ListN.{length}
 use Rattle.store.specs.Inventory.{set_from}
-use Rattle.store.specs.Laws.Inventory.{length_set_entry}
+use Rattle.store.proofs.Laws.Inventory.{length_set_entry}
 use Rattle.free_space_inventory.proofs.Turns.{down_turn, down_done}
 use Rattle.free_space_inventory.proofs.fill_entries.Statement.{statement}
 use Rattle.free_space_inventory.proofs.fill_entries.Tie as tie

@@ -3,7 +3,7 @@ use Prim.Native.Nat.{◌-◌}
 use native.Mathlib.Omega.{arith}
 use borrow.Author.Tests.{lt-ltb, le-ltb}
 use Rattle.store.specs.Inventory.{found_in}
-use Rattle.store.specs.Laws.Classes.{class_low, class_top}
+use Rattle.store.proofs.Laws.Classes.{class_low, class_top}
 use borrow.Author.Rules.{rules}
 use Rattle.free_space_inventory.proofs.find_page.Statement.{statement}
 use Rattle.free_space_inventory.proofs.find_page.Tie as tie

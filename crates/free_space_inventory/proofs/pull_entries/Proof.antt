@@ -4,7 +4,7 @@ use mathlib.Core.Path.{◌≡◌, refl, ◌∙◌, sym, ap}
 use native.Mathlib.Omega.{arith}
 use lib.ListN.{length}
 use Rattle.store.specs.Inventory.{pulled_back}
-use Rattle.store.specs.Laws.Inventory.{length_set_entry}
+use Rattle.store.proofs.Laws.Inventory.{length_set_entry}
 use Rattle.free_space_inventory.proofs.Turns.{pull_turn, pull_stop, pull_done}
 use Rattle.free_space_inventory.proofs.pull_entries.Statement.{statement}
 use Rattle.free_space_inventory.proofs.pull_entries.Tie as tie

@@ -6,8 +6,8 @@ use native.Mathlib.Omega.{arith}
 use lib.ListN.{length, take, length-take}
 use lib.Seq.{length-take-le}
 use Rattle.store.specs.Numbers.{cut, put}
-use Rattle.store.specs.Laws.Numbers.{put_over}
-use Rattle.store.specs.Laws.Writes.{length_cut}
+use Rattle.store.proofs.Laws.Numbers.{put_over}
+use Rattle.store.proofs.Laws.Writes.{length_cut}
 use Rattle.layout_runs.proofs.RunLaws.{part_next, part_last}
 use borrow.Author.Rules.{rules}
 use Rattle.layout_runs.proofs.copy_in.Statement.{statement}

@@ -7,8 +7,8 @@ use lib.ListN.{length}
 use borrow.Rule.Slice.PartMut.{put_mid}
 use borrow.Author.Rules.{rules}
 use Rattle.store.specs.Numbers.{cut}
-use Rattle.store.specs.Laws.Numbers.{lent}
-use Rattle.store.specs.Laws.Writes.{length_cut}
+use Rattle.store.proofs.Laws.Numbers.{lent}
+use Rattle.store.proofs.Laws.Writes.{length_cut}
 use Rattle.layout_runs.proofs.RunLaws.{over}
 use Rattle.layout_runs.proofs.copy_run.Statement.{statement}
 use Rattle.layout_runs.proofs.copy_run.Tie as tie

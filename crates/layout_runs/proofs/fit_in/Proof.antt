@@ -6,7 +6,7 @@ use native.Mathlib.Omega.{arith}
 use lib.ListN.{take, length-take}
 use lib.Seq.{length-take-le}
 use Rattle.store.specs.Numbers.{put, zeros}
-use Rattle.store.specs.Laws.Writes.{write_append}
+use Rattle.store.proofs.Laws.Writes.{write_append}
 use Rattle.layout_runs.proofs.RunLaws.{fit_parts}
 use borrow.Author.Rules.{rules}
 use Rattle.layout_runs.proofs.fit_in.Statement.{statement}

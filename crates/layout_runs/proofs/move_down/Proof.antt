@@ -5,8 +5,8 @@ use native.Mathlib.Omega.{arith}
 use lib.ListN.{length, take, length-set}
 use lib.Seq.{take_all}
 use Rattle.store.specs.Numbers.{cut, put}
-use Rattle.store.specs.Laws.Numbers.{put_nil}
-use Rattle.store.specs.Laws.Writes.{move_down_more, length_cut}
+use Rattle.store.proofs.Laws.Numbers.{put_nil}
+use Rattle.store.proofs.Laws.Writes.{move_down_more, length_cut}
 use Rattle.layout_runs.proofs.move_down.Statement.{statement}
 use Rattle.layout_runs.proofs.move_down.Tie as tie
 

@@ -5,8 +5,8 @@ use native.Mathlib.Omega.{arith}
 use native.Mathlib.Nat.{add-zero}
 use lib.ListN.{length, drop, length-set, drop_of_length-le}
 use Rattle.store.specs.Numbers.{cut, put}
-use Rattle.store.specs.Laws.Numbers.{put_nil}
-use Rattle.store.specs.Laws.Writes.{move_up_more, length_cut}
+use Rattle.store.proofs.Laws.Numbers.{put_nil}
+use Rattle.store.proofs.Laws.Writes.{move_up_more, length_cut}
 use Rattle.layout_runs.proofs.move_up.Statement.{statement}
 use Rattle.layout_runs.proofs.move_up.Tie as tie
 

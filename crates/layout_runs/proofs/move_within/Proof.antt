@@ -3,7 +3,7 @@ use mathlib.Core.Path.{◌≡◌, sym, ap, ◌∙◌}
 use mathlib.Core.List.{List}
 use Prim.Native.Nat.{ℕ}
 use Rattle.store.specs.Numbers.{cut, put}
-use Rattle.store.specs.Laws.Numbers.{put_own}
+use Rattle.store.proofs.Laws.Numbers.{put_own}
 use borrow.Author.Rules.{rules}
 use Rattle.layout_runs.proofs.move_within.Statement.{statement}
 use Rattle.layout_runs.proofs.move_within.Tie as tie

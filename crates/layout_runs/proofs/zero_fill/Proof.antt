@@ -4,8 +4,8 @@ use Prim.Native.Nat.{◌≤◌, ◌-◌}
 use native.Mathlib.Omega.{arith}
 use lib.ListN.{length, length-set}
 use Rattle.store.specs.Numbers.{put, zeros}
-use Rattle.store.specs.Laws.Numbers.{put_nil}
-use Rattle.store.specs.Laws.Writes.{cleared_more}
+use Rattle.store.proofs.Laws.Numbers.{put_nil}
+use Rattle.store.proofs.Laws.Writes.{cleared_more}
 use Rattle.layout_runs.proofs.zero_fill.Statement.{statement}
 use Rattle.layout_runs.proofs.zero_fill.Tie as tie
 

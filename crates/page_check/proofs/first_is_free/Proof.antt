@@ -3,8 +3,8 @@ use mathlib.Core.Path.{sym, ap, ◌∙◌}
 use native.Mathlib.Omega.{arith}
 use borrow.Author.Rules.{rules}
 use Rattle.store.specs.Slots.{is_free}
-use Rattle.store.specs.Laws.Views.{is_free_lem}
-use Rattle.store.specs.Laws.SoundPage.{past_free}
+use Rattle.store.proofs.Laws.Views.{is_free_lem}
+use Rattle.store.proofs.Laws.SoundPage.{past_free}
 use Rattle.page_check.proofs.SlotLaws.{tells_yes}
 use Rattle.page_check.proofs.first_is_free.Statement.{statement}
 use Rattle.page_check.proofs.first_is_free.Tie as tie

@@ -3,7 +3,7 @@ use mathlib.Core.Path.{sym, ◌∙◌}
 use native.Mathlib.Omega.{arith}
 use borrow.Author.Rules.{rules}
 use borrow.Author.Tests.{not-true, not-false}
-use Rattle.store.specs.Laws.SoundPage.{sound_none}
+use Rattle.store.proofs.Laws.SoundPage.{sound_none}
 use Rattle.page_check.proofs.SlotLaws.{not_both}
 use Rattle.page_check.proofs.FitLaws.{Header, sound_header, sound_records, unsound, sound_space}
 use Rattle.page_check.proofs.is_sound.Statement.{statement}

@@ -8,7 +8,7 @@ use native.Mathlib.Numerals.{add-one}
 use borrow.Author.Rules.{rules}
 use lib.ListN.{length, drop, set, length-set, drop_of_length-le}
 use Rattle.store.specs.Numbers.{put}
-use Rattle.store.specs.Laws.Numbers.{put_nil, put_set}
+use Rattle.store.proofs.Laws.Numbers.{put_nil, put_set}
 use Rattle.polishing.specs.Polishing.{whole_in, words, word}
 use Rattle.polishing.specs.Laws.Listed.{length_words, words_next}
 use Rattle.polishing.proofs.write_words.Statement.{statement}

@@ -6,7 +6,7 @@ use Rattle.std.specs.Int.Count.{ones, ones-ones}
 use Rattle.std.proofs.lemmas.Nat.{ones_cat}
 use Rattle.std.proofs.Math.Dec.{eqb-zero-suc, eqb-suc-zero, eqb-suc-suc}
 use Rattle.store.specs.Numbers.{sum, one}
-use Rattle.store.specs.Laws.Cases.{eq_or_ne}
+use Rattle.store.proofs.Laws.Cases.{eq_or_ne}
 use Rattle.page_check.specs.Map.{bit}
 use Rattle.page_check.specs.Bits.{bit_zero}
 use Rattle.polishing.specs.Polishing.{word}

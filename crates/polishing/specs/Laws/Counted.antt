@@ -5,9 +5,9 @@ use Rattle.std.proofs.Common.{sym, ap₂, ◌∙◌, ⊎_elim, le-leb, lt-ltb, l
 use native.Mathlib.Omega.{arith}
 use Rattle.std.specs.Int.Count.{ones}
 use Rattle.store.specs.Numbers.{sum, one}
-use Rattle.store.specs.Laws.Cases.{lt_or_le, tests}
-use Rattle.store.specs.Laws.SoundPage.{and_both, and_in}
-use Rattle.store.specs.Laws.Views.{sum_ext, sum_few, sum_join}
+use Rattle.store.proofs.Laws.Cases.{lt_or_le, tests}
+use Rattle.store.proofs.Laws.SoundPage.{and_both, and_in}
+use Rattle.store.proofs.Laws.Views.{sum_ext, sum_few, sum_join}
 use Rattle.polishing.specs.Polishing.{counted, met, demands_of, word}
 use Rattle.polishing.specs.Words.{mounted, turned, met_by, Says, WithWindow}
 use Rattle.polishing.specs.Laws.Bits.{ones_word}

@@ -9,8 +9,8 @@ use Rattle.std.proofs.Math.Dec.{eqb}
 use Rattle.std.proofs.lemmas.Bool.{eqb-false}
 use Rattle.store.specs.Numbers.{one}
 use Rattle.store.specs.Records.{count_if}
-use Rattle.store.specs.Laws.Cases.{lt_or_le, by_test, false_by, tests}
-use Rattle.store.specs.Laws.SoundPage.{and_both}
+use Rattle.store.proofs.Laws.Cases.{lt_or_le, by_test, false_by, tests}
+use Rattle.store.proofs.Laws.SoundPage.{and_both}
 use Rattle.polishing.specs.Polishing.{mirror_of, reading_of, row_of, is_of, whole, Demand, counted, met}
 use Rattle.polishing.specs.Laws.Whole.{whole_first}
 

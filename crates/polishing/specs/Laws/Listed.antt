@@ -8,9 +8,9 @@ use Rattle.store.specs.Numbers.{put, one}
 use Rattle.store.specs.Refusals.{DONE, SIZE, DAMAGED, ROOM}
 use Rattle.store.specs.Segment.{seg_view, size_ok}
 use Rattle.store.specs.Report.{all_sound}
-use Rattle.store.specs.Laws.Cases.{lt_or_le}
-use Rattle.store.specs.Laws.Numbers.{put_parts}
-use Rattle.store.specs.Laws.Views.{sum_ext}
+use Rattle.store.proofs.Laws.Cases.{lt_or_le}
+use Rattle.store.proofs.Laws.Numbers.{put_parts}
+use Rattle.store.proofs.Laws.Views.{sum_ext}
 use Rattle.page_check.specs.Map.{bit}
 use Rattle.polishing.specs.Laws.Bits.{bit_word}
 use Rattle.polishing.specs.Laws.Rule.{by_edition}

@@ -8,7 +8,7 @@ use Rattle.std.proofs.lemmas.Nat.{or_lt, and_le_l, and_le_r}
 use Rattle.std.proofs.Math.Pow.{pow-lt, ones_sub-lt}
 use Rattle.std.proofs.lemmas.Bool.{eqb-false}
 use Rattle.store.specs.Numbers.{zeros, one}
-use Rattle.store.specs.Laws.Cases.{eq_or_ne, by_test, never, tests}
+use Rattle.store.proofs.Laws.Cases.{eq_or_ne, by_test, never, tests}
 use Rattle.page_check.specs.Map.{bit}
 use Rattle.page_check.specs.Bits.{bit_zero, bit_one, bit_and_lem, bit_or_lem}
 use Rattle.polishing.specs.Polishing.{mirror_of, reading_of, row_of, is_of, row_times, other_rows, whole, word}

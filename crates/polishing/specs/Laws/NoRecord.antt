@@ -11,10 +11,10 @@ use Rattle.store.specs.Page.{View, view, fresh, slot_at}
 use Rattle.store.specs.PageSteps.{initialised}
 use Rattle.store.specs.Segment.{seg_view, page_of}
 use Rattle.store.specs.Records.{Entry, entries, rows_in, records, scan_all, count_if}
-use Rattle.store.specs.Laws.Cases.{by_test, false_by}
-use Rattle.store.specs.Laws.Listed.{entry_slot}
-use Rattle.store.specs.Laws.Numbers.{be_less, bytes_take, bytes_drop, bytes_cut}
-use Rattle.store.specs.Laws.Views.{sum_zero}
+use Rattle.store.proofs.Laws.Cases.{by_test, false_by}
+use Rattle.store.proofs.Laws.Listed.{entry_slot}
+use Rattle.store.proofs.Laws.Numbers.{be_less, bytes_take, bytes_drop, bytes_cut}
+use Rattle.store.proofs.Laws.Views.{sum_zero}
 use Rattle.exchange.specs.Exchange.{is_short, readings}
 use Rattle.polishing.specs.Polishing.{mirror_of, is_of, row_of, row_times, whole_in, rows_named, Demand, counted, met, demands_of}
 use Rattle.polishing.specs.Laws.Rule.{by_edition}

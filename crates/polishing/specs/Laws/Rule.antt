@@ -2,8 +2,8 @@
 use Rattle.std.specs.Prelude.{ℕ, zero, suc, ◌+◌, ◌-◌, ◌≤◌, ◌≡◌, refl, Bool, true, false, List, [], ◌∷◌, ◌≢◌, get_or, leb}
 use Rattle.std.proofs.Common.{arith, leb-true, le-leb}
 use Rattle.store.specs.Numbers.{one}
-use Rattle.store.specs.Laws.SoundPage.{and_both, and_in}
-use Rattle.store.specs.Laws.Views.{sum_within}
+use Rattle.store.proofs.Laws.SoundPage.{and_both, and_in}
+use Rattle.store.proofs.Laws.Views.{sum_within}
 use Rattle.polishing.specs.Polishing.{Demand, edition1, edition2, editions, demands_of, counted, met}
 
 -- a property of what is demanded, from each edition's line

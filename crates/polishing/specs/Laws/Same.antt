@@ -3,9 +3,9 @@ use Rattle.std.specs.Prelude.{ℕ, ◌≤◌, ◌<◌, ◌≡◌, refl, Bool, tr
 use Rattle.std.proofs.Common.{sym, ap, ◌∙◌, inl, inr, ⊎_elim, arith}
 use Rattle.store.specs.Numbers.{same_bytes, In, all, one}
 use Rattle.store.specs.Records.{count_if, times}
-use Rattle.store.specs.Laws.Cases.{lt_or_le}
-use Rattle.store.specs.Laws.Counts.{less, less_count}
-use Rattle.store.specs.Laws.RepairInventory.{same_is, same_own}
+use Rattle.store.proofs.Laws.Cases.{lt_or_le}
+use Rattle.store.proofs.Laws.Counts.{less, less_count}
+use Rattle.store.proofs.Laws.RepairInventory.{same_is, same_own}
 use Rattle.exchange.specs.Exchange.{readings}
 use Rattle.exchange.specs.Laws.Readings.{readings_times, short_none}
 use Rattle.polishing.specs.Polishing.{row_of, is_of, whole}

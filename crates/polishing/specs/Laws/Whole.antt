@@ -3,7 +3,7 @@ use Rattle.std.specs.Prelude.{ℕ, ◌≤◌, ◌<◌, ◌≡◌, true, ◌&&◌
 use Rattle.std.proofs.Math.Dec.{eqb}
 use borrow.Author.Tests.{leb-true, eqb-true, eq-eqb}
 use Rattle.store.specs.Numbers.{all}
-use Rattle.store.specs.Laws.SoundPage.{and_both, and_in, all_at, all_in}
+use Rattle.store.proofs.Laws.SoundPage.{and_both, and_in, all_at, all_in}
 use Rattle.polishing.specs.Polishing.{row_times, other_rows, whole, editions, rows_named, named}
 
 -- ---- "rows outside 1 to 2,048"

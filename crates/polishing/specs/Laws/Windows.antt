@@ -3,8 +3,8 @@ use Rattle.std.specs.Prelude.{ℕ, ◌+◌, ◌*◌, ◌/◌, ◌^◌, ◌<◌, 
 use Rattle.std.proofs.Common.{sym, ap, ◌∙◌, arith, zero-mul, length-set, get_or-set_same, get_or-set_other, ne_eqb}
 use Rattle.std.proofs.lemmas.List.{length-replicate}
 use Rattle.store.specs.Numbers.{zeros, one}
-use Rattle.store.specs.Laws.Cases.{false_by}
-use Rattle.store.specs.Laws.Views.{sum_zero}
+use Rattle.store.proofs.Laws.Cases.{false_by}
+use Rattle.store.proofs.Laws.Views.{sum_zero}
 use Rattle.polishing.specs.Polishing.{mirror_of, reading_of, row_of, row_times, whole, rows_named, word}
 use Rattle.polishing.specs.Words.{head_of, with_mark, windows_over}
 use Rattle.polishing.specs.Laws.Whole.{rows_within, whole_first}

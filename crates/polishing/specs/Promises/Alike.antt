@@ -3,7 +3,7 @@
 use Rattle.std.specs.Prelude.{ℕ, ◌≡◌, List}
 use Rattle.std.proofs.Common.{sym, ◌∙◌}
 use Rattle.store.specs.Alike.{Alike, AlikeByKind}
-use Rattle.store.specs.Laws.Alike.{by_size}
+use Rattle.store.proofs.Laws.Alike.{by_size}
 use Rattle.polishing.specs.Polishing.{cleared_step, whole_step}
 use Rattle.polishing.specs.Laws.Judged as judged
 use Rattle.polishing.specs.Laws.Listed as listed

@@ -8,9 +8,9 @@ use Rattle.store.specs.Segment.{seg_view, size_ok}
 use Rattle.store.specs.SoundSegment.{PagesSound}
 use Rattle.store.specs.Records.{Entry, scan_all}
 use Rattle.store.specs.ReportTold.{Damage}
-use Rattle.store.specs.Laws.Cases.{eq_or_ne, false_by, tests}
-use Rattle.store.specs.Laws.Report.{each_sound, sound_each, damage, damaged}
-use Rattle.store.specs.Laws.SoundPage.{and_both, and_in}
+use Rattle.store.proofs.Laws.Cases.{eq_or_ne, false_by, tests}
+use Rattle.store.proofs.Laws.Report.{each_sound, sound_each, damage, damaged}
+use Rattle.store.proofs.Laws.SoundPage.{and_both, and_in}
 use Rattle.polishing.specs.Polishing.{RULE, Cleared, mirror_of, rows_named, named, whole_in, met, demands_of, cleared_step}
 use Rattle.polishing.specs.Laws.Judged.{on_size, on_rule, on_damage, on_judged, by_cleared, done_judged, yes_judged, judged_yes}
 use Rattle.polishing.specs.Laws.Whole.{rows_within, rows_named_lem}

@@ -13,14 +13,14 @@ use Rattle.store.specs.Calls.{erase as erase_call}
 use Rattle.store.specs.ManyRows.{Rows, insert_all}
 use Rattle.store.specs.Records.{records}
 use Rattle.store.specs.Report.{all_sound}
-use Rattle.store.specs.Laws.SoundPage.{and_both, and_in}
-use Rattle.store.specs.Laws.Report.{damaged}
-use Rattle.store.specs.Laws.Segments.{settled, carried_seen}
-use Rattle.store.specs.Laws.Calls.{erase_call_exact}
-use Rattle.store.specs.Promises.Blank.{blank_sound}
-use Rattle.store.specs.Promises.Refused.{sizes_kept}
-use Rattle.store.specs.Promises.ManyRows.{rows_sized}
-use Rattle.store.specs.Promises.ManyRowsExamples.{Seen, seen_of, all_seen, fresh_pages, blank_rows}
+use Rattle.store.proofs.Laws.SoundPage.{and_both, and_in}
+use Rattle.store.proofs.Laws.Report.{damaged}
+use Rattle.store.proofs.Laws.Segments.{settled, carried_seen}
+use Rattle.store.proofs.Laws.Calls.{erase_call_exact}
+use Rattle.store.proofs.Promises.Blank.{blank_sound}
+use Rattle.store.proofs.Promises.Refused.{sizes_kept}
+use Rattle.store.proofs.Promises.ManyRows.{rows_sized}
+use Rattle.store.proofs.Promises.ManyRowsExamples.{Seen, seen_of, all_seen, fresh_pages, blank_rows}
 use Rattle.exchange.specs.Exchange.{readings}
 use Rattle.polishing.specs.Polishing.{RULE, whole, demands_of, met, Cleared, not_cleared, named, cleared_step}
 use Rattle.polishing.specs.Laws.Judged.{answered, by_answer, on_size, on_rule, on_damage}

@@ -7,8 +7,8 @@ use Rattle.store.specs.Refusals.{DONE, SIZE, DAMAGED, ROOM}
 use Rattle.store.specs.Segment.{size_ok}
 use Rattle.store.specs.SoundSegment.{PagesSound}
 use Rattle.store.specs.ReportTold.{Damage}
-use Rattle.store.specs.Laws.Numbers.{length_put, drop_put}
-use Rattle.store.specs.Laws.Report.{each_sound, sound_each, damage, damaged}
+use Rattle.store.proofs.Laws.Numbers.{length_put, drop_put}
+use Rattle.store.proofs.Laws.Report.{each_sound, sound_each, damage, damaged}
 use Rattle.page_check.specs.Map.{bit}
 use Rattle.polishing.specs.Polishing.{RULE, Cleared, Listed, rows_named, whole_in, words, met, demands_of, cleared_step, whole_step}
 use Rattle.polishing.specs.Laws.Judged.{done_judged, on_judged}

@@ -12,18 +12,18 @@ use Rattle.store.specs.SoundSegment.{PagesSound, SoundSegment}
 use Rattle.store.specs.Calls.{Call, insert, write, called}
 use Rattle.store.specs.Book.{row, book_of, new_row, times_row}
 use Rattle.store.specs.ManyRows.{insert_all}
-use Rattle.store.specs.Laws.Cases.{eq_or_ne, false_by}
-use Rattle.store.specs.Laws.Report.{sound_each}
-use Rattle.store.specs.Laws.RepairInventory.{same_is}
-use Rattle.store.specs.Laws.Counts.{holding, times_count}
-use Rattle.store.specs.Promises.Blank.{blank_sound}
-use Rattle.store.specs.Promises.Sound.{call_right}
-use Rattle.store.specs.Promises.Refused.{refused_keeps}
-use Rattle.store.specs.Promises.Ids.{id_own}
-use Rattle.store.specs.Promises.Book.{book_unused}
-use Rattle.store.specs.Promises.Counts.{book_counts, rows_change, insert_all_adds}
-use Rattle.store.specs.Promises.ManyRows.{rows_done}
-use Rattle.store.specs.Promises.ManyRowsSound.{rows_sound}
+use Rattle.store.proofs.Laws.Cases.{eq_or_ne, false_by}
+use Rattle.store.proofs.Laws.Report.{sound_each}
+use Rattle.store.proofs.Laws.RepairInventory.{same_is}
+use Rattle.store.proofs.Laws.Counts.{holding, times_count}
+use Rattle.store.proofs.Promises.Blank.{blank_sound}
+use Rattle.store.proofs.Promises.Sound.{call_right}
+use Rattle.store.proofs.Promises.Refused.{refused_keeps}
+use Rattle.store.proofs.Promises.Ids.{id_own}
+use Rattle.store.proofs.Promises.Book.{book_unused}
+use Rattle.store.proofs.Promises.Counts.{book_counts, rows_change, insert_all_adds}
+use Rattle.store.proofs.Promises.ManyRows.{rows_done}
+use Rattle.store.proofs.Promises.ManyRowsSound.{rows_sound}
 use Rattle.exchange.specs.Exchange.{readings, import_step, export_step}
 use Rattle.exchange.specs.FileTold.{file_written}
 use Rattle.exchange.specs.Promises.Export.{done_exactly}

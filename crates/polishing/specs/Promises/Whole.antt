@@ -2,7 +2,7 @@
 use Rattle.std.specs.Prelude.{ℕ, ◌≤◌, ◌<◌, ◌≡◌, refl, Bool, true, false, ◌&&◌, List, [], ◌∷◌, ◌↔◌, eqb, leb}
 use Rattle.std.proofs.Common.{ap, arith, leb-true, eqb-true, le-leb, eq-eqb}
 use Rattle.store.specs.Numbers.{one}
-use Rattle.store.specs.Laws.SoundPage.{and_in}
+use Rattle.store.proofs.Laws.SoundPage.{and_in}
 use Rattle.polishing.specs.Polishing.{row_of, is_of, row_times, other_rows, whole}
 use Rattle.polishing.specs.Laws.Whole.{whole_parts}
 

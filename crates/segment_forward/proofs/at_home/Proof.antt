@@ -1,7 +1,7 @@
 -- `segment_forward::at_home` meets its contract.
 use mathlib.Core.Path.{refl}
 use Rattle.store.specs.Numbers.{fit, page_no}
-use Rattle.store.specs.Laws.Fit.{length_fit}
+use Rattle.store.proofs.Laws.Fit.{length_fit}
 use Rattle.store.specs.declared.Slot.TheVariants.{Redirect}
 use Rattle.segment_pages.proofs.Root.{root_taken}
 use Rattle.segment_forward.proofs.Steps.{BothLeft, asks_first, asks_second}

@@ -6,8 +6,8 @@ use lib.Dec.{leb}
 use mathlib.Core.List.{List}
 use Rattle.store.specs.Numbers.{page_no, slot_no}
 use Rattle.store.specs.Page.{View, view}
-use Rattle.store.specs.Laws.Segments.{length_page}
-use Rattle.store.specs.Laws.Calls.{page_ok}
+use Rattle.store.proofs.Laws.Segments.{length_page}
+use Rattle.store.proofs.Laws.Calls.{page_ok}
 use borrow.Author.Rules.{rules}
 use Rattle.segment_forward.proofs.fits_home.Statement.{statement}
 use Rattle.segment_forward.proofs.fits_home.Tie as tie

@@ -7,7 +7,7 @@ use Prim.Native.Nat.{ℕ, ◌+◌}
 use Rattle.store.specs.Numbers.{fit, page_no}
 use Rattle.store.specs.Inventory.{found_in}
 use Rattle.store.specs.Segment.{seg_view, find, result, forwarded}
-use Rattle.store.specs.Laws.Fit.{length_fit}
+use Rattle.store.proofs.Laws.Fit.{length_fit}
 use Rattle.segment_forward.specs.Words.{root_or_old}
 use Rattle.segment_forward.proofs.Steps.{BothLeft, asks_first, asks_second}
 use Rattle.segment_forward.proofs.Search.{root_alone}

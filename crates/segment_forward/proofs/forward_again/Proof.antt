@@ -4,7 +4,7 @@ use Prim.Native.Nat.{ℕ, ◌+◌}
 use Rattle.store.specs.Numbers.{fit, page_no}
 use Rattle.store.specs.Inventory.{found_in}
 use Rattle.store.specs.Segment.{seg_view, find}
-use Rattle.store.specs.Laws.Fit.{length_fit}
+use Rattle.store.proofs.Laws.Fit.{length_fit}
 use Rattle.store.specs.declared.Slot.TheVariants.{Redirect}
 use Rattle.segment_pages.proofs.Root.{root_taken}
 use Rattle.segment_forward.specs.Words.{root_or_old}

@@ -11,14 +11,14 @@ use Rattle.store.specs.Numbers.{put, to_be, fit}
 use Rattle.store.specs.PageSteps.{allocate}
 use Rattle.store.specs.Inventory.{found_in}
 use Rattle.store.specs.Segment.{seg_view, page_of}
-use Rattle.store.specs.Laws.Fit.{length_fit}
+use Rattle.store.proofs.Laws.Fit.{length_fit}
 use Rattle.store.specs.Laws.Lent.{Within, SoundOn}
 use Rattle.store.specs.declared.Named.TheVariants.{At}
 use Rattle.store.specs.declared.Place.{Place}
 use Rattle.store.specs.declared.Place.TheVariants as place
 use Rattle.slotted_page.specs.Words.{page_after, place_of, target_at, Inside, PastEntry}
 use Rattle.slotted_page.proofs.FillLaws.{given_is}
-use Rattle.store.specs.Promises.Outcome.{named_single}
+use Rattle.store.proofs.Promises.Outcome.{named_single}
 use Rattle.segment_moves.proofs.Moved.{target_length}
 use Rattle.segment_steps.proofs.Written.{bare_whole, none_written, target_written}
 use Rattle.segment_forward.specs.Words.{root_or_old}

@@ -3,7 +3,7 @@ use mathlib.Core.Path.{◌≡◌, sym, ap, ◌∙◌}
 use mathlib.Core.List.{List, ◌++◌}
 use Prim.Native.Nat.{ℕ, ◌+◌}
 use Rattle.store.specs.Numbers.{put, to_be}
-use Rattle.store.specs.Laws.Writes.{write_append}
+use Rattle.store.proofs.Laws.Writes.{write_append}
 use borrow.Author.Rules.{rules}
 use Rattle.segment_insert.proofs.head_in.Statement.{statement}
 use Rattle.segment_insert.proofs.head_in.Tie as tie

@@ -7,10 +7,10 @@ use lib.ListN.{length}
 use borrow.Author.Tests.{not-true, not-false}
 use Rattle.store.specs.Inventory.{found_in}
 use Rattle.store.specs.Segment.{size_ok, inv_ok}
-use Rattle.store.specs.Laws.Calls.{named_within}
+use Rattle.store.proofs.Laws.Calls.{named_within}
 use Rattle.store.specs.declared.Named.{Named}
 use Rattle.store.specs.declared.Named.TheVariants.{Full}
-use Rattle.store.specs.Promises.Outcome.{named_single}
+use Rattle.store.proofs.Promises.Outcome.{named_single}
 use Rattle.segment_steps.proofs.After.{sizes}
 use Rattle.segment_insert.specs.Words.{sized_on, sized_step}
 use Rattle.segment_insert.proofs.Placed.{sized_size, sized_long, sized_named, on_none}

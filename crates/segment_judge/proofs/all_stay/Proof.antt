@@ -8,7 +8,7 @@ use native.Mathlib.Omega.{arith}
 use lib.ListN.{length}
 use borrow.Author.Rules.{rules}
 use Rattle.store.specs.Numbers.{cut, be, all}
-use Rattle.store.specs.Laws.Segments.{length_page}
+use Rattle.store.proofs.Laws.Segments.{length_page}
 use Rattle.segment_judge.proofs.RowLaws.{slot_used, sound_judged, stay, stay_more, stay_fails, low_stays}
 use Rattle.segment_judge.proofs.all_stay.Statement.{statement}
 use Rattle.segment_judge.proofs.all_stay.Tie as tie

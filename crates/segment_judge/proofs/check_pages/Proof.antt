@@ -8,7 +8,7 @@ use lib.ListN.{length}
 use borrow.Author.Rules.{rules}
 use Rattle.store.specs.Page.{view, sound}
 use Rattle.store.specs.Segment.{page_of}
-use Rattle.store.specs.Laws.Segments.{length_page}
+use Rattle.store.proofs.Laws.Segments.{length_page}
 use Rattle.segment_judge.proofs.CheckLaws.{Swept, swept_none, swept_mark, swept_skip, swept_all}
 use Rattle.segment_judge.proofs.check_pages.Statement.{statement}
 use Rattle.segment_judge.proofs.check_pages.Tie as tie

@@ -10,7 +10,7 @@ use Rattle.store.specs.Numbers.{page_no, slot_no}
 use Rattle.store.specs.Page.{view}
 use Rattle.store.specs.Segment.{seg_view, page_of}
 use Rattle.store.specs.Laws.Slots.{Codable}
-use Rattle.store.specs.Laws.Segments.{length_page}
+use Rattle.store.proofs.Laws.Segments.{length_page}
 use Rattle.store.specs.declared.Slot.TheVariants.{Target}
 use Rattle.segment_pages.proofs.Seen.{not_target, seen_count}
 use Rattle.segment_judge.proofs.HoldLaws.{target_asks, hold_past, hold_home, hold_lost, hold_other, hold_long, hold_back, hold_kept}

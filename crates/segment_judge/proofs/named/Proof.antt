@@ -9,7 +9,7 @@ use borrow.Author.Rules.{rules}
 use Rattle.store.specs.Numbers.{page_no}
 use Rattle.store.specs.Page.{view}
 use Rattle.store.specs.Segment.{page_of}
-use Rattle.store.specs.Laws.Segments.{length_page}
+use Rattle.store.proofs.Laws.Segments.{length_page}
 use Rattle.segment_pages.proofs.Seen.{seen_count}
 use Rattle.segment_judge.proofs.NameLaws.{not_redirect, name_past, name_home, name_lost, name_other, name_by}
 use Rattle.segment_judge.proofs.named.Statement.{statement}

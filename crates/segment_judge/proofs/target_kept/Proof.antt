@@ -7,8 +7,8 @@ use borrow.Author.Rules.{rules}
 use Rattle.store.specs.Page.{view}
 use Rattle.store.specs.Segment.{page_of}
 use Rattle.store.specs.Repair.{keeps}
-use Rattle.store.specs.Laws.Segments.{length_page}
-use Rattle.store.specs.Laws.RepairAlone.{record_by}
+use Rattle.store.proofs.Laws.Segments.{length_page}
+use Rattle.store.proofs.Laws.RepairAlone.{record_by}
 use Rattle.segment_judge.proofs.HoldLaws.{sound_keeps, kept_asks}
 use Rattle.segment_judge.proofs.target_kept.Statement.{statement}
 use Rattle.segment_judge.proofs.target_kept.Tie as tie

@@ -1,7 +1,7 @@
 -- `segment_moves::erase_for_redirect_on` meets its contract.
 use Rattle.store.specs.Page.{View, view}
 use Rattle.store.specs.PageSteps.{erase_for_redirect}
-use Rattle.store.specs.Laws.Calls.{page_ok}
+use Rattle.store.proofs.Laws.Calls.{page_ok}
 use Rattle.segment_steps.proofs.Lent.{lent_taken, lent_plan}
 use borrow.Author.Rules.{rules}
 use Rattle.segment_moves.proofs.erase_for_redirect_on.Statement.{statement}

@@ -1,6 +1,6 @@
 -- `segment_moves::set_redirect_on` meets its contract.
 use Rattle.store.specs.Page.{View, view}
-use Rattle.store.specs.Laws.Calls.{page_ok}
+use Rattle.store.proofs.Laws.Calls.{page_ok}
 use Rattle.slotted_page.specs.Words.{redirect_plan}
 use Rattle.segment_steps.proofs.Lent.{lent_entry, lent_plan}
 use borrow.Author.Rules.{rules}

@@ -1,5 +1,5 @@
 -- `segment_pages::page_of` meets its contract.
-use Rattle.store.specs.Laws.Segments.{lent_part_lem}
+use Rattle.store.proofs.Laws.Segments.{lent_part_lem}
 use borrow.Author.Rules.{rules}
 use Rattle.segment_pages.proofs.page_of.Statement.{statement}
 use Rattle.segment_pages.proofs.page_of.Tie as tie

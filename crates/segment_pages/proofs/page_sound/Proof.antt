@@ -4,7 +4,7 @@ use mathlib.Core.List.{List}
 use Prim.Native.Nat.{ℕ}
 use lib.ListN.{length}
 use Rattle.store.specs.Page.{view, sound}
-use Rattle.store.specs.Laws.Segments.{length_page}
+use Rattle.store.proofs.Laws.Segments.{length_page}
 use Rattle.segment_pages.proofs.Seen.{seen_sound}
 use borrow.Author.Rules.{rules}
 use Rattle.segment_pages.proofs.page_sound.Statement.{statement}

@@ -2,7 +2,7 @@
 use mathlib.Core.Path.{sym, ◌∙◌}
 use native.Mathlib.Omega.{arith}
 use borrow.Author.Tests.{not-true, not-false}
-use Rattle.store.specs.Laws.Slots.{codable_position}
+use Rattle.store.proofs.Laws.Slots.{codable_position}
 use Rattle.segment_scan.proofs.Records.{well_no, well_plain, well_target}
 use borrow.Author.Rules.{rules}
 use Rattle.segment_scan.proofs.lies_well.Statement.{statement}

@@ -6,7 +6,7 @@ use lib.ListN.{length}
 use borrow.Author.Tests.{not-true, not-false}
 use Rattle.store.specs.Page.{View, view, lies_well}
 use Rattle.store.specs.Segment.{seg_view}
-use Rattle.store.specs.Laws.Segments.{length_page}
+use Rattle.store.proofs.Laws.Segments.{length_page}
 use Rattle.segment_scan.proofs.Records.{lies_seen, record_no, record_yes}
 use borrow.Author.Rules.{rules}
 use Rattle.segment_scan.proofs.record_or_damage.Statement.{statement}

@@ -8,7 +8,7 @@ use lib.ListN.{length}
 use Rattle.store.specs.Page.{View, view}
 use Rattle.store.specs.Segment.{seg_view}
 use Rattle.store.specs.Scan.{damaged_at}
-use Rattle.store.specs.Laws.Segments.{length_page}
+use Rattle.store.proofs.Laws.Segments.{length_page}
 use Rattle.segment_pages.proofs.Seen.{seen_count}
 use Rattle.segment_scan.specs.Pages.{Counted}
 use Rattle.segment_scan.proofs.Records.{record_not_end}

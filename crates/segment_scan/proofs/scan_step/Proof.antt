@@ -3,7 +3,7 @@ use mathlib.Core.Path.{◌≡◌, sym, ◌∙◌}
 use mathlib.Core.Bool.{true}
 use borrow.Author.Tests.{not-true, not-false}
 use Rattle.store.specs.Segment.{size_ok}
-use Rattle.store.specs.Laws.SoundSegment.{sized}
+use Rattle.store.proofs.Laws.SoundSegment.{sized}
 use Rattle.segment_scan.proofs.Positions.{step_over, step_size, step_plan}
 use borrow.Author.Rules.{rules}
 use Rattle.segment_scan.proofs.scan_step.Statement.{statement}

@@ -4,7 +4,7 @@ use mathlib.Core.List.{List}
 use Prim.Native.Nat.{ℕ}
 use Rattle.store.specs.Page.{View, view}
 use Rattle.store.specs.PageSteps.{opened, allocate}
-use Rattle.store.specs.Laws.SoundSegment.{seen_page}
+use Rattle.store.proofs.Laws.SoundSegment.{seen_page}
 use Rattle.store.specs.Answers.{allotted}
 use Rattle.slotted_page.specs.Words.{page_bare}
 use Rattle.segment_steps.proofs.Lent.{length_bare, lent_whole, lent_sound, lent_answer, lent_step}

@@ -7,7 +7,7 @@ use lib.ListN.{length}
 use Rattle.store.specs.Page.{view}
 use Rattle.store.specs.Inventory.{update}
 use Rattle.store.specs.Segment.{page_of}
-use Rattle.store.specs.Laws.Segments.{length_page}
+use Rattle.store.proofs.Laws.Segments.{length_page}
 use borrow.Author.Rules.{rules}
 use Rattle.segment_steps.proofs.update_on.Statement.{statement}
 use Rattle.segment_steps.proofs.update_on.Tie as tie

@@ -7,7 +7,7 @@ use native.Mathlib.Omega.{arith}
 use lib.ListN.{length, drop, length-drop}
 use borrow.Author.Rules.{rules}
 use Rattle.exchange.specs.Exchange.{marked, data_length}
-use Rattle.store.specs.Laws.Numbers.{bytes_all}
+use Rattle.store.proofs.Laws.Numbers.{bytes_all}
 use Rattle.exchange.specs.Laws.Parse.{parse_end, parse_few, parse_mark, parse_long, parse_cut, parse_record}
 use Rattle.exchange.specs.Laws.Parse.{other_first, other_second, marked_at, told_at, record_at_lem}
 use Rattle.exchange.proofs.format.record_at.Statement.{statement}

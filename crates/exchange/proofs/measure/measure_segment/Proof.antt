@@ -9,8 +9,8 @@ use borrow.Author.Tests.{not-true, not-false}
 use Rattle.store.specs.Page.{view, sound}
 use Rattle.store.specs.PageSteps.{opened}
 use Rattle.store.specs.Segment.{page_of}
-use Rattle.store.specs.Laws.Segments.{length_page}
-use Rattle.store.specs.Laws.SoundSegment.{sized}
+use Rattle.store.proofs.Laws.Segments.{length_page}
+use Rattle.store.proofs.Laws.SoundSegment.{sized}
 use Rattle.exchange.specs.Words.{PageSums}
 use Rattle.exchange.proofs.MeasureLaws.{PagesTo, pages_none, pages_next, pages_stop, pages_all}
 use Rattle.exchange.proofs.measure.measure_segment.Statement.{statement}

@@ -2,7 +2,7 @@
 use mathlib.Core.Path.{refl, sym, ap}
 use native.Mathlib.Omega.{arith}
 use borrow.Author.Rules.{rules}
-use Rattle.store.specs.Laws.Numbers.{put_nil}
+use Rattle.store.proofs.Laws.Numbers.{put_nil}
 use Rattle.exchange.specs.Words.{part_length}
 use Rattle.exchange.proofs.write.write_part.Statement.{statement}
 use Rattle.exchange.proofs.write.write_part.Tie as tie

@@ -6,8 +6,8 @@ use native.Mathlib.Omega.{arith}
 use borrow.Author.Rules.{rules}
 use lib.ListN.{length, length-set}
 use Rattle.store.specs.Numbers.{cut, put, to_be}
-use Rattle.store.specs.Laws.Writes.{length_cut}
-use Rattle.store.specs.Laws.Numbers.{bytes_all}
+use Rattle.store.proofs.Laws.Writes.{length_cut}
+use Rattle.store.proofs.Laws.Numbers.{bytes_all}
 use Rattle.exchange.specs.Laws.Parse.{number_back}
 use Rattle.exchange.proofs.WriteLaws.{reading_written}
 use Rattle.exchange.proofs.write.write_reading.Statement.{statement}

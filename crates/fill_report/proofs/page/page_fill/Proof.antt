@@ -4,7 +4,7 @@ use mathlib.Core.Bool.{false}
 use native.Mathlib.Omega.{arith}
 use borrow.Author.Rules.{rules}
 use Rattle.store.specs.Page.{View, view, fresh}
-use Rattle.store.specs.Laws.SoundPage.{sound_page}
+use Rattle.store.proofs.Laws.SoundPage.{sound_page}
 use Rattle.store.specs.Laws.Views.{Sound}
 use Rattle.fill_report.proofs.PageLaws.{fills_fresh, fills_used}
 use Rattle.fill_report.proofs.page.page_fill.Statement.{statement}

@@ -5,7 +5,7 @@ use native.Mathlib.Omega.{arith}
 use borrow.Author.Rules.{rules}
 use lib.ListN.{length, get_or, length-set}
 use Rattle.store.specs.Report.{added}
-use Rattle.store.specs.Laws.Report.{get_d_added, fits_at}
+use Rattle.store.proofs.Laws.Report.{get_d_added, fits_at}
 use Rattle.fill_report.proofs.SumLaws.{added_is, added_turn}
 use Rattle.fill_report.proofs.sums.add_classes.Statement.{statement}
 use Rattle.fill_report.proofs.sums.add_classes.Tie as tie

@@ -7,7 +7,7 @@ use borrow.Author.Rules.{rules}
 use lib.ListN.{length, get_or, drop, drop_of_length-le}
 use lib.Dec.{ltb}
 use Rattle.store.specs.Report.{added}
-use Rattle.store.specs.Laws.Report.{length_added, get_d_added}
+use Rattle.store.proofs.Laws.Report.{length_added, get_d_added}
 use Rattle.fill_report.proofs.SumLaws.{Passed, fit_on, fit_out}
 use Rattle.fill_report.proofs.sums.classes_fit.Statement.{statement}
 use Rattle.fill_report.proofs.sums.classes_fit.Tie as tie

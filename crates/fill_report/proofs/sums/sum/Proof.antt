@@ -4,7 +4,7 @@ use native.Mathlib.Omega.{arith}
 use lib.ListN.{get_or}
 use Rattle.store.specs.Report.{added}
 use Rattle.store.specs.Answers.{numbers}
-use Rattle.store.specs.Laws.Report.{fits_at}
+use Rattle.store.proofs.Laws.Report.{fits_at}
 use Rattle.fill_report.proofs.SumLaws.{fit_rest}
 use Rattle.fill_report.proofs.sums.sum.Statement.{statement}
 use Rattle.fill_report.proofs.sums.sum.Tie as tie

@@ -7,7 +7,7 @@ use lib.Dec.{eqb}
 use borrow.Author.Rules.{rules}
 use borrow.Author.Tests.{eq-eqb, ne_eqb}
 use Rattle.store.specs.Page.{View, view, fresh}
-use Rattle.store.specs.Laws.SoundPage.{used_not_fresh}
+use Rattle.store.proofs.Laws.SoundPage.{used_not_fresh}
 use Rattle.layout.proofs.header.is_fresh.Statement.{statement}
 use Rattle.layout.proofs.header.is_fresh.Tie as tie
 

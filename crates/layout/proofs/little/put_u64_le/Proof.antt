@@ -6,9 +6,9 @@ use native.Mathlib.Omega.{arith}
 use lib.ListN.{length, set}
 use borrow.Author.Rules.{rules}
 use Rattle.store.specs.Numbers.{put, to_le}
-use Rattle.store.specs.Laws.Numbers.{length_put, length_to_le, put_nil}
+use Rattle.store.proofs.Laws.Numbers.{length_put, length_to_le, put_nil}
 use Rattle.layout.proofs.LittleEndian.{to_le_more}
-use Rattle.store.specs.Laws.Writes.{write_snoc}
+use Rattle.store.proofs.Laws.Writes.{write_snoc}
 use Rattle.layout.proofs.little.put_u64_le.Statement.{statement}
 use Rattle.layout.proofs.little.put_u64_le.Tie as tie
 

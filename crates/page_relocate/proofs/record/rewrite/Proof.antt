@@ -5,7 +5,7 @@ use native.Mathlib.Omega.{arith}
 use Rattle.store.specs.Numbers.{fit}
 use Rattle.store.specs.PageSteps.{relocate}
 use Rattle.store.specs.Page.{view}
-use Rattle.store.specs.Laws.Fit.{length_fit}
+use Rattle.store.proofs.Laws.Fit.{length_fit}
 use Rattle.store.specs.declared.Place.{Place}
 use Rattle.page_places.specs.Words.{Inside}
 use Rattle.page_relocate.proofs.RecordLaws.{bytes_done_lem}

@@ -11,7 +11,7 @@ use Rattle.page_places.specs.Words.{Inside}
 use Rattle.page_relocate.proofs.RecordLaws.{saved_old, old_done}
 use Rattle.store.specs.Answers.{given_place}
 use Rattle.page_relocate.proofs.MovedLaws.{refused_done}
-use Rattle.store.specs.Laws.Numbers.{length_put}
+use Rattle.store.proofs.Laws.Numbers.{length_put}
 use borrow.Author.Rules.{rules}
 use Rattle.page_relocate.proofs.relocate.grow_packed.Statement.{statement}
 use Rattle.page_relocate.proofs.relocate.grow_packed.Tie as tie

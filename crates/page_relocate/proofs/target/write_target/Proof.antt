@@ -3,7 +3,7 @@ use mathlib.Core.Path.{sym, ap, ◌∙◌}
 use mathlib.Core.List.{List, ◌++◌}
 use Prim.Native.Nat.{ℕ}
 use Rattle.store.specs.Numbers.{put, toBE, fit}
-use Rattle.store.specs.Laws.Writes.{write-append}
+use Rattle.store.proofs.Laws.Writes.{write-append}
 use borrow.Author.Rules.{rules}
 use Rattle.page_relocate.proofs.target.write_target.Statement.{statement}
 use Rattle.page_relocate.proofs.target.write_target.Tie as tie

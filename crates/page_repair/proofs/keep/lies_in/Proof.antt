@@ -7,7 +7,7 @@ use lib.Dec.{leb}
 use native.Mathlib.Omega.{arith}
 use borrow.Author.Rules.{rules}
 use Rattle.store.specs.Slots.{off, len, is_target}
-use Rattle.store.specs.Laws.Slots.{codable_position}
+use Rattle.store.proofs.Laws.Slots.{codable_position}
 use Rattle.page_repair.proofs.KeepLaws.{leaves, too_short, lies_nowhere, lies_behind}
 use Rattle.page_repair.proofs.keep.lies_in.Statement.{statement}
 use Rattle.page_repair.proofs.keep.lies_in.Tie as tie

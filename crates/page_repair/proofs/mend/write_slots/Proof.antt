@@ -7,7 +7,7 @@ use lib.ListN.{length, get_or}
 use Rattle.store.specs.Page.{view}
 use Rattle.store.specs.Repair.{slot_by, put_slots}
 use Rattle.store.specs.Laws.Slots.{Codable}
-use Rattle.store.specs.Laws.RepairBytes.{slots_length}
+use Rattle.store.proofs.Laws.RepairBytes.{slots_length}
 use Rattle.page_repair.specs.Mended.{deeds_of}
 use Rattle.page_repair.proofs.MendLaws.{slot_by_lem, still_count, still_slot, wrote, left_so}
 use Rattle.page_repair.proofs.mend.write_slots.Statement.{statement}

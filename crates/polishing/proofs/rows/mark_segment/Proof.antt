@@ -9,8 +9,8 @@ use Rattle.store.specs.Page.{view, sound}
 use Rattle.store.specs.PageSteps.{opened}
 use Rattle.store.specs.Records.{records}
 use Rattle.store.specs.Segment.{seg_view}
-use Rattle.store.specs.Laws.Report.{each_sound}
-use Rattle.store.specs.Laws.Segments.{length_page}
+use Rattle.store.proofs.Laws.Report.{each_sound}
+use Rattle.store.proofs.Laws.Segments.{length_page}
 use Rattle.exchange.specs.Exchange.{readings}
 use Rattle.exchange.specs.Words.{page_readings}
 use Rattle.exchange.specs.Laws.Left.{pages_readings}

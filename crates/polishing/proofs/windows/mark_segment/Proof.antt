@@ -9,9 +9,9 @@ use borrow.Author.Tests.{not-true, not-false}
 use Rattle.store.specs.Page.{view, sound}
 use Rattle.store.specs.PageSteps.{opened}
 use Rattle.store.specs.Segment.{page_of}
-use Rattle.store.specs.Laws.Cases.{never}
-use Rattle.store.specs.Laws.Report.{damaged}
-use Rattle.store.specs.Laws.Segments.{length_page}
+use Rattle.store.proofs.Laws.Cases.{never}
+use Rattle.store.proofs.Laws.Report.{damaged}
+use Rattle.store.proofs.Laws.Segments.{length_page}
 use Rattle.exchange.specs.Words.{page_readings}
 use Rattle.polishing.specs.Words.{windows_over}
 use Rattle.polishing.proofs.WindowPassLaws.{MarkedTo, marked_none, marked_next, marked_all}

@@ -7,7 +7,7 @@ use borrow.Author.Tests.{not-true, not-false, eqb-true}
 use borrow.Author.Rules.{rules}
 use Rattle.store.specs.Segment.{size_ok, inv_ok}
 use Rattle.store.specs.ManyRows.{total}
-use Rattle.store.specs.Laws.ManyRows.{list_right, by_size, by_list, rows_placed}
+use Rattle.store.proofs.Laws.ManyRows.{list_right, by_size, by_list, rows_placed}
 use Rattle.segment_insert.proofs.RowsLaws.{no_places, no_sum}
 use Rattle.segment_insert.proofs.rows.insert_records.Statement.{statement}
 use Rattle.segment_insert.proofs.rows.insert_records.Tie as tie

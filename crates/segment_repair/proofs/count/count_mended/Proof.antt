@@ -6,7 +6,7 @@ use lib.ListN.{length}
 use borrow.Author.Rules.{rules}
 use borrow.Author.Tests.{not-true, not-false}
 use Rattle.store.specs.Page.{view}
-use Rattle.store.specs.Laws.Segments.{length_page}
+use Rattle.store.proofs.Laws.Segments.{length_page}
 use Rattle.page_repair.specs.Kept.{CountedPage}
 use Rattle.segment_repair.proofs.CountLaws.{codable_deeds, head_stays, head_anew}
 use Rattle.segment_repair.proofs.count.count_mended.Statement.{statement}

@@ -6,7 +6,7 @@ use native.Mathlib.Omega.{arith}
 use lib.ListN.{length}
 use borrow.Author.Rules.{rules}
 use Rattle.store.specs.Page.{view}
-use Rattle.store.specs.Laws.Segments.{length_page}
+use Rattle.store.proofs.Laws.Segments.{length_page}
 use Rattle.segment_repair.proofs.CountLaws.{many_counted, none_counted, fresh_counted_on}
 use Rattle.segment_repair.proofs.count.count_page.Statement.{statement}
 use Rattle.segment_repair.proofs.count.count_page.Tie as tie

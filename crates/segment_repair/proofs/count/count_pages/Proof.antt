@@ -5,8 +5,8 @@ use mathlib.Core.Logic.{⊎_elim}
 use native.Mathlib.Omega.{arith}
 use lib.ListN.{length, length-replicate}
 use Rattle.store.specs.Repair.{standing, seg_entries, seg_after, true_inv}
-use Rattle.store.specs.Laws.RepairList.{seg_most, page_most}
-use Rattle.store.specs.Laws.RepairInventory.{true_length}
+use Rattle.store.proofs.Laws.RepairList.{seg_most, page_most}
+use Rattle.store.proofs.Laws.RepairInventory.{true_length}
 use Rattle.segment_repair.proofs.CountLaws.{entries_none, entries_more, true_none, true_skips, true_more, true_all}
 use Rattle.segment_repair.proofs.count.count_pages.Statement.{statement}
 use Rattle.segment_repair.proofs.count.count_pages.Tie as tie

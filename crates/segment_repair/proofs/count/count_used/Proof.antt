@@ -8,7 +8,7 @@ use lib.ListN.{length}
 use borrow.Author.Rules.{rules}
 use Rattle.store.specs.Page.{view, sound}
 use Rattle.store.specs.Segment.{page_of}
-use Rattle.store.specs.Laws.Segments.{length_page}
+use Rattle.store.proofs.Laws.Segments.{length_page}
 use Rattle.segment_repair.proofs.CountLaws.{quiet_counted}
 use Rattle.segment_repair.proofs.count.count_used.Statement.{statement}
 use Rattle.segment_repair.proofs.count.count_used.Tie as tie

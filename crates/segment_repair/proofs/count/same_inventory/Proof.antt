@@ -4,7 +4,7 @@ use mathlib.Core.Path.{◌≡◌, sym, ◌∙◌}
 use native.Mathlib.Omega.{arith}
 use borrow.Author.Rules.{rules}
 use borrow.Author.Count.{below_more}
-use Rattle.store.specs.Laws.Numbers.{bytes_all}
+use Rattle.store.proofs.Laws.Numbers.{bytes_all}
 use Rattle.segment_repair.proofs.SameLaws.{word, words_same, word_differs}
 use Rattle.segment_repair.proofs.count.same_inventory.Statement.{statement}
 use Rattle.segment_repair.proofs.count.same_inventory.Tie as tie

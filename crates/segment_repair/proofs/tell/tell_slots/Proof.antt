@@ -1,7 +1,7 @@
 -- `segment_repair::tell::tell_slots` meets its contract. The entries of the slots passed are in the list.
 use Prim.Native.Nat.{◌+◌, ◌-◌, ◌*◌, ◌≤◌}
 use mathlib.Core.Path.{◌≡◌, refl, sym, ap, ◌∙◌}
-use Rattle.store.specs.Laws.Numbers.{put_nil}
+use Rattle.store.proofs.Laws.Numbers.{put_nil}
 use native.Mathlib.Omega.{arith}
 use mathlib.Core.Logic.{⊎_elim}
 use lib.ListN.{length}

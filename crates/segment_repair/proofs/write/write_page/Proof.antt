@@ -4,7 +4,7 @@ use mathlib.Core.Path.{ap, ◌∙◌}
 use mathlib.Core.Bool.{true, false}
 use native.Mathlib.Omega.{arith}
 use lib.ListN.{length}
-use Rattle.store.specs.Laws.Segments.{length_page}
+use Rattle.store.proofs.Laws.Segments.{length_page}
 use Rattle.segment_repair.proofs.WriteLaws.{counted_on, fresh_is, many_lost, none_lost, written_fresh}
 use Rattle.segment_repair.proofs.write.write_page.Statement.{statement}
 use Rattle.segment_repair.proofs.write.write_page.Tie as tie

@@ -7,8 +7,8 @@ use native.Mathlib.Omega.{arith}
 use lib.ListN.{length}
 use Rattle.store.specs.Numbers.{put}
 use Rattle.store.specs.Repair.{standing, seg_bytes, seg_entries, Entry, words}
-use Rattle.store.specs.Laws.Numbers.{put_nil}
-use Rattle.store.specs.Laws.RepairBytes.{seg_length}
+use Rattle.store.proofs.Laws.Numbers.{put_nil}
+use Rattle.store.proofs.Laws.RepairBytes.{seg_length}
 use Rattle.segment_repair.specs.Words.{Written}
 use Rattle.segment_repair.proofs.WriteLaws.{none_told, none_written, mixed_known, mixed_within, mixed_room, mixed_turn}
 use Rattle.segment_repair.proofs.write.write_pages.Statement.{statement}

@@ -4,7 +4,7 @@ use Prim.Native.Nat.{ℕ}
 use native.Mathlib.Omega.{arith}
 use lib.ListN.{take, length-take, length-replicate}
 use Rattle.store.specs.Numbers.{fit}
-use Rattle.store.specs.Laws.Calls.{back_ok}
+use Rattle.store.proofs.Laws.Calls.{back_ok}
 use Rattle.segment_pages.proofs.Root.{back_taken}
 use Rattle.segment_write.proofs.Stored.{again_same}
 use borrow.Author.Rules.{rules}

@@ -9,7 +9,7 @@ use lib.Dec.{leb}
 use borrow.Author.Tests.{not-true, not-false, leb-true}
 use Rattle.store.specs.Numbers.{to_be, fit, page_no, slot_no}
 use Rattle.store.specs.Segment.{seg_view}
-use Rattle.store.specs.Laws.Fit.{length_fit}
+use Rattle.store.proofs.Laws.Fit.{length_fit}
 use Rattle.store.specs.declared.Slot.TheVariants.{Redirect}
 use Rattle.segment_pages.proofs.Root.{root_taken, back_taken}
 use Rattle.segment_steps.specs.Words.{Sizes}

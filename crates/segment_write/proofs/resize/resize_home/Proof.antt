@@ -6,7 +6,7 @@ use lib.ListN.{take, length-take, length-replicate}
 use borrow.Author.Tests.{le-leb}
 use Rattle.store.specs.Numbers.{fit, page_no}
 use Rattle.store.specs.Segment.{seg_view}
-use Rattle.store.specs.Laws.Calls.{back_ok}
+use Rattle.store.proofs.Laws.Calls.{back_ok}
 use Rattle.segment_pages.proofs.Root.{back_taken}
 use Rattle.segment_write.proofs.Stored.{goes_home, home_same}
 use borrow.Author.Rules.{rules}

@@ -7,8 +7,8 @@ use lib.ListN.{length, take, replicate, length-take, length-replicate}
 use Rattle.store.specs.Numbers.{cut, fit, page_no, slot_no}
 use Rattle.store.specs.Slots.{is_target}
 use Rattle.store.specs.Segment.{seg_view}
-use Rattle.store.specs.Laws.Numbers.{length_put}
-use Rattle.store.specs.Laws.Fit.{length_fit}
+use Rattle.store.proofs.Laws.Numbers.{length_put}
+use Rattle.store.proofs.Laws.Fit.{length_fit}
 use Rattle.store.specs.Laws.Lent.{TakenOn}
 use Rattle.store.specs.declared.Slot.TheVariants.{Ordinary}
 use Rattle.segment_pages.proofs.Seen.{slot_high, slot_bytes_lem}

@@ -10,7 +10,7 @@ use borrow.Author.Tests.{not-true, not-false, leb-true}
 use Rattle.store.specs.Numbers.{to_be, fit, page_no, slot_no}
 use Rattle.store.specs.Segment.{seg_view}
 use Rattle.store.specs.declared.Slot.TheVariants.{Redirect}
-use Rattle.store.specs.Laws.Fit.{fit_all}
+use Rattle.store.proofs.Laws.Fit.{fit_all}
 use Rattle.segment_pages.proofs.Root.{root_taken, back_taken}
 use Rattle.segment_steps.specs.Words.{Sizes}
 use Rattle.segment_moves.proofs.Moved.{target_length}

@@ -5,7 +5,7 @@ use Prim.Native.Nat.{ℕ, ◌≤◌}
 use lib.ListN.{length}
 use Rattle.store.specs.Numbers.{fit, page_no, slot_no}
 use Rattle.store.specs.Segment.{seg_view}
-use Rattle.store.specs.Laws.Fit.{length_fit, fit_all}
+use Rattle.store.proofs.Laws.Fit.{length_fit, fit_all}
 use Rattle.store.specs.Laws.Lent.{TakenOn}
 use Rattle.segment_steps.specs.Words.{Sizes}
 use Rattle.segment_moves.proofs.Moved.{no_target}

@@ -2,7 +2,7 @@
 use mathlib.Core.Path.{sym, ◌∙◌}
 use mathlib.Core.List.{[]}
 use Rattle.store.specs.Page.{view}
-use Rattle.store.specs.Laws.Numbers.{put_nil}
+use Rattle.store.proofs.Laws.Numbers.{put_nil}
 use Rattle.store.specs.declared.Slot.TheVariants.{Redirect}
 use Rattle.slotted_page.proofs.FillLaws.{move_writes}
 use borrow.Author.Rules.{rules}

@@ -1,0 +1,37 @@
+-- The id's own page: what is told by its answer.
+use Rattle.std.specs.Prelude.{ℕ, ◌≤◌, ◌<◌, ◌≡◌, true, false, not, leb}
+use Rattle.std.proofs.Common.{arith, leb-true, leb-false}
+use Rattle.std.proofs.lemmas.Bool.{lt-leb, not-true, not-false}
+use Rattle.store.specs.Numbers.{page_no, slot_no}
+use Rattle.store.specs.Page.{sound}
+use Rattle.store.specs.Refusals.{NOPAGE, DAMAGED}
+use Rattle.store.specs.Segment.{SegView, root_of, by_root}
+use Rattle.store.proofs.Laws.Cases.{by_test}
+use Rattle.store.specs.declared.Root.{Root}
+use Rattle.store.specs.declared.Root.TheVariants.{Entry, NoPage, Damaged}
+use Rattle.store.specs.declared.Slot.{Slot}
+
+-- a property of what is done by the id's own page, from its three answers
+pub by_root_lem : {A : Type 0} (P : A → Type 0) (s : SegView) (i : ℕ) (f : ℕ → A) (g : Slot → A) → (s.pages ≤ page_no i → P (f NOPAGE))
+    → (page_no i < s.pages → sound (s.page (page_no i)) ≡ false → P (f DAMAGED))
+    → (page_no i < s.pages → sound (s.page (page_no i)) ≡ true → P (g ((s.page (page_no i)).at (slot_no i))))
+    → P (by_root f g (root_of s i))
+unfolding root_of
+by_root_lem P s i f g none damaged entry =
+    by_test (λ (r : Root). P (by_root f g r)) (leb s.pages (page_no i)) NoPage _ (λ e. none (leb-true s.pages (page_no i) e))
+    (λ e. by_test (λ (r : Root). P (by_root f g r)) (not (sound (s.page (page_no i)))) Damaged _
+    (λ d. damaged (leb-false s.pages (page_no i) e) (not-true (sound (s.page (page_no i))) d))
+    (λ d. entry (leb-false s.pages (page_no i) e) (not-false (sound (s.page (page_no i))) d)))
+
+-- a page that is there and sound answers the entry
+pub root_entry : (s : SegView) (i : ℕ) → page_no i < s.pages → sound (s.page (page_no i)) ≡ true
+    → root_of s i ≡ Entry ((s.page (page_no i)).at (slot_no i))
+unfolding root_of
+root_entry s i h e = rw (lt-leb s.pages (page_no i) h, e)
+
+-- the property, where the page is known to be sound if it is there
+pub by_sound_root : {A : Type 0} (P : A → Type 0) (s : SegView) (i : ℕ) (f : ℕ → A) (g : Slot → A) → sound (s.page (page_no i)) ≡ true
+    → (s.pages ≤ page_no i → P (f NOPAGE)) → (page_no i < s.pages → P (g ((s.page (page_no i)).at (slot_no i))))
+    → P (by_root f g (root_of s i))
+by_sound_root P s i f g ok none entry =
+    by_root_lem P s i f g none (λ l e. let z : ◌≡◌ {A = ℕ} 0 1 = cc in absurd (omega arith)) (λ l e. entry l)
