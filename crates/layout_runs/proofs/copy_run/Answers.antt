@@ -7,7 +7,6 @@ use borrow.Rule.Slice.PartMut.{put_mid}
 use Rattle.store.specs.Numbers.{cut}
 use Rattle.store.proofs.Laws.Numbers.{lent}
 use Rattle.store.proofs.Laws.Writes.{length_cut}
-use Rattle.layout_runs.proofs.RunLaws.{over}
 use Rattle.layout_runs.proofs.copy_run.Goals.{After-copy_from_slice, Start}
 use Rattle.layout_runs.proofs.copy_run.Goals as goal
 
@@ -20,5 +19,5 @@ returns c =
     let a : ℕ = entry.args.at in
     let e : ℕ = a + length s in
     let full : length (cut q a (e - a)) ≡ length s = length_cut q a (e - a) (omega (arith, entry.requires)) ∙ omega arith in
-    ap (λ (r : List ℕ). put_mid a (e - a) q r) (copied.copy.ensures.1 ∙ over s (cut q a (e - a)) full)
+    ap (λ (r : List ℕ). put_mid a (e - a) q r) copied.copy_from_slice.ensures.after
     ∙ lent q a e s (omega arith) entry.requires (omega arith)
