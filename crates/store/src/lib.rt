@@ -127,7 +127,7 @@ pub enum Inserted {
 
 // "One running tally": figures over any number of segments, in the order that C has them (include/hekatosuy.h).
 #[repr(C)]
-#[derive(Drop)]
+#[derive(Clone, Copy)]
 pub struct Tally {
     pub pages: u64,
     pub fresh_pages: u64,
