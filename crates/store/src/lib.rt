@@ -72,7 +72,7 @@ pub enum Answer {
 }
 
 // What a read answers: the part of the segment that is the record, or a refusal.
-#[derive(Drop)]
+#[derive(Clone, Copy)]
 pub enum Reading {
     At { offset: usize, length: usize },
     Size,
@@ -82,7 +82,7 @@ pub enum Reading {
 }
 
 // What a step of the scan answers: a record and the next position, or none.
-#[derive(Drop)]
+#[derive(Clone, Copy)]
 pub enum Step {
     Record {
         id: usize,
