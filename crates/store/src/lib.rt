@@ -27,7 +27,7 @@ pub const AT_HEADER: u64 = 65535;
 
 pub const AT_INVENTORY: u64 = 65536;
 
-#[derive(Drop)]
+#[derive(Clone, Copy)]
 pub enum Slot {
     Ordinary { offset: usize, length: usize },
     Free,
