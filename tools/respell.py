@@ -33,7 +33,7 @@ def snake(name):
 
 def files(end, top):
     for folder, dirs, names in os.walk(top):
-        dirs[:] = sorted(d for d in dirs if d not in ("out", "target", ".git"))
+        dirs[:] = sorted(d for d in dirs if d not in ("out", ".git"))
         for f in sorted(names):
             if f.endswith(end):
                 yield os.path.join(folder, f)
