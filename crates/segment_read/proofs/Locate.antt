@@ -2,10 +2,7 @@
 use Prim.Native.Nat.{ℕ, ◌+◌, ◌-◌, ◌≤◌}
 use mathlib.Core.Path.{◌≡◌, refl, sym, ap, subst, ◌∙◌}
 use mathlib.Core.Bool.{Bool, true, false, cond}
-use mathlib.Core.List.{List, [], ◌∷◌}
-use mathlib.Core.Logic.{⊎_elim}
-use types.Run.{OneOf}
-use denote.Enum.Declared.{tag_of}
+use mathlib.Core.List.{List, []}
 use native.Mathlib.Omega.{arith}
 use lib.ListN.{length, drop}
 use lib.Dec.{eqb}
@@ -26,7 +23,6 @@ use Rattle.store.specs.declared.Slot.{Slot}
 use Rattle.store.specs.declared.Slot.TheVariants.{Ordinary, Free, Redirect, Target}
 use Rattle.store.specs.declared.Reading.{Reading}
 use Rattle.store.specs.declared.Reading.TheVariants.{At, Size, NoPage, Damaged, NoRecord}
-use Rattle.store.specs.contracts.Reading as reading
 use Rattle.segment_read.specs.Parts.{found_at, not_found, followed, locate_by}
 use Rattle.segment_pages.proofs.Seen.{slot_high, target_long}
 use Rattle.segment_pages.proofs.Root.{root_is, back_taken}
@@ -115,11 +111,11 @@ module _ (s : List ℕ) (i : ℕ) (r : Reading) (e : located r ≡ locate_step s
       let k : o + l - o ≡ l = omega arith in
       read_by_lem (cut s o (o + l - o)) (ap (cut s o) k ∙ ap (λ (x : Reading). held s (reading_part x)) (sym q))
 
-  pub read_nothing : OneOf (1 ∷ 2 ∷ 3 ∷ 4 ∷ []) (tag_of reading.the_type r) → ◌≡◌ {A = Read} (record { answer = n; bytes = [] }) (read_step s i)
+  pub read_nothing : ((o l : ℕ) → r ≡ At o l → ⊥) → ◌≡◌ {A = Read} (record { answer = n; bytes = [] }) (read_step s i)
   read_nothing h = read_by_lem [] (go r h)
     where
-      go : (x : Reading) → OneOf (1 ∷ 2 ∷ 3 ∷ 4 ∷ []) (tag_of reading.the_type x) → [] ≡ held s (reading_part x)
-      go (At o l) h = absurd (⊎_elim (λ e. omega arith) (⊎_elim (λ e. omega arith) (⊎_elim (λ e. omega arith) (λ e. omega arith))) h)
+      go : (x : Reading) → ((o l : ℕ) → x ≡ At o l → ⊥) → [] ≡ held s (reading_part x)
+      go (At o l) h = absurd (h o l refl)
       go Size h = refl
       go NoPage h = refl
       go Damaged h = refl
