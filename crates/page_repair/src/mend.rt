@@ -11,7 +11,7 @@ use layout::slots::{get_slot, len_of, off_of};
 use store::{BACK, ENTRY, HEADER, PAGE_SIZE, ROOM, Slot};
 
 // How many slots change; of the slots afterwards the first free one, the lowest offset of a record of positive length, and the lengths' sum.
-#[derive(Drop)]
+#[derive(Clone, Copy)]
 pub struct Numbers {
     pub changes: usize,
     pub first: usize,
