@@ -3,7 +3,7 @@
 
 ghost use Rattle.std.specs.Prelude.{◌≡◌};
 ghost use Rattle.store.specs.Numbers.{page_no, slot_no};
-ghost use Rattle.store.specs.Segment.{seg_view, result, erase_by, erase_step};
+ghost use Rattle.store.specs.Segment.{seg_view, result as result_of, erase_by, erase_step};
 ghost use Rattle.store.specs.Answers.{outcome};
 ghost use Rattle.store.specs.Laws.Lent.{TakenOn, RootIs};
 ghost use Rattle.segment_steps.specs.Words.{Sizes};
@@ -14,8 +14,8 @@ use store::{Answer, IDS_A_PAGE, Root, Slot};
 fn erase_ordinary(segment: &mut [u8], inventory: &mut [u8], id: usize) -> Answer
     requires sizes { Sizes segment.old inventory.old }
     requires taken_on { TakenOn segment.old (page_no id) (slot_no id) }
-    ensures* { λ r. ⌜ outcome r segment.new inventory.new
-        ≡ result segment.old (erase_by (seg_view segment.old) inventory.old id (Slot.Ordinary 0 0)) ⌝ }
+    ensures { outcome result segment.new inventory.new
+        ≡ result_of segment.old (erase_by (seg_view segment.old) inventory.old id (Slot.Ordinary 0 0)) }
 {
     let p = id / IDS_A_PAGE;
     segment_steps::erase_on(segment, p, id % IDS_A_PAGE);
@@ -27,8 +27,8 @@ fn erase_ordinary(segment: &mut [u8], inventory: &mut [u8], id: usize) -> Answer
 fn erase_forwarded(segment: &mut [u8], inventory: &mut [u8], id: usize, t: usize) -> Answer
     requires sizes { Sizes segment.old inventory.old }
     requires root_is { RootIs segment.old id (Slot.Redirect t) }
-    ensures* { λ r. ⌜ outcome r segment.new inventory.new
-        ≡ result segment.old (erase_by (seg_view segment.old) inventory.old id (Slot.Redirect t)) ⌝ }
+    ensures { outcome result segment.new inventory.new
+        ≡ result_of segment.old (erase_by (seg_view segment.old) inventory.old id (Slot.Redirect t)) }
 {
     if !segment_pages::points_back(segment, id, t) {
         return Answer::Damaged;
@@ -46,8 +46,8 @@ fn erase_forwarded(segment: &mut [u8], inventory: &mut [u8], id: usize, t: usize
 fn erase_slot(segment: &mut [u8], inventory: &mut [u8], id: usize, slot: Slot) -> Answer
     requires sizes { Sizes segment.old inventory.old }
     requires root_is { RootIs segment.old id slot }
-    ensures* { λ r. ⌜ outcome r segment.new inventory.new
-        ≡ result segment.old (erase_by (seg_view segment.old) inventory.old id slot) ⌝ }
+    ensures { outcome result segment.new inventory.new
+        ≡ result_of segment.old (erase_by (seg_view segment.old) inventory.old id slot) }
 {
     match slot {
         Slot::Ordinary {
@@ -64,7 +64,7 @@ fn erase_slot(segment: &mut [u8], inventory: &mut [u8], id: usize, slot: Slot) -
 }
 
 pub fn erase_record(segment: &mut [u8], inventory: &mut [u8], id: usize) -> Answer
-    ensures* { λ r. ⌜ outcome r segment.new inventory.new ≡ erase_step segment.old inventory.old id ⌝ }
+    ensures { outcome result segment.new inventory.new ≡ erase_step segment.old inventory.old id }
 {
     if !segment_pages::sizes_ok(segment, inventory) {
         return Answer::Size;

@@ -5,7 +5,7 @@ ghost use Rattle.std.specs.Prelude.{◌≡◌, ◌||◌, [], ◌+◌, ◌≤◌,
 ghost use Rattle.store.specs.Numbers.{fit, page_no, slot_no};
 ghost use Rattle.store.specs.PageSteps.{relocate};
 ghost use Rattle.store.specs.Inventory.{found_in};
-ghost use Rattle.store.specs.Segment.{seg_view, find, result, forwarded, forwarded_again, at_home};
+ghost use Rattle.store.specs.Segment.{seg_view, find, result as result_of, forwarded, forwarded_again, at_home};
 ghost use Rattle.store.specs.Answers.{outcome};
 ghost use Rattle.store.specs.Laws.Lent.{TakenOn};
 ghost use Rattle.segment_steps.specs.Words.{Sizes, seen};
@@ -25,9 +25,9 @@ fn place_target(
 ) -> Answer
     requires sizes { Sizes segment.old inventory.now }
     requires size_bound { size ≤ 16364 }
-    ensures* { λ r. ⌜ outcome r segment.new inventory.now
-        ≡ result segment.old (new_target inventory.now id (fit size bytes.now)
-        (find found_in (seg_view segment.old) inventory.now (size + 8) (root_or_old id old))) ⌝ }
+    ensures { outcome result segment.new inventory.now
+        ≡ result_of segment.old (new_target inventory.now id (fit size bytes.now)
+        (find found_in (seg_view segment.old) inventory.now (size + 8) (root_or_old id old))) }
 {
     let named = free_space_inventory::find_page(inventory, segment.len() / PAGE_SIZE, size + 16);
     let Named::At { page } = named else {
@@ -70,10 +70,10 @@ pub fn forward(
     requires sizes { Sizes segment.old inventory.old }
     requires taken_on { TakenOn segment.old (page_no id) (slot_no id) }
     requires size_bound { size ≤ 16364 }
-    ensures* { λ r. ⌜ outcome r segment.new inventory.new
-        ≡ result segment.old
+    ensures { outcome result segment.new inventory.new
+        ≡ result_of segment.old
         (forwarded (seg_view segment.old) inventory.old id size (λ o. fit size bytes.now) []
-        (find found_in (seg_view segment.old) inventory.old (size + 8) (λ p. eqb p (page_no id)))) ⌝ }
+        (find found_in (seg_view segment.old) inventory.old (size + 8) (λ p. eqb p (page_no id)))) }
 {
     let placed = place_target(segment, inventory, id, id, bytes, size);
     let Answer::Done { id: target } = placed else {
@@ -98,10 +98,10 @@ pub fn forward_again(
     requires sizes { Sizes segment.old inventory.old }
     requires follows { Follows segment.old id t }
     requires size_bound { size ≤ 16364 }
-    ensures* { λ r. ⌜ outcome r segment.new inventory.new
-        ≡ result segment.old
+    ensures { outcome result segment.new inventory.new
+        ≡ result_of segment.old
         (forwarded_again (seg_view segment.old) inventory.old id size (λ o. fit size bytes.now) t []
-        (find found_in (seg_view segment.old) inventory.old (size + 8) (λ p. eqb p (page_no id) || eqb p (page_no t)))) ⌝ }
+        (find found_in (seg_view segment.old) inventory.old (size + 8) (λ p. eqb p (page_no id) || eqb p (page_no t)))) }
 {
     let placed = place_target(segment, inventory, id, t, bytes, size);
     let Answer::Done { id: new_target } = placed else {
@@ -117,7 +117,7 @@ pub fn forward_again(
 // "From a redirect: needs the full size free": whether the root's page has that.
 pub fn fits_home(segment: &[u8], id: usize, size: usize) -> bool
     requires { TakenOn segment.now (page_no id) (slot_no id) }
-    ensures* { λ r. ⌜ r ≡ leb size (seen segment.now (page_no id)).free_space ⌝ }
+    ensures { result ≡ leb size (seen segment.now (page_no id)).free_space }
 {
     size <= layout::header::get_free_space(segment_pages::page_of(segment, id / IDS_A_PAGE))
 }
@@ -134,10 +134,10 @@ pub fn at_home(
     requires sizes { Sizes segment.old inventory.old }
     requires follows { Follows segment.old id t }
     requires size_bound { size ≤ (seen segment.old (page_no id)).free_space }
-    ensures* { λ r. ⌜ outcome r segment.new inventory.new
-        ≡ result segment.old
+    ensures { outcome result segment.new inventory.new
+        ≡ result_of segment.old
         (at_home found_in (seg_view segment.old) inventory.old id size (λ o. fit size bytes.now) t []
-        (relocate (seen segment.old (page_no id)) (slot_no id) size)) ⌝ }
+        (relocate (seen segment.old (page_no id)) (slot_no id) size)) }
 {
     segment_moves::rewrite_on(segment, id / IDS_A_PAGE, id % IDS_A_PAGE, bytes, size);
     segment_steps::erase_on(segment, t / IDS_A_PAGE, t % IDS_A_PAGE);

@@ -4,7 +4,7 @@ ghost use Rattle.store.specs.Numbers.{fit, page_no, slot_no};
 ghost use Rattle.store.specs.Slots.{is_target};
 ghost use Rattle.store.specs.PageSteps.{relocate};
 ghost use Rattle.store.specs.Inventory.{found_in};
-ghost use Rattle.store.specs.Segment.{seg_view, find, result, forwarded_again, at_home, store_by, resize_step};
+ghost use Rattle.store.specs.Segment.{seg_view, find, result as result_of, forwarded_again, at_home, store_by, resize_step};
 ghost use Rattle.store.specs.Answers.{outcome};
 ghost use Rattle.store.specs.Laws.Lent.{SoundOn, RootIs};
 ghost use Rattle.segment_steps.specs.Words.{Sizes, seen};
@@ -24,9 +24,9 @@ fn resize_ordinary(
     requires sizes { Sizes segment.old inventory.old }
     requires root_is { RootIs segment.old id (Slot.Ordinary offset n) }
     requires size_bound { size ≤ 16364 }
-    ensures* { λ r. ⌜ outcome r segment.new inventory.new
-        ≡ result segment.old
-        (store_by found_in (seg_view segment.old) inventory.old id size (fit size) (Slot.Ordinary offset n)) ⌝ }
+    ensures { outcome result segment.new inventory.new
+        ≡ result_of segment.old
+        (store_by found_in (seg_view segment.old) inventory.old id size (fit size) (Slot.Ordinary offset n)) }
 {
     if segment_moves::resize_on(segment, id / IDS_A_PAGE, id % IDS_A_PAGE, size) {
         segment_steps::update_on(segment, inventory, id / IDS_A_PAGE);
@@ -41,7 +41,7 @@ fn resize_ordinary(
 fn save_target(segment: &[u8], t: usize, old: &mut [u8]) -> usize
     requires sound_on { SoundOn segment.now (page_no t) }
     requires t_value { (is_target ((seen segment.now (page_no t)).at (slot_no t)) ≡ true) × (length old.old ≡ 16384) }
-    ensures* { λ r. ⌜ (r ≤ 16384) × (take r old.new ≡ drop 8 ((seen segment.now (page_no t)).bytes (slot_no t))) ⌝ }
+    ensures { (result ≤ 16384) × (take result old.new ≡ drop 8 ((seen segment.now (page_no t)).bytes (slot_no t))) }
 {
     let p = t / IDS_A_PAGE;
     let s = segment_pages::slot_on(segment, p, t % IDS_A_PAGE);
@@ -56,10 +56,10 @@ fn resize_home(segment: &mut [u8], inventory: &mut [u8], id: usize, t: usize, si
     requires sizes { Sizes segment.old inventory.old }
     requires follows { Follows segment.old id t }
     requires size_bound { size ≤ (seen segment.old (page_no id)).free_space }
-    ensures* { λ r. ⌜ outcome r segment.new inventory.new
-        ≡ result segment.old
+    ensures { outcome result segment.new inventory.new
+        ≡ result_of segment.old
         (at_home found_in (seg_view segment.old) inventory.old id size (fit size) t
-        (drop 8 ((seen segment.old (page_no t)).bytes (slot_no t))) (relocate (seen segment.old (page_no id)) (slot_no id) size)) ⌝ }
+        (drop 8 ((seen segment.old (page_no t)).bytes (slot_no t))) (relocate (seen segment.old (page_no id)) (slot_no id) size)) }
 {
     let mut old = [0u8; PAGE_SIZE];
     let n = save_target(segment, t, &mut old);
@@ -77,11 +77,11 @@ fn resize_again(
     requires sizes { Sizes segment.old inventory.old }
     requires follows { Follows segment.old id t }
     requires size_bound { size ≤ 16364 }
-    ensures* { λ r. ⌜ outcome r segment.new inventory.new
-        ≡ result segment.old
+    ensures { outcome result segment.new inventory.new
+        ≡ result_of segment.old
         (forwarded_again (seg_view segment.old) inventory.old id size (fit size) t
         (drop 8 ((seen segment.old (page_no t)).bytes (slot_no t)))
-        (find found_in (seg_view segment.old) inventory.old (size + 8) (λ p. eqb p (page_no id) || eqb p (page_no t)))) ⌝ }
+        (find found_in (seg_view segment.old) inventory.old (size + 8) (λ p. eqb p (page_no id) || eqb p (page_no t)))) }
 {
     let mut old = [0u8; PAGE_SIZE];
     let n = save_target(segment, t, &mut old);
@@ -99,8 +99,8 @@ fn resize_forwarded(
     requires sizes { Sizes segment.old inventory.old }
     requires root_is { RootIs segment.old id (Slot.Redirect t) }
     requires size_bound { size ≤ 16364 }
-    ensures* { λ r. ⌜ outcome r segment.new inventory.new
-        ≡ result segment.old (store_by found_in (seg_view segment.old) inventory.old id size (fit size) (Slot.Redirect t)) ⌝ }
+    ensures { outcome result segment.new inventory.new
+        ≡ result_of segment.old (store_by found_in (seg_view segment.old) inventory.old id size (fit size) (Slot.Redirect t)) }
 {
     if !segment_pages::points_back(segment, id, t) {
         return Answer::Damaged;
@@ -126,8 +126,8 @@ fn resize_slot(
     requires sizes { Sizes segment.old inventory.old }
     requires root_is { RootIs segment.old id slot }
     requires size_bound { size ≤ 16364 }
-    ensures* { λ r. ⌜ outcome r segment.new inventory.new
-        ≡ result segment.old (store_by found_in (seg_view segment.old) inventory.old id size (fit size) slot) ⌝ }
+    ensures { outcome result segment.new inventory.new
+        ≡ result_of segment.old (store_by found_in (seg_view segment.old) inventory.old id size (fit size) slot) }
 {
     match slot {
         Slot::Ordinary { offset, length } => resize_ordinary(
@@ -143,7 +143,7 @@ fn resize_slot(
 }
 
 pub fn resize_record(segment: &mut [u8], inventory: &mut [u8], id: usize, size: usize) -> Answer
-    ensures* { λ r. ⌜ outcome r segment.new inventory.new ≡ resize_step segment.old inventory.old id size ⌝ }
+    ensures { outcome result segment.new inventory.new ≡ resize_step segment.old inventory.old id size }
 {
     if !segment_pages::sizes_ok(segment, inventory) {
         return Answer::Size;

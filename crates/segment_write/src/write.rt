@@ -3,7 +3,7 @@ ghost use Rattle.std.specs.Prelude.{◌≡◌, false, ◌≤◌, length};
 ghost use Rattle.store.specs.Numbers.{page_no, slot_no};
 ghost use Rattle.store.specs.Slots.{is_target};
 ghost use Rattle.store.specs.Inventory.{found_in};
-ghost use Rattle.store.specs.Segment.{seg_view, result, store_by, write_step};
+ghost use Rattle.store.specs.Segment.{seg_view, result as result_of, store_by, write_step};
 ghost use Rattle.store.specs.Answers.{outcome};
 ghost use Rattle.store.specs.Laws.Lent.{TakenOn, RootIs};
 ghost use Rattle.segment_steps.specs.Words.{Sizes, seen};
@@ -15,10 +15,10 @@ fn write_ordinary(segment: &mut [u8], inventory: &mut [u8], id: usize, bytes: &[
     requires sizes { Sizes segment.old inventory.old }
     requires taken_on { TakenOn segment.old (page_no id) (slot_no id) }
     requires id_value { (is_target ((seen segment.old (page_no id)).at (slot_no id)) ≡ false) × (length bytes.now ≤ 16364) }
-    ensures* { λ r. ⌜ outcome r segment.new inventory.new
-        ≡ result segment.old
+    ensures { outcome result segment.new inventory.new
+        ≡ result_of segment.old
         (store_by found_in (seg_view segment.old) inventory.old id (length bytes.now) (λ old. bytes.now)
-        (Slot.Ordinary 0 0)) ⌝ }
+        (Slot.Ordinary 0 0)) }
 {
     if segment_moves::rewrite_on(
         segment,
@@ -44,10 +44,10 @@ fn write_forwarded(
     requires sizes { Sizes segment.old inventory.old }
     requires root_is { RootIs segment.old id (Slot.Redirect t) }
     requires bytes_len_bound { length bytes.now ≤ 16364 }
-    ensures* { λ r. ⌜ outcome r segment.new inventory.new
-        ≡ result segment.old
+    ensures { outcome result segment.new inventory.new
+        ≡ result_of segment.old
         (store_by found_in (seg_view segment.old) inventory.old id (length bytes.now) (λ old. bytes.now)
-        (Slot.Redirect t)) ⌝ }
+        (Slot.Redirect t)) }
 {
     if !segment_pages::points_back(segment, id, t) {
         return Answer::Damaged;
@@ -73,10 +73,10 @@ fn write_slot(
     requires sizes { Sizes segment.old inventory.old }
     requires root_is { RootIs segment.old id slot }
     requires bytes_len_bound { length bytes.now ≤ 16364 }
-    ensures* { λ r. ⌜ outcome r segment.new inventory.new
-        ≡ result segment.old
+    ensures { outcome result segment.new inventory.new
+        ≡ result_of segment.old
         (store_by found_in (seg_view segment.old) inventory.old id (length bytes.now) (λ old. bytes.now)
-        slot) ⌝ }
+        slot) }
 {
     match slot {
         Slot::Ordinary {
@@ -93,8 +93,8 @@ fn write_slot(
 }
 
 pub fn write_record(segment: &mut [u8], inventory: &mut [u8], id: usize, bytes: &[u8]) -> Answer
-    ensures* { λ r. ⌜ outcome r segment.new inventory.new
-        ≡ write_step segment.old inventory.old id bytes.now ⌝ }
+    ensures { outcome result segment.new inventory.new
+        ≡ write_step segment.old inventory.old id bytes.now }
 {
     if !segment_pages::sizes_ok(segment, inventory) {
         return Answer::Size;
