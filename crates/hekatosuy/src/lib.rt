@@ -32,13 +32,7 @@ fn hand_id(a: Answer, id: &mut u64) -> u64
     0
 }
 
-#[unsafe(no_mangle)]
-pub extern "C" fn hk_insert_record(
-    segment: &mut [u8],
-    inventory: &mut [u8],
-    bytes: &[u8],
-    id: &mut u64,
-) -> u64
+pub fn hk_insert_record(segment: &mut [u8], inventory: &mut [u8], bytes: &[u8], id: &mut u64) -> u64
     ensures { record { answer = result; id = id.new; seg = segment.new; inv = inventory.new }
         ≡ with_id id.old (insert_step segment.old inventory.old bytes.now) }
 {
@@ -47,8 +41,7 @@ pub extern "C" fn hk_insert_record(
 }
 
 // The rows stand end to end; `inserted` is how many went in.
-#[unsafe(no_mangle)]
-pub extern "C" fn hk_insert_records(
+pub fn hk_insert_records(
     segment: &mut [u8],
     inventory: &mut [u8],
     rows: &[u8],
@@ -70,13 +63,7 @@ pub extern "C" fn hk_insert_records(
     answers::inserted_no(r)
 }
 
-#[unsafe(no_mangle)]
-pub extern "C" fn hk_allocate(
-    segment: &mut [u8],
-    inventory: &mut [u8],
-    size: u64,
-    id: &mut u64,
-) -> u64
+pub fn hk_allocate(segment: &mut [u8], inventory: &mut [u8], size: u64, id: &mut u64) -> u64
     ensures { record { answer = result; id = id.new; seg = segment.new; inv = inventory.new }
         ≡ with_id id.old (allocate_step segment.old inventory.old size) }
 {
@@ -84,13 +71,7 @@ pub extern "C" fn hk_allocate(
     hand_id(a, id)
 }
 
-#[unsafe(no_mangle)]
-pub extern "C" fn hk_write_record(
-    segment: &mut [u8],
-    inventory: &mut [u8],
-    id: u64,
-    bytes: &[u8],
-) -> u64
+pub fn hk_write_record(segment: &mut [u8], inventory: &mut [u8], id: u64, bytes: &[u8]) -> u64
     ensures { record { answer = result; id = 0; seg = segment.new; inv = inventory.new }
         ≡ without_id (write_step segment.old inventory.old id bytes.now) }
 {
@@ -98,13 +79,7 @@ pub extern "C" fn hk_write_record(
     answers::answer_no(a)
 }
 
-#[unsafe(no_mangle)]
-pub extern "C" fn hk_resize_record(
-    segment: &mut [u8],
-    inventory: &mut [u8],
-    id: u64,
-    size: u64,
-) -> u64
+pub fn hk_resize_record(segment: &mut [u8], inventory: &mut [u8], id: u64, size: u64) -> u64
     ensures { record { answer = result; id = 0; seg = segment.new; inv = inventory.new }
         ≡ without_id (resize_step segment.old inventory.old id size) }
 {
@@ -112,8 +87,7 @@ pub extern "C" fn hk_resize_record(
     answers::answer_no(a)
 }
 
-#[unsafe(no_mangle)]
-pub extern "C" fn hk_erase_record(segment: &mut [u8], inventory: &mut [u8], id: u64) -> u64
+pub fn hk_erase_record(segment: &mut [u8], inventory: &mut [u8], id: u64) -> u64
     ensures { record { answer = result; id = 0; seg = segment.new; inv = inventory.new }
         ≡ without_id (erase_step segment.old inventory.old id) }
 {
@@ -122,8 +96,7 @@ pub extern "C" fn hk_erase_record(segment: &mut [u8], inventory: &mut [u8], id: 
 }
 
 // The record's place in the segment, without the back id of a target.
-#[unsafe(no_mangle)]
-pub extern "C" fn hk_get_record(segment: &[u8], id: u64, offset: &mut u64, length: &mut u64) -> u64
+pub fn hk_get_record(segment: &[u8], id: u64, offset: &mut u64, length: &mut u64) -> u64
     ensures { record { answer = result; part = record { offset = offset.exit.now; length = length.new } }
         ≡ locate_step segment.now id }
 {
@@ -205,8 +178,7 @@ fn step_from(segment: &[u8], position: u64) -> Stepped
 }
 
 // The next record from `position` on, which is 0 at first and afterwards what the last step left there.
-#[unsafe(no_mangle)]
-pub extern "C" fn hk_scan_step(
+pub fn hk_scan_step(
     segment: &[u8],
     position: &mut u64,
     found: &mut u64,
@@ -234,8 +206,7 @@ pub extern "C" fn hk_scan_step(
 }
 
 // An entry is three words of `entries`: page, place, what was done. `count` is how many there are, and how many there would be on 11.
-#[unsafe(no_mangle)]
-pub extern "C" fn hk_repair(
+pub fn hk_repair(
     segment: &mut [u8],
     inventory: &mut [u8],
     entries: &mut [u64],
@@ -277,8 +248,7 @@ fn report_numbers(segment: &[u8], tally: Tally) -> Tallied
 }
 
 // The figures of a segment, added to `tally` where it stands; one that is refused adds nothing.
-#[unsafe(no_mangle)]
-pub extern "C" fn hk_fill_report(segment: &[u8], tally: &mut Tally) -> u64
+pub fn hk_fill_report(segment: &[u8], tally: &mut Tally) -> u64
     ensures { record { answer = result; tally = numbers tally.new } ≡ report_step segment.now (numbers tally.old) }
 {
     let r = report_numbers(segment, *tally);
@@ -287,13 +257,7 @@ pub extern "C" fn hk_fill_report(segment: &[u8], tally: &mut Tally) -> u64
 }
 
 // The records of an exchange file, as new records; `inserted` is how many went in.
-#[unsafe(no_mangle)]
-pub extern "C" fn hk_import(
-    segment: &mut [u8],
-    inventory: &mut [u8],
-    file: &[u8],
-    inserted: &mut u64,
-) -> u64
+pub fn hk_import(segment: &mut [u8], inventory: &mut [u8], file: &[u8], inserted: &mut u64) -> u64
     ensures { record { answer = result; inserted = inserted.new; seg = segment.new; inv = inventory.new }
         ≡ import_step segment.old inventory.old file.now }
 {
@@ -303,13 +267,7 @@ pub extern "C" fn hk_import(
 }
 
 // All readings as an exchange file, in the place that is lent; `length` is the file's and `passed` tells the records that are no readings.
-#[unsafe(no_mangle)]
-pub extern "C" fn hk_export(
-    segment: &[u8],
-    file: &mut [u8],
-    length: &mut u64,
-    passed: &mut u64,
-) -> u64
+pub fn hk_export(segment: &[u8], file: &mut [u8], length: &mut u64, passed: &mut u64) -> u64
     ensures { record { answer = result; length = length.new; passed = passed.new; place = file.new }
         ≡ export_step segment.now file.old }
 {
@@ -320,14 +278,7 @@ pub extern "C" fn hk_export(
 }
 
 // Whether the mirror is cleared for polishing: 1 or 0, and 0 on refusal.
-#[unsafe(no_mangle)]
-pub extern "C" fn hk_cleared(
-    segment: &[u8],
-    mirror: u64,
-    rows: u64,
-    edition: u64,
-    cleared: &mut u64,
-) -> u64
+pub fn hk_cleared(segment: &[u8], mirror: u64, rows: u64, edition: u64, cleared: &mut u64) -> u64
     ensures { record { answer = result; cleared = cleared.new } ≡ cleared_step segment.now mirror rows edition }
 {
     let r = polishing::cleared(segment, mirror, rows as usize, edition as usize);
@@ -336,13 +287,7 @@ pub extern "C" fn hk_cleared(
 }
 
 // Which readings of the mirror are whole: bit r % 64 of word r / 64 tells of reading r.
-#[unsafe(no_mangle)]
-pub extern "C" fn hk_whole_readings(
-    segment: &[u8],
-    mirror: u64,
-    rows: u64,
-    words: &mut [u64],
-) -> u64
+pub fn hk_whole_readings(segment: &[u8], mirror: u64, rows: u64, words: &mut [u64]) -> u64
     ensures { record { answer = result; place = words.new } ≡ whole_step segment.now mirror rows words.old }
 {
     let r = polishing::whole_readings(segment, mirror, rows as usize, words);
