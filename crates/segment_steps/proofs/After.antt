@@ -9,8 +9,8 @@ use native.Mathlib.Decide.{dec_lt}
 use lib.ListN.{length}
 use borrow.Author.Tests.{eqb-true}
 use Rattle.store.specs.Numbers.{put, id_of}
-use Rattle.store.specs.Page.{View, view, sound}
-use Rattle.store.specs.PageSteps.{opened, run, Plan, plan, erase, Alloc, no_room, got, allocate}
+use Rattle.store.specs.Page.{View, view}
+use Rattle.store.specs.PageSteps.{opened, run, Plan, erase, Alloc, no_room, got, allocate}
 use Rattle.store.specs.Inventory.{Room, update}
 use Rattle.store.specs.Segment.{seg_view, page_of, OnPage, on, carried_on, size_ok, inv_ok}
 use Rattle.store.proofs.Laws.Numbers.{length_put, put_own, put_swap}

@@ -7,7 +7,6 @@ use lib.ListN.{length, length-replicate}
 use borrow.Rule.Slice.PartMut.{put_mid}
 use Rattle.store.specs.Numbers.{put, zeros}
 use Rattle.store.specs.Slots.{slot_bytes}
-use Rattle.store.specs.Page.{sound}
 use Rattle.store.specs.PageSteps.{allocate}
 use Rattle.store.specs.Segment.{seg_view, page_of}
 use Rattle.store.specs.Laws.Lent.{SoundOn}
