@@ -1,0 +1,16 @@
+use Rattle.store.specs.Page.{View, view}
+use Rattle.store.specs.PageSteps.{erase_for_redirect}
+use Rattle.store.proofs.Laws.Calls.{page_ok}
+use Rattle.segment_steps.proofs.Lent.{lent_taken, lent_plan}
+use Rattle.segment_moves.proofs.erase_for_redirect_on.Goals as goal
+
+pub erase_for_redirect-requires : goal.erase_for_redirect-requires
+erase_for_redirect-requires c =
+    record { used_slot = lent_taken c.args.segment.now c.args.p c.args.k c.requires.taken_on; id_bound = c.requires.id_bound }
+
+pub returns : goal.returns
+returns c =
+    let s = c.args.segment.now in
+    let o = page_ok s c.args.p c.args.k c.requires.taken_on.whole c.requires.taken_on.sound c.requires.taken_on.taken in
+    let x = c.erase_for_redirect in
+    lent_plan s c.args.p c.requires.taken_on.whole view o.seen (λ (v : View). erase_for_redirect v c.args.k c.args.id) x.new.page x.ensures

@@ -1,0 +1,18 @@
+use mathlib.Core.List.{◌++◌}
+use Prim.Native.Nat.{◌+◌}
+use lib.ListN.{drop}
+use Rattle.store.specs.Numbers.{to_be, fit}
+use Rattle.store.specs.Page.{View}
+use Rattle.segment_steps.proofs.Lent.{lent_taken}
+use Rattle.segment_moves.proofs.Moved.{lent_moved}
+use Rattle.segment_moves.proofs.resize_target_on.Goals as goal
+
+pub resize_target-requires : goal.resize_target-requires
+resize_target-requires c =
+    record { used_slot = lent_taken c.args.segment.now c.args.p c.args.k c.requires.taken_on; size_bound = c.requires.size_bound }
+
+pub returns : goal.returns
+returns c =
+    let x = c.resize_target in
+    lent_moved c.args.segment.now c.args.p c.args.k c.requires.taken_on (c.args.size + 8)
+    (λ (v : View). to_be 8 c.args.id ++ fit c.args.size (drop 8 (v.bytes c.args.k))) x.new.page _ x.ensures
