@@ -22,7 +22,7 @@ fn copy_run(page: &mut [u8], at: usize, src: &[u8])
     ensures { page.new ≡ put page.old at src.now }
 {
     let e = at + src.len();
-    bytes::copy(src, &mut page[at..e]);
+    page[at..e].copy_from_slice(src);
 }
 
 // How many bytes are copied at once.
@@ -35,7 +35,7 @@ fn copy_block(page: &mut [u8], at: usize, src: &[u8])
     ensures { page.new ≡ put page.old at src.now }
 {
     let mut block = [0u8; BLOCK];
-    bytes::copy(src, &mut block);
+    block.copy_from_slice(src);
     copy_run(page, at, &block);
 }
 

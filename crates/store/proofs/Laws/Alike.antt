@@ -8,7 +8,7 @@ use Rattle.std.proofs.Math.Decide.{ℕ_discrete, dec_lt}
 use Rattle.std.proofs.Math.ListN.{length}
 use Rattle.store.specs.Numbers.{cut, put, be}
 use Rattle.store.specs.Slots.{off, slot_bytes, slot_of}
-use Rattle.store.specs.Page.{View, view, count, slot_at, bytes_at, fresh, sound}
+use Rattle.store.specs.Page.{View, view, count, slot_at, bytes_at, fresh}
 use Rattle.store.specs.PageSteps.{initialised, opened, Edit, head, move, commit, fill, apply, run, Plan, head_bytes, put_head, put_slot, put_bytes, plan}
 use Rattle.store.specs.Segment.{SegView, seg_view, page_of, OnPage, Out, result, carried, carried_on, step, size_ok, Read}
 use Rattle.store.proofs.Laws.Numbers.{length_put, cut_same, cut_take}

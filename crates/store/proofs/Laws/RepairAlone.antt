@@ -15,7 +15,7 @@ use Rattle.store.specs.PageSteps.{put_head, next_free}
 use Rattle.store.specs.Inventory.{Truth}
 use Rattle.store.specs.Segment.{SegView, seg_view, page_of, size_ok, inv_ok}
 use Rattle.store.specs.SoundSegment.{slot_on, Paired, classes, SoundSegment}
-use Rattle.store.specs.Repair.{standing, lost, lies, keeps, holds, named, deed_by, deed, changes, slot_after, lowest, start_after, space_after}
+use Rattle.store.specs.Repair.{standing, lost, lies, keeps, named, deed_by, deed, changes, slot_after, lowest, start_after, space_after}
 use Rattle.store.specs.Repair.{mended, seg_after, same_head, put_slots, put_mended, page_bytes, seg_bytes, true_of, same_inv, inv_after, Entry, entry, deed_no}
 use Rattle.store.specs.Repair.{slot_entries, head_entries, page_entries, seg_entries, inv_entries, entries, words, Repaired, repair_step, mended_by}
 use Rattle.store.specs.declared.Deed.TheVariants.{Stays, RecordFreed, RedirectFreed, MadeOrdinary}

@@ -11,7 +11,7 @@ use Rattle.store.specs.Page.{View, view, fresh, sound}
 use Rattle.store.specs.Segment.{SegView, seg_view, page_of, size_ok, points_back, Read, no_read, read_by}
 use Rattle.store.specs.Segment.{read_plan, read_step, Part, no_part, part_on, part_by, locate_step}
 use Rattle.store.specs.SoundSegment.{slot_on, bytes_on}
-use Rattle.store.specs.Repair.{standing, lost, keeps, holds, named, deed_by, deed, slot_done, bytes_done, seg_after, inv_after}
+use Rattle.store.specs.Repair.{standing, lost, keeps, named, deed_by, deed, slot_done, bytes_done, seg_after, inv_after}
 use Rattle.store.specs.declared.Deed.{Deed}
 use Rattle.store.specs.declared.Deed.TheVariants.{Stays, RecordFreed, MadeOrdinary}
 use Rattle.store.proofs.Laws.Compactify.{record_taken}

@@ -1,0 +1,12 @@
+use native.Mathlib.Omega.{arith}
+use borrow.Author.Tests.{eq-eqb, ne_eqb}
+use Rattle.store.specs.Inventory.{nibble_at}
+use Rattle.free_space_inventory.proofs.read_nibble.Goals as goal
+
+pub returns-then-j-eq0 : goal.returns-then-j-eq0
+unfolding nibble_at
+returns-then-j-eq0 c = (rw (eq-eqb _ _ c.if-j-eq0.true, c.wide-b.ensures.0), omega arith)
+
+pub returns-else-j-eq0 : goal.returns-else-j-eq0
+unfolding nibble_at
+returns-else-j-eq0 c = (rw (ne_eqb _ _ c.if-j-eq0.false, c.wide-b.ensures.0), omega arith)
