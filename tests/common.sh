@@ -98,7 +98,7 @@ need_archive() {
         folder="$(cd "$HEKATOSUY_LIB_DIR" 2>/dev/null && pwd)" || { why_not="HEKATOSUY_LIB_DIR names no folder"; return 1; }
         HEKATOSUY_LIB_DIR=$folder
     elif command -v rt >/dev/null && ! is_current "$folder/libhekatosuy.a"; then
-        said="$("$repository/archive" 2>&1)" || { printf '%s\n' "$said" | tail -n 20; fail "./archive"; }
+        said="$("$repository/archive" 2>&1)" || { printf '%s\n' "$said" | grep -v '^statements ' | tail -n 20; fail "./archive"; }
     fi
     archive="$folder/libhekatosuy.a"
     [ -f "$archive" ] || { why_not="no libhekatosuy.a in ${HEKATOSUY_LIB_DIR:-target/staticlib}"; return 1; }
@@ -109,7 +109,7 @@ need_program() { # need_program NAME
     local folder="$repository/crates/$1" said
     program="$folder/out/$1"
     is_current "$program" && return
-    said="$(cd "$folder" && rt run <stdin 2>&1)" || { printf '%s\n' "$said" | tail -n 20; fail "rt run in crates/$1"; }
+    said="$(cd "$folder" && rt run <stdin 2>&1)" || { printf '%s\n' "$said" | grep -v '^statements ' | tail -n 20; fail "rt run in crates/$1"; }
 }
 
 is_current() { # is_current FILE: no crate has changed since it was made
