@@ -7,42 +7,38 @@ mod map;
 ghost use Rattle.std.specs.Prelude.{◌≡◌, length};
 
 use map::{HEIGHT, WIDTH};
-use print::{named, say};
+use std::io;
 use store::{Inserted, PAGE_SIZE, Repair};
 
 // The rows that went in, each with its id.
-fn show(rows: &[u8], ids: &[u64])
+fn show(rt: &impl Print, rows: &[u8], ids: &[u64]) -> io::Result<()>
     requires { (length rows.now ≡ 287) × (length ids.now ≡ 7) }
 {
-    let mut k: usize = 0;
-    while k < HEIGHT {
-        print_rows::stored(ids[k], &rows[k * WIDTH..(k + 1) * WIDTH]);
-        k = k + 1;
+    for k in 0..HEIGHT {
+        print_rows::stored(rt, ids[k], &rows[k * WIDTH..(k + 1) * WIDTH])?;
     }
+    Ok(())
 }
 
-fn insert_map(segment: &mut [u8], inventory: &mut [u8]) {
+fn insert_map(rt: &impl Print, segment: &mut [u8], inventory: &mut [u8]) -> io::Result<()> {
     let mut rows = [0u8; HEIGHT * WIDTH];
     map::draw(&mut rows);
     let lengths = [WIDTH as u64; HEIGHT];
     let mut ids = [0u64; HEIGHT];
-    if let Inserted::Done { rows: _ } = segment_insert::insert_records(
-        segment, inventory, &rows, &lengths, &mut ids,
-    ) {
-        show(&rows, &ids);
-    } else {
-        say(b"  refused\n");
+    match segment_insert::insert_records(segment, inventory, &rows, &lengths, &mut ids) {
+        Inserted::Done { rows: _ } => show(rt, &rows, &ids),
+        _ => println!(rt; "  refused"),
     }
 }
 
-fn repair(segment: &mut [u8], inventory: &mut [u8]) {
+fn repair(rt: &impl Print, segment: &mut [u8], inventory: &mut [u8]) -> io::Result<()> {
     let mut entries = [0u64; 30];
-    if let Repair::Done { count } = segment_repair::repair(segment, inventory, &mut entries) {
-        named(b"  changes: ", count as u64);
-        say(b"\n");
-        print_entries::list(&entries, count, b"  ");
-    } else {
-        say(b"  refused\n");
+    match segment_repair::repair(segment, inventory, &mut entries) {
+        Repair::Done { count } => {
+            println!(rt; "  changes: {count}")?;
+            print_entries::list(rt, &entries, count, b"  ")
+        }
+        _ => println!(rt; "  refused"),
     }
 }
 
@@ -53,36 +49,36 @@ fn damage(segment: &mut [u8]) {
     }
 }
 
-fn crash(segment: &mut [u8], inventory: &mut [u8]) {
-    say(
-        b"A crash: one byte of page 0's directory is overwritten, so that the row (0,5) would overlap (0,4).\n",
-    );
-    say(b"No row of that page is handed out now (4: damaged):\n");
+fn crash(rt: &impl Print, segment: &mut [u8], inventory: &mut [u8]) -> io::Result<()> {
+    println!(rt;
+        "A crash: one byte of page 0's directory is overwritten, so that the row (0,5) would overlap (0,4)."
+    )?;
+    println!(rt; "No row of that page is handed out now (4: damaged):")?;
     damage(segment);
-    print_rows::read(segment, 2);
-    say(b"Repair keeps what can be kept, and tells what it touched:\n");
-    repair(segment, inventory);
-    say(b"The row (0,2), and the row (0,5), which is gone:\n");
-    print_rows::read(segment, 2);
-    print_rows::read(segment, 5);
-    say(b"A second repair finds nothing to do: the archive is sound.\n");
-    repair(segment, inventory);
+    print_rows::read(rt, segment, 2)?;
+    println!(rt; "Repair keeps what can be kept, and tells what it touched:")?;
+    repair(rt, segment, inventory)?;
+    println!(rt; "The row (0,2), and the row (0,5), which is gone:")?;
+    print_rows::read(rt, segment, 2)?;
+    print_rows::read(rt, segment, 5)?;
+    println!(rt; "A second repair finds nothing to do: the archive is sound.")?;
+    repair(rt, segment, inventory)
 }
 
-fn main() {
+fn main(rt: HostRuntime) -> io::Result<()> {
     let mut segment = [0u8; 2 * PAGE_SIZE];
     let mut inventory = [0u8; PAGE_SIZE];
-    say(b"An archive of two empty pages. The rows of a fringe map go in by one call:\n");
-    insert_map(&mut segment, &mut inventory);
-    say(b"What a scan of the archive lists:\n");
-    print_rows::list(&segment);
-    say(b"The row (0,3), read back:\n");
-    print_rows::read(&segment, 3);
-    say(b"The row (0,3) is erased, and read once more (5: no such record):\n");
+    println!(rt; "An archive of two empty pages. The rows of a fringe map go in by one call:")?;
+    insert_map(&rt, &mut segment, &mut inventory)?;
+    println!(rt; "What a scan of the archive lists:")?;
+    print_rows::list(&rt, &segment)?;
+    println!(rt; "The row (0,3), read back:")?;
+    print_rows::read(&rt, &segment, 3)?;
+    println!(rt; "The row (0,3) is erased, and read once more (5: no such record):")?;
     let answer = segment_erase::erase_record(&mut segment, &mut inventory, 3);
-    print_rows::erased(answer);
-    print_rows::read(&segment, 3);
-    say(b"What a scan lists now:\n");
-    print_rows::list(&segment);
-    crash(&mut segment, &mut inventory);
+    print_rows::erased(&rt, answer)?;
+    print_rows::read(&rt, &segment, 3)?;
+    println!(rt; "What a scan lists now:")?;
+    print_rows::list(&rt, &segment)?;
+    crash(&rt, &mut segment, &mut inventory)
 }

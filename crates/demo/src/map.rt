@@ -29,9 +29,7 @@ fn shade(x: usize, y: usize) -> u8
 
 // The rows end to end.
 pub fn draw(rows: &mut [u8]) {
-    let mut i: usize = 0;
-    while i < rows.len() {
-        rows[i] = shade(i % WIDTH, i / WIDTH % 48);
-        i = i + 1;
+    for (i, point) in rows.iter_mut().enumerate() {
+        *point = shade(i % WIDTH, i / WIDTH % 48);
     }
 }

@@ -1,7 +1,7 @@
 -- Sums of tallies, figure by figure: what stands in one, when each figure fits, and a page more.
 use Prim.Native.Nat.{ℕ, zero, suc, ◌+◌, ◌-◌, ◌^◌, ◌≤◌, ◌<◌}
 use mathlib.Core.Path.{◌≡◌, refl, sym, ap, ◌∙◌}
-use mathlib.Core.Bool.{Bool, true, false, not, ◌&&◌}
+use mathlib.Core.Bool.{Bool, true, false, ◌&&◌}
 use mathlib.Core.List.{List, [], ◌∷◌}
 use mathlib.Core.Logic.{⊎_elim}
 use native.Mathlib.Numerals.{add-one}
@@ -9,7 +9,7 @@ use native.Mathlib.Omega.{arith}
 use lib.ListN.{length, get_or, set, drop}
 use lib.Seq.{ext_get_or, get_or-set_same, get_or-set_other}
 use lib.Dec.{ltb, leb}
-use borrow.Author.Tests.{lt-ltb, le-ltb, le-leb, lt-leb, eq-eqb, ne_eqb, not-true, not-false}
+use borrow.Author.Tests.{lt-ltb, le-ltb, le-leb, lt-leb, eq-eqb, ne_eqb}
 use Rattle.store.specs.Report.{added, all_fit}
 use Rattle.store.proofs.Laws.Cases.{lt_or_le, eq_or_ne}
 use Rattle.store.proofs.Laws.SoundPage.{and_both}
@@ -47,11 +47,11 @@ fit_turn (x ∷ l) zero = refl
 fit_turn (x ∷ l) (suc i) = fit_turn l i
 
 module _ {b : Bool} (l : List ℕ) (i : ℕ) (h : Passed l i) (e : b ≡ ltb (get_or l i 0) (2 ^ 64)) where
-  pub fit_on : not b ≡ false → Passed l (i + 1)
-  fit_on n = h ∙ fit_turn l i ∙ rw (add-one, sym e ∙ not-false b n)
+  pub fit_on : b ≡ true → Passed l (i + 1)
+  fit_on n = h ∙ fit_turn l i ∙ rw (add-one, sym e ∙ n)
 
-  pub fit_out : not b ≡ true → false ≡ all_fit l
-  fit_out n = sym (h ∙ fit_turn l i ∙ rw (sym e ∙ not-true b n))
+  pub fit_out : b ≡ false → false ≡ all_fit l
+  fit_out n = sym (h ∙ fit_turn l i ∙ rw (sym e ∙ n))
 
 pub fit_rest : (i : ℕ) (xs : List ℕ) → all_fit xs ≡ true → all_fit (drop i xs) ≡ true
 fit_rest zero xs e = e

@@ -20,7 +20,7 @@ pub struct Numbers {
 }
 
 // The header's numbers but for the count, which stays.
-#[derive(Drop)]
+#[derive(Clone, Copy)]
 pub struct Header {
     pub first: usize,
     pub start: usize,

@@ -1,37 +1,41 @@
-// What the programs print with, to standard output. Of output the contracts say what those of io do: each function is safe and ends,
-// given that each call of C's `write` returns. No contract can say what is written: that is seen by running a program, which is held to
-// its file `stdout`. A `write` that fails is passed over.
+// What the programs print with, to standard output, and what they read standard input with. `rt` is the handle that `main` is given. Of
+// output the contracts say what those of std do: each function is safe and ends, given that each system call returns. No contract can
+// say what is written: that is seen by running a program, which is held to its file `stdout`. A write that fails ends in an `Err`.
 #![tactic(auto)]
 
-ghost use Rattle.std.specs.Prelude.{◌≡◌, ◌≤◌, min};
+ghost use Rattle.std.specs.Prelude.{◌≡◌, ◌≤◌, ◌<◌, min, length, take, IfOk};
+ghost use Rattle.std.specs.Io.{ReadsAtMost};
+ghost use Rattle.std.specs.Io.KnownBytes.{Consumes, IsAtEnd};
 
-use libc::STDOUT_FILENO;
+use std::io;
+use std::io::Read;
 use store::IDS_A_PAGE;
 
-pub fn say(text: &[u8]) {
-    io::write_all(STDOUT_FILENO, text);
+// Any bytes, which need not be text.
+pub fn say(rt: &impl Print, text: &[u8]) -> io::Result<()> {
+    rt.write_all(text)
 }
 
 // In decimal.
-pub fn number(n: u64) {
-    io::print_decimal(STDOUT_FILENO, n);
+pub fn number(rt: &impl Print, n: u64) -> io::Result<()> {
+    print!(rt; "{n}")
 }
 
 // A number after its name.
-pub fn named(name: &[u8], n: u64) {
-    say(name);
-    number(n);
+pub fn named(rt: &impl Print, name: &[u8], n: u64) -> io::Result<()> {
+    say(rt, name)?;
+    number(rt, n)
 }
 
 // An id as its page and slot.
-pub fn id(id: u64) {
-    named(b"(", id / IDS_A_PAGE as u64);
-    named(b",", id % IDS_A_PAGE as u64);
-    say(b")");
+pub fn id(rt: &impl Print, id: u64) -> io::Result<()> {
+    let page = id / IDS_A_PAGE as u64;
+    let slot = id % IDS_A_PAGE as u64;
+    print!(rt; "({page},{slot})")
 }
 
-pub fn end_line() {
-    say(b"\n");
+pub fn end_line(rt: &impl Print) -> io::Result<()> {
+    say(rt, b"\n")
 }
 
 // Of two lengths, the one that both slices have.
@@ -39,4 +43,22 @@ pub fn least(a: usize, b: usize) -> usize
     ensures { (result ≡ min a b) × (result ≤ a) × (result ≤ b) }
 {
     if a < b { a } else { b }
+}
+
+// Reads until `buf` is full or the input ends, and answers how many bytes it put at the start of `buf`: those that came next, and fewer
+// than `buf` holds only at the input's end.
+pub fn read_full<R: Read>(reader: &mut R, buf: &mut [u8]) -> io::Result<usize>
+    ensures within { ReadsAtMost result buf.new }
+    ensures bytes { IfOk result (λ n. Consumes (R.remaining reader.old) (R.remaining reader.new) (take n buf.new)) }
+    ensures end { IfOk result (λ n. n < length buf.new → IsAtEnd (R.remaining reader.new)) }
+{
+    let mut done = 0;
+    while done < buf.len() {
+        let n = reader.read(&mut buf[done..])?;
+        if n == 0 {
+            break;
+        }
+        done += n;
+    }
+    Ok(done)
 }

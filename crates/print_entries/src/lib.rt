@@ -2,43 +2,41 @@
 #![tactic(auto)]
 
 use print::{end_line, named, say};
+use std::io;
 use store::{AT_HEADER, AT_INVENTORY};
 
-fn done(what: u64) {
+fn done(rt: &impl Print, what: u64) -> io::Result<()> {
     match what {
-        1 => say(b"record freed"),
-        2 => say(b"redirect freed"),
-        3 => say(b"made ordinary"),
-        4 => say(b"worked out"),
-        5 => say(b"zeroed"),
-        6 => say(b"worked out"),
-        _ => named(b"deed ", what),
+        1 => say(rt, b"record freed"),
+        2 => say(rt, b"redirect freed"),
+        3 => say(rt, b"made ordinary"),
+        4 => say(rt, b"worked out"),
+        5 => say(rt, b"zeroed"),
+        6 => say(rt, b"worked out"),
+        _ => named(rt, b"deed ", what),
     }
 }
 
-fn place(page: u64, place: u64) {
+fn place(rt: &impl Print, page: u64, place: u64) -> io::Result<()> {
     if place == AT_INVENTORY {
-        say(b"inventory");
-        return;
+        return say(rt, b"inventory");
     }
-    named(b"page ", page);
+    named(rt, b"page ", page)?;
     if place == AT_HEADER {
-        say(b", header");
-        return;
+        return say(rt, b", header");
     }
-    named(b", slot ", place);
+    named(rt, b", slot ", place)
 }
 
 // The first `count` entries, three words each, each after `indent`.
-pub fn list(entries: &[u64], count: usize, indent: &[u8]) {
+pub fn list(rt: &impl Print, entries: &[u64], count: usize, indent: &[u8]) -> io::Result<()> {
     let n = print::least(count, entries.len() / 3);
-    let mut k: usize = 0;
-    while k < n {
-        say(indent);
-        place(entries[3 * k], entries[3 * k + 1]);
-        say(b": ");
-        done(entries[3 * k + 2]);
-        end_line();
-        k += 1;
+    for k in 0..n {
+        say(rt, indent)?;
+        place(rt, entries[3 * k], entries[3 * k + 1])?;
+        say(rt, b": ")?;
+        done(rt, entries[3 * k + 2])?;
+        end_line(rt)?;
     }
+    Ok(())
 }

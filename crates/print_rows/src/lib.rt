@@ -1,46 +1,42 @@
 // The rows of a segment and what a call answered, in print. Of output the contracts say what those of `print` do: each function is safe and ends.
 #![tactic(auto)]
 
-use print::{named, say};
+use print::{end_line, say};
+use std::io;
 use store::{Answer, Step};
 
 // Where a scan stands, and whether it goes on.
-#[derive(Drop)]
+#[derive(Clone, Copy)]
 struct Position {
     page: usize,
     slot: usize,
     going: bool,
 }
 
-fn list_one(segment: &[u8], p: Position) -> Position {
-    let step = segment_scan::scan_step(segment, p.page, p.slot);
+// The record at a position, and where the scan stands after it.
+fn list_one(rt: &impl Print, segment: &[u8], p: Position) -> io::Result<Position> {
     let Step::Record {
         id,
         offset: _,
         length,
         page,
         slot,
-    } = step
+    } = segment_scan::scan_step(segment, p.page, p.slot)
     else {
-        return Position {
-            page: p.page,
-            slot: p.slot,
-            going: false,
-        };
+        return Ok(Position { going: false, ..p });
     };
-    say(b"  ");
-    print::id(id as u64);
-    named(b"  ", length as u64);
-    say(b" bytes\n");
-    Position {
+    say(rt, b"  ")?;
+    print::id(rt, id as u64)?;
+    println!(rt; "  {length} bytes")?;
+    Ok(Position {
         page,
         slot,
         going: true,
-    }
+    })
 }
 
 // Every record that a scan lists: its id and length.
-pub fn list(segment: &[u8]) {
+pub fn list(rt: &impl Print, segment: &[u8]) -> io::Result<()> {
     let mut p = Position {
         page: 0,
         slot: 0,
@@ -48,37 +44,37 @@ pub fn list(segment: &[u8]) {
     };
     let mut turns: usize = 1000;
     while 0 < turns && p.going {
-        turns = turns - 1;
-        p = list_one(segment, p);
+        turns -= 1;
+        p = list_one(rt, segment, p)?;
     }
+    Ok(())
 }
 
 // One record by its id: the answer, and its bytes.
-pub fn read(segment: &[u8], id: usize) {
+pub fn read(rt: &impl Print, segment: &[u8], id: usize) -> io::Result<()> {
     let mut answer: usize = 0;
     let row = segment_read::get_record(segment, id, &mut answer);
-    named(b"  answer ", answer as u64);
-    if 0 < row.len() {
-        say(b"  ");
-        say(row);
+    print!(rt; "  answer {answer}")?;
+    if !row.is_empty() {
+        say(rt, b"  ")?;
+        say(rt, row)?;
     }
-    say(b"\n");
+    end_line(rt)
 }
 
 // A row that went in: its id, and its bytes.
-pub fn stored(id: u64, row: &[u8]) {
-    say(b"  ");
-    print::id(id);
-    say(b"  ");
-    say(row);
-    say(b"\n");
+pub fn stored(rt: &impl Print, id: u64, row: &[u8]) -> io::Result<()> {
+    say(rt, b"  ")?;
+    print::id(rt, id)?;
+    say(rt, b"  ")?;
+    say(rt, row)?;
+    end_line(rt)
 }
 
 // What an erase answered.
-pub fn erased(answer: Answer) {
-    if let Answer::Done { id: _ } = answer {
-        say(b"  erased\n");
-    } else {
-        say(b"  refused\n");
+pub fn erased(rt: &impl Print, answer: Answer) -> io::Result<()> {
+    match answer {
+        Answer::Done { id: _ } => println!(rt; "  erased"),
+        _ => println!(rt; "  refused"),
     }
 }

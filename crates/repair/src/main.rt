@@ -2,51 +2,50 @@
 // each slot, header and inventory that changed. Last comes `sound`, or `refused` and the answer's number. The input stays as it is.
 #![tactic(auto)]
 
-use print::{end_line, named, say};
+use print::read_full;
+use std::io;
 use store::{PAGE_SIZE, Repair};
 
 // "3 × (2,047 × n + 1) words always suffice."
 const WORDS: usize = 3 * (2047 * 3 + 1);
 
-fn refused(answer: u64) {
-    named(b"refused ", answer);
-    end_line();
+fn refused(rt: &impl Print, answer: u64) -> io::Result<()> {
+    println!(rt; "refused {answer}")
 }
 
 // What stands there after a repair, lent a list of no words: 0 exactly if it is sound.
-fn check(segment: &mut [u8], inventory: &mut [u8]) {
+fn check(rt: &impl Print, segment: &mut [u8], inventory: &mut [u8]) -> io::Result<()> {
     let mut none = [0u64; 0];
     match segment_repair::repair(segment, inventory, &mut none) {
-        Repair::Done { count: _ } => say(b"sound\n"),
-        Repair::Size => refused(1),
-        Repair::Room { count: _ } => refused(11),
+        Repair::Done { count: _ } => println!(rt; "sound"),
+        Repair::Size => refused(rt, 1),
+        Repair::Room { count: _ } => refused(rt, 11),
     }
 }
 
-fn repair(segment: &mut [u8], inventory: &mut [u8]) {
+fn repair(rt: &impl Print, segment: &mut [u8], inventory: &mut [u8]) -> io::Result<()> {
     let mut entries = [0u64; WORDS];
     match segment_repair::repair(segment, inventory, &mut entries) {
         Repair::Done { count } => {
-            print_entries::list(&entries, count, b"");
-            check(segment, inventory);
+            print_entries::list(rt, &entries, count, b"")?;
+            check(rt, segment, inventory)
         }
-        Repair::Size => refused(1),
-        Repair::Room { count: _ } => refused(11),
+        Repair::Size => refused(rt, 1),
+        Repair::Room { count: _ } => refused(rt, 11),
     }
 }
 
-fn main() {
+fn main(rt: HostRuntime) -> io::Result<()> {
+    let mut input = rt.stdin();
     let mut inventory = [0u8; PAGE_SIZE];
     // three pages, and one byte more to tell a longer input by
     let mut buffer = [0u8; 49153];
-    if io::read_full(0, &mut inventory) < PAGE_SIZE {
-        refused(1);
-        return;
+    if read_full(&mut input, &mut inventory)? < PAGE_SIZE {
+        return refused(&rt, 1);
     }
-    let n = io::read_full(0, &mut buffer);
+    let n = read_full(&mut input, &mut buffer)?;
     if 49152 < n {
-        refused(1);
-        return;
+        return refused(&rt, 1);
     }
-    repair(&mut buffer[..n], &mut inventory);
+    repair(&rt, &mut buffer[..n], &mut inventory)
 }

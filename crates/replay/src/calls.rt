@@ -1,7 +1,8 @@
 // Each call of a trace, made on the lent bytes: its answer and two numbers.
 use crate::line::number;
+use crate::{line, made};
 
-#[derive(Drop)]
+#[derive(Clone, Copy)]
 pub struct Reply {
     pub answer: u64,
     pub first: u64,
@@ -36,7 +37,7 @@ fn insert(segment: &mut [u8], inventory: &mut [u8], record: &[u8]) -> Reply {
 }
 
 // A record of a trace's line: where it goes, how long it is, and by what seed it is made.
-#[derive(Drop)]
+#[derive(Clone, Copy)]
 struct Record {
     new: bool,
     id: u64,
@@ -50,7 +51,7 @@ fn put(segment: &mut [u8], inventory: &mut [u8], room: &mut [u8], r: Record) -> 
     if room.len() < n {
         return no_call();
     }
-    crate::made::record(&mut room[0..n], r.seed);
+    made::record(&mut room[0..n], r.seed);
     if r.new {
         return insert(segment, inventory, &room[0..n]);
     }
@@ -99,7 +100,7 @@ fn get(segment: &[u8], id: u64) -> Reply {
 }
 
 // A scan on its way: its position, whether the last step found a record, its answer, and what it has found so far.
-#[derive(Drop)]
+#[derive(Clone, Copy)]
 struct Scan {
     position: u64,
     found: u64,
@@ -126,12 +127,11 @@ fn scan_step(segment: &[u8], s: Scan) -> Scan {
         position,
         found,
         answer,
-        records: s.records,
-        digest: s.digest,
+        ..s
     };
     if found == 1 {
-        next.records = std::num::wrapping_add_u64(s.records, 1);
-        next.digest = crate::made::fold_record(s.digest, id, offset, length);
+        next.records = s.records.wrapping_add(1);
+        next.digest = made::fold_record(s.digest, id, offset, length);
     }
     next
 }
@@ -147,7 +147,7 @@ fn scan_to_end(segment: &[u8]) -> Scan {
     };
     let mut turns: u64 = 1000000;
     while 0 < turns && s.found == 1 {
-        turns = turns - 1;
+        turns -= 1;
         s = scan_step(segment, s);
     }
     s
@@ -170,7 +170,7 @@ fn scan_all(segment: &[u8]) -> Reply {
 
 pub fn perform(segment: &mut [u8], inventory: &mut [u8], text: &[u8]) -> Reply {
     let a = number(text, 1);
-    match crate::line::letter(text) {
+    match line::letter(text) {
         b'I' => put_made(segment, inventory, insertion(text)),
         b'A' => allocate(segment, inventory, a),
         b'R' => get(segment, a),

@@ -3,32 +3,22 @@ ghost use Rattle.std.specs.Prelude.{◌≤◌, length};
 
 // The value of a digit; 10 for any other byte.
 fn digit_of(b: u8) -> u64 {
-    if b < b'0' {
-        return 10;
+    match b {
+        b'0'..=b'9' => u64::from(b - b'0'),
+        _ => 10,
     }
-    if b'9' < b {
-        return 10;
-    }
-    (b - b'0') as u64
 }
 
-// The number with one digit more; where it would pass 2^64 - 1, that.
+// The number with one digit more; where it would pass 2^64 - 1, that, and also where the digit is none.
 fn with_digit(value: u64, digit: u64) -> u64 {
-    if digit < 10 {
-        if value < 1844674407370955161 {
-            return value * 10 + digit;
-        }
-        if value == 1844674407370955161 {
-            if digit < 6 {
-                return 18446744073709551610 + digit;
-            }
-        }
+    if 10 <= digit {
+        return u64::MAX;
     }
-    18446744073709551615
+    value.saturating_mul(10).saturating_add(digit)
 }
 
 // A number on its way: the blanks passed, and its value so far.
-#[derive(Drop)]
+#[derive(Clone, Copy)]
 struct Reading {
     blanks: u64,
     value: u64,
@@ -36,15 +26,19 @@ struct Reading {
 
 // The number after so many blanks, with one byte more of the line.
 fn taken(r: Reading, blanks: u64, b: u8) -> Reading {
-    let mut next = r;
     if b == b' ' {
-        next.blanks = std::num::wrapping_add_u64(r.blanks, 1);
-        return next;
+        return Reading {
+            blanks: r.blanks.wrapping_add(1),
+            ..r
+        };
     }
-    if r.blanks == blanks {
-        next.value = with_digit(r.value, digit_of(b));
+    if r.blanks != blanks {
+        return r;
     }
-    next
+    Reading {
+        value: with_digit(r.value, digit_of(b)),
+        ..r
+    }
 }
 
 // The k-th number, counted from 1; 0 where there are fewer.
@@ -53,10 +47,8 @@ pub fn number(text: &[u8], k: u64) -> u64 {
         blanks: 0,
         value: 0,
     };
-    let mut at: usize = 0;
-    while at < text.len() {
-        r = taken(r, k, text[at]);
-        at = at + 1;
+    for b in text {
+        r = taken(r, k, *b);
     }
     r.value
 }
@@ -77,19 +69,14 @@ fn counted(n: u64, b: u8) -> u64 {
 
 pub fn count(text: &[u8]) -> u64 {
     let mut n: u64 = 0;
-    let mut at: usize = 1;
-    while at < text.len() {
-        n = counted(n, text[at]);
-        at = at + 1;
+    for b in text.iter().skip(1) {
+        n = counted(n, *b);
     }
     n
 }
 
 pub fn letter(text: &[u8]) -> u8 {
-    if text.len() == 0 {
-        return 0;
-    }
-    text[0]
+    if text.is_empty() { 0 } else { text[0] }
 }
 
 // How many numbers stand before the five of the result; 8 where the letter is of no call.
@@ -108,13 +95,11 @@ pub fn arguments_of(letter: u8) -> u64
 // Whether these five numbers stand after so many others.
 pub fn has(text: &[u8], after: u64, five: &[u64; 5]) -> bool {
     let mut at = after;
-    let mut k: usize = 0;
-    while k < 5 {
-        at = std::num::wrapping_add_u64(at, 1);
-        if number(text, at) != five[k] {
+    for n in five {
+        at = at.wrapping_add(1);
+        if number(text, at) != *n {
             return false;
         }
-        k = k + 1;
     }
     true
 }
@@ -124,29 +109,23 @@ pub fn line_end(text: &[u8], at: usize) -> usize
     requires { at ≤ length text.now }
     ensures { (at ≤ result) × (result ≤ length text.now) }
 {
-    let mut e = at;
-    while e < text.len() {
+    for e in at..text.len() {
         if text[e] == b'\n' {
             return e;
         }
-        e = e + 1;
     }
-    e
+    text.len()
 }
 
 // How many bytes of the text are whole lines; of the last text all.
 pub fn whole_lines(text: &[u8], last: bool) -> usize
     ensures { result ≤ length text.now }
 {
-    let mut e = text.len();
     if last {
-        return e;
+        return text.len();
     }
-    while 0 < e {
-        if text[e - 1] == b'\n' {
-            return e;
-        }
-        e = e - 1;
+    match text.iter().rposition(|b| *b == b'\n') {
+        Some(k) => k + 1,
+        None => 0,
     }
-    0
 }

@@ -4,32 +4,26 @@ ghost use Rattle.std.specs.Prelude.{◌<◌};
 // "Byte k of a record is (seed + 7k + k / 256) mod 256".
 pub fn record(bytes: &mut [u8], seed: u64) {
     let s = (seed % 256) as usize;
-    let mut k: usize = 0;
-    while k < bytes.len() {
-        bytes[k] = ((s + k % 256 * 7 + k / 256 % 256) % 256) as u8;
-        k = k + 1;
+    for (k, byte) in bytes.iter_mut().enumerate() {
+        *byte = ((s + k % 256 * 7 + k / 256 % 256) % 256) as u8;
     }
 }
 
 // A big-endian number over all of the bytes.
 fn big_endian(bytes: &mut [u8], value: u64) {
     let mut left = value;
-    let mut k = bytes.len();
-    while 0 < k {
-        k = k - 1;
-        bytes[k] = (left % 256) as u8;
-        left = left / 256;
+    for byte in bytes.iter_mut().rev() {
+        *byte = (left % 256) as u8;
+        left /= 256;
     }
 }
 
 // A little-endian one.
 fn little_endian(bytes: &mut [u8], value: u64) {
     let mut left = value;
-    let mut k: usize = 0;
-    while k < bytes.len() {
-        bytes[k] = (left % 256) as u8;
-        left = left / 256;
-        k = k + 1;
+    for byte in bytes.iter_mut() {
+        *byte = (left % 256) as u8;
+        left /= 256;
     }
 }
 
@@ -51,15 +45,13 @@ fn fold(digest: u64, number: u64) -> u64
 }
 
 fn wide(b: u8) -> u64 {
-    b as u64
+    u64::from(b)
 }
 
 pub fn digest(bytes: &[u8]) -> u64 {
     let mut d: u64 = 0;
-    let mut k: usize = 0;
-    while k < bytes.len() {
-        d = fold(d, wide(bytes[k]));
-        k = k + 1;
+    for b in bytes {
+        d = fold(d, wide(*b));
     }
     d
 }

@@ -7,12 +7,14 @@ mod line;
 mod made;
 mod report;
 
-ghost use Rattle.std.specs.Prelude.{◌≤◌, length};
+ghost use Rattle.std.specs.Prelude.{◌≤◌, length, IfOk};
 
 use print::least;
+use std::io;
+use std::io::Read;
 
 // Where the replay stands: the line, what was replayed up to it, the bytes lent to the calls, and whether all was as it should be.
-#[derive(Drop)]
+#[derive(Clone, Copy)]
 pub struct State {
     pub line: u64,
     pub sequences: u64,
@@ -32,18 +34,23 @@ fn zeroed(bytes: &mut [u8], n: usize) -> bool {
 }
 
 // "begins a sequence: so many bytes of segment and inventory, all zero"
-fn begin(s: State, text: &[u8], segment: &mut [u8], inventory: &mut [u8]) -> State {
-    let mut next = s;
-    next.sequences = std::num::wrapping_add_u64(s.sequences, 1);
-    next.segment = line::number(text, 1) as usize;
-    next.inventory = line::number(text, 2) as usize;
-    if !zeroed(segment, next.segment) {
-        return report::too_large(s);
+fn begin(
+    rt: &impl Print,
+    s: State,
+    text: &[u8],
+    segment: &mut [u8],
+    inventory: &mut [u8],
+) -> io::Result<State> {
+    let next = State {
+        sequences: s.sequences.wrapping_add(1),
+        segment: line::number(text, 1) as usize,
+        inventory: line::number(text, 2) as usize,
+        ..s
+    };
+    if !zeroed(segment, next.segment) || !zeroed(inventory, next.inventory) {
+        return report::too_large(rt, s);
     }
-    if !zeroed(inventory, next.inventory) {
-        return report::too_large(s);
-    }
-    next
+    Ok(next)
 }
 
 // Bytes set between calls. A trace sets lent bytes alone; any others are passed over.
@@ -54,75 +61,108 @@ fn poke(bytes: &mut [u8], text: &[u8]) {
     made::set(&mut bytes[a..e], line::letter(text), line::number(text, 3));
 }
 
-fn call(s: State, text: &[u8], segment: &mut [u8], inventory: &mut [u8]) -> State {
+fn call(
+    rt: &impl Print,
+    s: State,
+    text: &[u8],
+    segment: &mut [u8],
+    inventory: &mut [u8],
+) -> io::Result<State> {
     let at = line::arguments_of(line::letter(text));
     if line::count(text) != at + 5 {
-        return report::not_understood(s, text);
+        return report::not_understood(rt, s, text);
     }
     let r = calls::perform(segment, inventory, text);
     let a = made::digest(segment);
     let b = made::digest(inventory);
     let got = [r.answer, r.first, r.second, a, b];
     if !line::has(text, at, &got) {
-        return report::difference(s, text, &got);
+        return report::difference(rt, s, text, &got);
     }
-    let mut next = s;
-    next.calls = std::num::wrapping_add_u64(s.calls, 1);
-    next
+    Ok(State {
+        calls: s.calls.wrapping_add(1),
+        ..s
+    })
 }
 
 // A line on the lent bytes.
-fn replay_lent(s: State, text: &[u8], segment: &mut [u8], inventory: &mut [u8]) -> State {
+fn replay_lent(
+    rt: &impl Print,
+    s: State,
+    text: &[u8],
+    segment: &mut [u8],
+    inventory: &mut [u8],
+) -> io::Result<State> {
     if line::count(text) != 3 {
-        return call(s, text, segment, inventory);
+        return call(rt, s, text, segment, inventory);
     }
     match line::letter(text) {
         b'V' => poke(inventory, text),
         b'B' | b'G' => poke(segment, text),
-        _ => return report::not_understood(s, text),
+        _ => return report::not_understood(rt, s, text),
     }
-    s
+    Ok(s)
 }
 
-fn replay_line(before: State, text: &[u8], segment: &mut [u8], inventory: &mut [u8]) -> State {
+fn replay_line(
+    rt: &impl Print,
+    before: State,
+    text: &[u8],
+    segment: &mut [u8],
+    inventory: &mut [u8],
+) -> io::Result<State> {
     if !before.going {
-        return before;
+        return Ok(before);
     }
-    let mut s = before;
-    s.line = std::num::wrapping_add_u64(before.line, 1);
+    let s = State {
+        line: before.line.wrapping_add(1),
+        ..before
+    };
     if line::letter(text) == b'S' && line::count(text) == 2 {
-        return begin(s, text, segment, inventory);
+        return begin(rt, s, text, segment, inventory);
     }
     let a = least(s.segment, segment.len());
     let b = least(s.inventory, inventory.len());
-    replay_lent(s, text, &mut segment[0..a], &mut inventory[0..b])
+    replay_lent(rt, s, text, &mut segment[0..a], &mut inventory[0..b])
 }
 
-fn replay_lines(before: State, text: &[u8], segment: &mut [u8], inventory: &mut [u8]) -> State {
+fn replay_lines(
+    rt: &impl Print,
+    before: State,
+    text: &[u8],
+    segment: &mut [u8],
+    inventory: &mut [u8],
+) -> io::Result<State> {
     let mut s = before;
     let mut at: usize = 0;
     while at < text.len() {
         let e = line::line_end(text, at);
-        s = replay_line(s, &text[at..e], segment, inventory);
+        s = replay_line(rt, s, &text[at..e], segment, inventory)?;
         if e == text.len() {
-            return s;
+            return Ok(s);
         }
         at = e + 1;
     }
-    s
+    Ok(s)
 }
 
 // Reads on after what is kept; answers how many bytes of the text there are now.
-fn read_on(text: &mut [u8], kept: usize) -> usize
+fn read_on(reader: &mut impl Read, text: &mut [u8], kept: usize) -> io::Result<usize>
     requires { kept ≤ length text.old }
-    ensures { result ≤ length text.new }
+    ensures { IfOk result (λ n. n ≤ length text.new) }
 {
-    let got = io::read_full(0, &mut text[kept..]);
-    kept + got
+    let got = print::read_full(reader, &mut text[kept..])?;
+    Ok(kept + got)
 }
 
 // A buffer at a time. What stands after its last whole line is kept for the next.
-fn replay(text: &mut [u8], segment: &mut [u8], inventory: &mut [u8]) -> State {
+fn replay(
+    rt: &impl Print,
+    reader: &mut impl Read,
+    text: &mut [u8],
+    segment: &mut [u8],
+    inventory: &mut [u8],
+) -> io::Result<State> {
     let mut s = State {
         line: 0,
         sequences: 0,
@@ -132,26 +172,30 @@ fn replay(text: &mut [u8], segment: &mut [u8], inventory: &mut [u8]) -> State {
         going: true,
     };
     let mut kept: usize = 0;
-    let mut turns: u64 = 18446744073709551615;
-    while 0 < turns {
-        turns = turns - 1;
-        let n = read_on(text, kept);
+    for _ in 0..u64::MAX {
+        let n = read_on(reader, text, kept)?;
         let last = n == kept;
         let e = line::whole_lines(&text[0..n], last);
-        s = replay_lines(s, &text[0..e], segment, inventory);
+        s = replay_lines(rt, s, &text[0..e], segment, inventory)?;
         if last {
-            return s;
+            return Ok(s);
         }
         kept = n - e;
         layout_runs::move_down(text, e, kept, 0);
     }
-    s
+    Ok(s)
 }
 
-fn main() {
-    let mut text = io::large_buffer();
+fn main(rt: HostRuntime) -> io::Result<()> {
+    let mut text = [0u8; 65536];
     let mut segment = [0u8; 229376];
     let mut inventory = [0u8; 16640];
-    let s = replay(&mut text, &mut segment, &mut inventory);
-    report::end(s);
+    let s = replay(
+        &rt,
+        &mut rt.stdin(),
+        &mut text,
+        &mut segment,
+        &mut inventory,
+    )?;
+    report::end(&rt, s)
 }

@@ -1,57 +1,56 @@
 // What the replay prints. After a difference, or a line that it cannot replay, it stops.
 use crate::State;
 use print::{end_line, named, say};
+use std::io;
 
 fn stopped(s: State) -> State {
-    let mut next = s;
-    next.going = false;
-    next
+    State { going: false, ..s }
 }
 
-fn position(s: State) {
-    named(b"sequence ", s.sequences);
-    named(b", line ", s.line);
-    say(b": ");
+fn position(rt: &impl Print, s: State) -> io::Result<()> {
+    named(rt, b"sequence ", s.sequences)?;
+    named(rt, b", line ", s.line)?;
+    say(rt, b": ")
 }
 
-fn numbers(five: &[u64; 5]) {
-    print::number(five[0]);
-    let mut k: usize = 1;
-    while k < 5 {
-        named(b" ", five[k]);
-        k = k + 1;
+fn numbers(rt: &impl Print, five: &[u64; 5]) -> io::Result<()> {
+    print::number(rt, five[0])?;
+    for n in &five[1..] {
+        named(rt, b" ", *n)?;
     }
+    Ok(())
 }
 
 // What the line says was wanted; what was got is written like the line's last five numbers.
-pub fn difference(s: State, text: &[u8], got: &[u64; 5]) -> State {
-    position(s);
-    say(b"wanted\n");
-    say(text);
-    say(b"\ngot\n");
-    numbers(got);
-    end_line();
-    stopped(s)
+pub fn difference(rt: &impl Print, s: State, text: &[u8], got: &[u64; 5]) -> io::Result<State> {
+    position(rt, s)?;
+    say(rt, b"wanted\n")?;
+    say(rt, text)?;
+    say(rt, b"\ngot\n")?;
+    numbers(rt, got)?;
+    end_line(rt)?;
+    Ok(stopped(s))
 }
 
-pub fn not_understood(s: State, text: &[u8]) -> State {
-    position(s);
-    say(b"not understood: ");
-    say(text);
-    end_line();
-    stopped(s)
+pub fn not_understood(rt: &impl Print, s: State, text: &[u8]) -> io::Result<State> {
+    position(rt, s)?;
+    say(rt, b"not understood: ")?;
+    say(rt, text)?;
+    end_line(rt)?;
+    Ok(stopped(s))
 }
 
-pub fn too_large(s: State) -> State {
-    position(s);
-    say(b"more bytes than this program can lend\n");
-    stopped(s)
+pub fn too_large(rt: &impl Print, s: State) -> io::Result<State> {
+    position(rt, s)?;
+    println!(rt; "more bytes than this program can lend")?;
+    Ok(stopped(s))
 }
 
-pub fn end(s: State) {
-    if s.going {
-        print::number(s.sequences);
-        named(b" sequences, ", s.calls);
-        say(b" calls replayed\n");
+pub fn end(rt: &impl Print, s: State) -> io::Result<()> {
+    if !s.going {
+        return Ok(());
     }
+    print::number(rt, s.sequences)?;
+    named(rt, b" sequences, ", s.calls)?;
+    say(rt, b" calls replayed\n")
 }

@@ -2,11 +2,7 @@
 use Prim.Native.Nat.{ℕ, ◌+◌, ◌*◌, ◌≤◌}
 use mathlib.Core.Path.{◌≡◌, refl, sym, ap, subst, ◌∙◌}
 use mathlib.Core.Bool.{true, false}
-use mathlib.Core.List.{List, [], ◌∷◌}
-use mathlib.Core.Logic.{⊎_elim}
-use types.Run.{OneOf}
-use denote.Enum.Declared.{tag_of}
-use native.Mathlib.Omega.{arith}
+use mathlib.Core.List.{List}
 use lib.ListN.{length, take, drop}
 use lib.Seq.{take-take}
 use borrow.Author.Tests.{le-ltb}
@@ -21,7 +17,6 @@ use Rattle.store.proofs.Laws.SoundSegment.{open_sound, seen_page}
 use Rattle.store.proofs.Laws.Parts.{seen_bytes}
 use Rattle.store.specs.declared.Slot.{Slot}
 use Rattle.store.specs.declared.Slot.TheVariants.{Ordinary, Free, Redirect, Target}
-use Rattle.store.specs.contracts.Slot as slot
 
 -- a slot at or past the count is free
 pub at_past : (p : List ℕ) (k : ℕ) → (view p).slot_count ≤ k → Free ≡ (view p).at k
@@ -29,11 +24,11 @@ unfolding view
 at_past p k h = rw (le-ltb k (count p) h)
 
 -- an entry that is told to be of another kind
-pub not_target : (x : Slot) → OneOf (0 ∷ 1 ∷ 2 ∷ []) (tag_of slot.the_type x) → is_target x ≡ false
+pub not_target : (x : Slot) → ((o l : ℕ) → x ≡ Target o l → ⊥) → is_target x ≡ false
 not_target (Ordinary o l) h = refl
 not_target Free h = refl
 not_target (Redirect t) h = refl
-not_target (Target o l) h = absurd (⊎_elim (λ e. omega arith) (⊎_elim (λ e. omega arith) (λ e. omega arith)) h)
+not_target (Target o l) h = absurd (h o l refl)
 
 module _ (s : List ℕ) (p : ℕ) where
   pub seen_sound : sound ((seg_view s).page p) ≡ sound (view (page_of s p))

@@ -27,7 +27,7 @@ pub const AT_HEADER: u64 = 65535;
 
 pub const AT_INVENTORY: u64 = 65536;
 
-#[derive(Drop)]
+#[derive(Clone, Copy)]
 pub enum Slot {
     Ordinary { offset: usize, length: usize },
     Free,
@@ -36,7 +36,7 @@ pub enum Slot {
 }
 
 // What the own page of an id answers: its slot's entry, or a refusal.
-#[derive(Drop)]
+#[derive(Clone, Copy)]
 pub enum Root {
     Entry { slot: Slot },
     NoPage,
@@ -44,21 +44,21 @@ pub enum Root {
 }
 
 // What allocate on a page finds.
-#[derive(Drop)]
+#[derive(Clone, Copy)]
 pub enum Place {
     At { slot: usize, offset: usize },
     NoRoom,
 }
 
 // What the inventory names for a request.
-#[derive(Drop)]
+#[derive(Clone, Copy)]
 pub enum Named {
     At { page: usize },
     Full,
 }
 
 // What a call that writes answers.
-#[derive(Drop)]
+#[derive(Clone, Copy)]
 pub enum Answer {
     Done { id: usize },
     Size,
@@ -72,7 +72,7 @@ pub enum Answer {
 }
 
 // What a read answers: the part of the segment that is the record, or a refusal.
-#[derive(Drop)]
+#[derive(Clone, Copy)]
 pub enum Reading {
     At { offset: usize, length: usize },
     Size,
@@ -82,7 +82,7 @@ pub enum Reading {
 }
 
 // What a step of the scan answers: a record and the next position, or none.
-#[derive(Drop)]
+#[derive(Clone, Copy)]
 pub enum Step {
     Record {
         id: usize,
@@ -100,7 +100,7 @@ pub enum Step {
 }
 
 // What repair does to a slot.
-#[derive(Drop)]
+#[derive(Clone, Copy)]
 pub enum Deed {
     Stays,
     RecordFreed,
@@ -109,7 +109,7 @@ pub enum Deed {
 }
 
 // What repair answers: how many entries it wrote, or would need.
-#[derive(Drop)]
+#[derive(Clone, Copy)]
 pub enum Repair {
     Done { count: usize },
     Size,
@@ -117,7 +117,7 @@ pub enum Repair {
 }
 
 // What an insert of many rows answers: how many went in, or a refusal of the whole list; or where it stopped, with that row's answer.
-#[derive(Drop)]
+#[derive(Clone, Copy)]
 pub enum Inserted {
     Done { rows: usize },
     Size,
@@ -127,7 +127,7 @@ pub enum Inserted {
 
 // "One running tally": figures over any number of segments, in the order that C has them (include/hekatosuy.h).
 #[repr(C)]
-#[derive(Drop)]
+#[derive(Clone, Copy)]
 pub struct Tally {
     pub pages: u64,
     pub fresh_pages: u64,
@@ -140,7 +140,7 @@ pub struct Tally {
 }
 
 // What a fill report answers.
-#[derive(Drop)]
+#[derive(Clone, Copy)]
 pub enum Reported {
     Done,
     Size,
