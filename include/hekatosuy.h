@@ -8,7 +8,7 @@
  *
  * A record has 0 to 16,364 bytes and an id, page * 65,536 + slot, which stays the same until the record is erased.
  *
- * Each function is proved to meet its contract (crates/hekatosuy): for every segment, inventory and argument it answers one of the
+ * Each function is proved to meet its contract (crates/hekatosuy_c): for every segment, inventory and argument it answers one of the
  * numbers below and leaves each byte as the contract says. A call that is refused leaves segment, inventory, tally, an export's place and
  * the words for whole readings as they were; only hk_insert_records and hk_import, refused at one of their rows, leave what the rows before
  * it changed, and nothing else.
@@ -37,7 +37,7 @@
  *         return 0;
  *     }
  *
- * `rt staticlib hekatosuy` writes the archive, x86-64 code for Linux, to target/staticlib/libhekatosuy.a, and
+ * `./archive` writes the archive, x86-64 code for Linux, to target/staticlib/libhekatosuy.a, and
  * `cc -Iinclude prog.c target/staticlib/libhekatosuy.a` links with it. examples/store_in_file.c keeps a store in a file.
  */
 #ifndef HEKATOSUY_H

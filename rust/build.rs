@@ -1,7 +1,7 @@
 //! Finds libhekatosuy.a, the archive of the proved store, and links it.
 //!
 //! Its folder is the one that HEKATOSUY_LIB_DIR names, by its whole path or as seen from this
-//! crate; without it `../target/staticlib`, where `rt staticlib hekatosuy` writes it. Where it is not
+//! crate; without it `../target/staticlib`, where the repository's `./archive` writes it. Where it is not
 //! there `cargo check` and `cargo doc` pass, with a warning that says why no program can be linked.
 
 use std::env;
@@ -21,7 +21,7 @@ fn main() {
     let archive = folder.join("libhekatosuy.a");
     if !archive.is_file() {
         println!(
-            "cargo:warning={} is not there: write it with `rt staticlib hekatosuy` in the repository's folder, or name its folder in HEKATOSUY_LIB_DIR",
+            "cargo:warning={} is not there: write it with `./archive` in the repository's folder, or name its folder in HEKATOSUY_LIB_DIR",
             archive.display()
         );
     }

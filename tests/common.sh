@@ -91,21 +91,29 @@ need_cargo_for_x86_64() {
 }
 
 # libhekatosuy.a: in the folder that HEKATOSUY_LIB_DIR names, or in target/staticlib, where it is written anew if a crate has changed since.
-# `archive` is its path. A failure of `rt staticlib` is one, and not something that is missing.
+# `archive` is its path. A failure of ./archive is one, and not something that is missing.
 need_archive() {
     local folder="$repository/target/staticlib" said
     if [ -n "${HEKATOSUY_LIB_DIR:-}" ]; then
         folder="$(cd "$HEKATOSUY_LIB_DIR" 2>/dev/null && pwd)" || { why_not="HEKATOSUY_LIB_DIR names no folder"; return 1; }
         HEKATOSUY_LIB_DIR=$folder
     elif command -v rt >/dev/null && ! is_current "$folder/libhekatosuy.a"; then
-        said="$(cd "$repository" && rt staticlib hekatosuy 2>&1)" || { printf '%s\n' "$said" | tail -n 20; fail "rt staticlib hekatosuy"; }
+        said="$("$repository/archive" 2>&1)" || { printf '%s\n' "$said" | grep -v '^statements ' | tail -n 20; fail "./archive"; }
     fi
     archive="$folder/libhekatosuy.a"
     [ -f "$archive" ] || { why_not="no libhekatosuy.a in ${HEKATOSUY_LIB_DIR:-target/staticlib}"; return 1; }
 }
 
-is_current() {
-    [ -f "$1" ] && [ -z "$(find "$repository/crates" "$repository/crates.txt" -newer "$1" -print -quit)" ]
+# A program of crates/, `program`: as rt ci or rt run has left it, or built anew if a crate has changed since.
+need_program() { # need_program NAME
+    local folder="$repository/crates/$1" said
+    program="$folder/out/$1"
+    is_current "$program" && return
+    said="$(cd "$folder" && rt run <stdin 2>&1)" || { printf '%s\n' "$said" | grep -v '^statements ' | tail -n 20; fail "rt run in crates/$1"; }
+}
+
+is_current() { # is_current FILE: no crate has changed since it was made
+    [ -f "$1" ] && [ -z "$(find "$repository"/crates.txt "$repository"/crates/*/{src,specs,proofs} -newer "$1" -print -quit 2>/dev/null)" ]
 }
 
 # The published Rust, which the judge's crates are built from.

@@ -70,8 +70,8 @@
 //!
 //! # Linking
 //!
-//! The archive is x86-64 code. `rt staticlib hekatosuy` writes it to `target/staticlib` of the
-//! repository, where this crate's build looks for it; `HEKATOSUY_LIB_DIR` names another folder.
+//! The archive is x86-64 code. The repository's `./archive` writes it to `target/staticlib`
+//! there, where this crate's build looks for it; `HEKATOSUY_LIB_DIR` names another folder.
 //! A call needs no memory but the stack.
 
 #![deny(unsafe_code)]
