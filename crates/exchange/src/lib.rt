@@ -19,7 +19,7 @@ use segment_insert::rows::REMEMBERED;
 use store::Answer;
 
 // What an import answers: how many records went in, or a refusal of the whole file; or where it stopped, with that insert's answer.
-#[derive(Drop)]
+#[derive(Clone, Copy)]
 pub enum Imported {
     Done { records: usize },
     Size,
@@ -30,7 +30,7 @@ pub enum Imported {
 }
 
 // What an export answers: the file's length, and how many records are no readings.
-#[derive(Drop)]
+#[derive(Clone, Copy)]
 pub enum Exported {
     Done { length: usize, passed: usize },
     Size,

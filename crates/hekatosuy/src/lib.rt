@@ -97,7 +97,7 @@ pub fn hk_erase_record(segment: &mut [u8], inventory: &mut [u8], id: u64) -> u64
 
 // The record's place in the segment, without the back id of a target.
 pub fn hk_get_record(segment: &[u8], id: u64, offset: &mut u64, length: &mut u64) -> u64
-    ensures { record { answer = result; part = record { offset = offset.exit.now; length = length.new } }
+    ensures { record { answer = result; part = record { offset = offset.new; length = length.new } }
         ≡ locate_step segment.now id }
 {
     let r = segment_read::find_record(segment, id as usize);

@@ -21,7 +21,7 @@ use rule::Counts;
 use windows::WINDOWS;
 
 // Whether a mirror is cleared, or a refusal.
-#[derive(Drop)]
+#[derive(Clone, Copy)]
 pub enum Clearing {
     Yes,
     No,

@@ -20,7 +20,7 @@ use store::PAGE_SIZE;
 pub const MOST_ROWS: usize = 2048;
 
 // The mirror, how many rows a reading has, and the window.
-#[derive(Drop)]
+#[derive(Clone, Copy)]
 pub struct Wanted {
     pub mirror: usize,
     pub rows: usize,
@@ -30,7 +30,7 @@ pub struct Wanted {
 // One row: a row that is there already spoils its reading, and so does one from `rows` on. The spoiled readings afterwards.
 fn mark_row(map: &mut [usize], spoiled: usize, rows: usize, reading: usize, row: usize) -> usize
     requires { (length map.old ≡ 2048) × (rows ≤ 2048) }
-    ensures { record { map = map.exit.now; spoiled = result } ≡ with_row rows record { map = map.entry.now; spoiled = spoiled } reading row }
+    ensures { record { map = map.new; spoiled = result } ≡ with_row rows record { map = map.old; spoiled = spoiled } reading row }
 {
     let bit = 1 << (reading % SPAN);
     if rows <= row {
@@ -44,7 +44,7 @@ fn mark_row(map: &mut [usize], spoiled: usize, rows: usize, reading: usize, row:
 // One record, if it is of the window.
 fn mark_head(map: &mut [usize], spoiled: usize, h: Head, w: Wanted) -> usize
     requires { (length map.old ≡ 2048) × (w.rows ≤ 2048) }
-    ensures { record { map = map.exit.now; spoiled = result } ≡ with_head w record { map = map.entry.now; spoiled = spoiled } h }
+    ensures { record { map = map.new; spoiled = result } ≡ with_head w record { map = map.old; spoiled = spoiled } h }
 {
     let Head::Row { reading, row } = h else {
         return spoiled;
@@ -58,8 +58,8 @@ fn mark_head(map: &mut [usize], spoiled: usize, h: Head, w: Wanted) -> usize
 // The slots of a page that is sound.
 fn mark_page(map: &mut [usize], spoiled: usize, page: &[u8], w: Wanted) -> usize
     requires { (length map.old ≡ 2048) × (w.rows ≤ 2048) × SoundPage page.now }
-    ensures { record { map = map.exit.now; spoiled = result }
-        ≡ marks_over w record { map = map.entry.now; spoiled = spoiled } (page_readings (opened (view page.now))) }
+    ensures { record { map = map.new; spoiled = result }
+        ≡ marks_over w record { map = map.old; spoiled = spoiled } (page_readings (opened (view page.now))) }
 {
     let n = layout::header::get_slot_count(page);
     let mut s = spoiled;
@@ -75,8 +75,8 @@ fn mark_page(map: &mut [usize], spoiled: usize, page: &[u8], w: Wanted) -> usize
 fn mark_segment(map: &mut [usize], segment: &[u8], w: Wanted) -> usize
     requires map_len { (length map.old ≡ 2048) × (w.rows ≤ 2048) }
     requires segment_value { (size_ok segment.now ≡ true) × (all_sound (seg_view segment.now) ≡ true) }
-    ensures { record { map = map.exit.now; spoiled = result }
-        ≡ marks_over w record { map = map.entry.now; spoiled = 0 } (readings (records (seg_view segment.now))) }
+    ensures { record { map = map.new; spoiled = result }
+        ≡ marks_over w record { map = map.old; spoiled = 0 } (readings (records (seg_view segment.now))) }
 {
     let n = segment.len() / PAGE_SIZE;
     let mut s = 0;

@@ -4,7 +4,7 @@ ghost use Rattle.polishing.specs.Polishing.{named, rows_named};
 ghost use Rattle.polishing.specs.Words.{Says, met_by};
 
 // At least so many whole readings in all, so many "below 32,768 (as mounted)", and so many "at or above it (turned)".
-#[derive(Drop)]
+#[derive(Clone, Copy)]
 pub struct Demands {
     pub all: usize,
     pub mounted: usize,
@@ -12,7 +12,7 @@ pub struct Demands {
 }
 
 // How many are whole, as mounted and turned.
-#[derive(Drop)]
+#[derive(Clone, Copy)]
 pub struct Counts {
     pub mounted: usize,
     pub turned: usize,
