@@ -2,14 +2,12 @@
 use Prim.Native.Nat.{ℕ, ◌+◌, ◌/◌, ◌^◌, ◌≤◌, ◌<◌}
 use mathlib.Core.Path.{◌≡◌, refl, sym, ap, ◌∙◌}
 use mathlib.Core.Bool.{Bool, true, false, not, cond, ◌||◌}
-use mathlib.Core.List.{List, [], ◌∷◌, ◌++◌}
-use mathlib.Core.Logic.{◌≢◌, ⊎_elim}
+use mathlib.Core.List.{List, [], ◌++◌}
+use mathlib.Core.Logic.{◌≢◌}
 use native.Mathlib.Omega.{arith}
 use lib.ListN.{length}
 use lib.Dec.{eqb}
 use borrow.Author.Tests.{eqb-false, not-false}
-use types.Run.{OneOf}
-use denote.Enum.Declared.{tag_of}
 use Rattle.store.specs.Numbers.{to_be, id_of, page_no, slot_no}
 use Rattle.store.specs.Page.{view, sound}
 use Rattle.store.specs.PageSteps.{Plan, Alloc, no_room, got, allocate, erase, erase_for_redirect}
@@ -26,7 +24,6 @@ use Rattle.store.specs.declared.Named.TheVariants.{At, Full}
 use Rattle.store.specs.declared.Slot.TheVariants.{Redirect}
 use Rattle.store.specs.declared.Answer.{Answer}
 use Rattle.store.specs.declared.Answer.TheVariants as answer
-use Rattle.store.specs.contracts.Answer as answers
 use Rattle.slotted_page.specs.Words.{target_plan, redirect_plan}
 use Rattle.segment_steps.proofs.After.{Took, took_length, left_own, left_other, next_took, third_took, small_id}
 use Rattle.segment_moves.proofs.Moved.{target_on_page}
@@ -39,13 +36,8 @@ use Rattle.segment_forward.proofs.Search.{got_small, placing}
 
 -- ---- what the search answered: refused, or a target at k
 
-not_done : (y : Answer) → OneOf (1 ∷ 2 ∷ 3 ∷ 4 ∷ 5 ∷ 6 ∷ 7 ∷ 8 ∷ []) (tag_of answers.the_type y) → 0 < answer_no y
-not_done (answer.Done k) h =
-    absurd
-    (⊎_elim (λ e. omega arith)
-    (⊎_elim (λ e. omega arith) (⊎_elim (λ e. omega arith)
-    (⊎_elim (λ e. omega arith) (⊎_elim (λ e. omega arith) (⊎_elim (λ e. omega arith) (⊎_elim (λ e. omega arith) (λ e. omega arith)))))))
-    h)
+not_done : (y : Answer) → ((k : ℕ) → y ≡ answer.Done k → ⊥) → 0 < answer_no y
+not_done (answer.Done k) h = absurd (h k refl)
 not_done answer.Size h = omega arith
 not_done answer.NoPage h = omega arith
 not_done answer.Long h = omega arith
@@ -87,7 +79,7 @@ pub record Placed (s : List ℕ) (i : ℕ) (bs : List ℕ) (ex : ℕ → Bool) (
 
 module _ (s v : List ℕ) (i n : ℕ) (bs : List ℕ) (t : List ℕ) where
   -- a refusal of the search is one of the forwarding
-  module _ (y : Answer) (refused : OneOf (1 ∷ 2 ∷ 3 ∷ 4 ∷ 5 ∷ 6 ∷ 7 ∷ 8 ∷ []) (tag_of answers.the_type y)) where
+  module _ (y : Answer) (refused : (k : ℕ) → y ≡ answer.Done k → ⊥) where
     pub forward_refused : (f : Found) → outcome y t v ≡ result s (new_target v i bs f) → outcome y t v ≡ result s (forwarded (seg_view s) v i n (λ o. bs) [] f)
     unfolding result
     forward_refused (nowhere a) e = e
