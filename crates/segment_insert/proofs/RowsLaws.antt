@@ -2,11 +2,9 @@
 use Prim.Native.Nat.{ℕ, zero, suc, ◌+◌, ◌-◌, ◌≤◌, ◌<◌}
 use mathlib.Core.Path.{◌≡◌, refl, sym, ap, subst, ◌∙◌}
 use mathlib.Core.Bool.{Bool, true, false, ◌&&◌, and-false}
-use mathlib.Core.List.{List, [], ◌∷◌}
+use mathlib.Core.List.{List, ◌∷◌}
 use mathlib.Core.Logic.{◌≢◌}
 use native.Mathlib.Omega.{arith}
-use types.Run.{OneOf, miss}
-use denote.Enum.Declared.{tag_of}
 use lib.ListN.{length, take, drop, set, get_or, length-set, drop_of_length-le}
 use lib.Seq.{drop-cons, drop-drop}
 use lib.Dec.{eqb}
@@ -21,7 +19,6 @@ use Rattle.store.proofs.Laws.Cases.{never}
 use Rattle.store.proofs.Laws.Numbers.{put_set, put_nil}
 use Rattle.store.proofs.Laws.ManyRows.{row_in, row_refused, no_row_lem, insert_own}
 use Rattle.store.proofs.Promises.Refused.{refused_keeps, length_kept, inventory_kept, sizes_kept}
-use Rattle.store.specs.contracts.Answer.{the_type}
 use Rattle.store.specs.declared.Answer.{Answer}
 use Rattle.store.specs.declared.Answer.TheVariants.{Done, Size, NoPage, Long, Damaged, NoRecord, Forwarded, Full, Stale}
 use Rattle.store.specs.declared.Inserted.TheVariants as many
@@ -46,8 +43,8 @@ own_above (suc (suc a)) e n = omega arith
 
 -- ---- an answer that is not Done
 
-pub not_done : (r : Answer) → OneOf (1 ∷ 2 ∷ 3 ∷ 4 ∷ 5 ∷ 6 ∷ 7 ∷ 8 ∷ []) (tag_of the_type r) → answer_no r ≢ 0
-not_done (Done i) h e = miss (1 ∷ 2 ∷ 3 ∷ 4 ∷ 5 ∷ 6 ∷ 7 ∷ 8 ∷ []) 0 tt h
+pub not_done : (r : Answer) → ((i : ℕ) → r ≡ Done i → ⊥) → answer_no r ≢ 0
+not_done (Done i) h e = h i refl
 not_done Size h e = omega (arith, e)
 not_done NoPage h e = omega (arith, e)
 not_done Long h e = omega (arith, e)
