@@ -24,13 +24,6 @@ use Rattle.store.specs.contracts.Slot as slot
 use Rattle.segment_judge.specs.Words.{KeptTarget}
 use Rattle.segment_judge.proofs.HoldLaws.{not_lost, lost_few, counted, stands, stands_view}
 
--- an entry that is told to be of another kind
-pub not_redirect : (x : Slot) → OneOf (0 ∷ 1 ∷ 3 ∷ []) (tag_of slot.the_type x) → (j : ℕ) → x ≢ Redirect j
-not_redirect (Ordinary o l) h j e = let z : ◌≡◌ {A = ℕ} 0 1 = cc in omega arith
-not_redirect Free h j e = let z : ◌≡◌ {A = ℕ} 0 1 = cc in omega arith
-not_redirect (Redirect i) h j e = ⊎_elim (λ e. omega arith) (⊎_elim (λ e. omega arith) (λ e. omega arith)) h
-not_redirect (Target o l) h j e = let z : ◌≡◌ {A = ℕ} 0 1 = cc in omega arith
-
 module _ (s : List ℕ) (t b : ℕ) (kt : KeptTarget s t b) where
   not_named : (KeptRedirect (standing s) b t → ⊥) → false ≡ named (standing s) t
   not_named n = go (named (standing s) t) refl
