@@ -4,7 +4,8 @@
 
 ghost use Rattle.std.specs.Prelude.{◌≡◌, ◌+◌, ◌-◌, ◌*◌, ◌/◌, ◌<◌, ◌≤◌, length};
 ghost use Rattle.store.specs.Answers.{named_page};
-ghost use Rattle.store.specs.Inventory.{class_of, nibble_at, set_nibble, entry_at, set_entry, Room, found_in, run_end, next_page, set_from, pulled_back, update};
+ghost use Rattle.store.specs.Inventory.{class_of, nibble_at, set_nibble, entry_at, set_entry, Room, found_in, run_end};
+ghost use Rattle.store.specs.Inventory.{next_page, set_from, pulled_back, update};
 
 use layout::little::{get_u64_le, put_u64_le};
 use store::{Named, ROOM};

@@ -72,7 +72,8 @@ one_shl a h = shl_exact {a = 1} 1 a 64 (omega arith) (omega arith) ∙ one-mul (
 module _ (u : List ℕ) (i a b m : ℕ) (mask : Mask m a b) (top : b ≤ 64) (inside : i < length u) where
   pub word_clear : Clear u (64 * i + a) (64 * i + b) → bit_and (get_or u i 0) m ≡ 0
   unfolding mark
-  word_clear h = no_bits (bit_and (get_or u i 0) m) (bit_and (get_or u i 0) m) (omega arith) (λ j. bit_and_lem j (get_or u i 0) m ∙ go j (dec_le a j) (dec_lt j b))
+  word_clear h = no_bits (bit_and (get_or u i 0) m) (bit_and (get_or u i 0) m) (omega arith)
+      (λ j. bit_and_lem j (get_or u i 0) m ∙ go j (dec_le a j) (dec_lt j b))
     where
       go : (j : ℕ) → Dec (a ≤ j) → Dec (j < b) → min (bit j (get_or u i 0)) (bit j m) ≡ 0
       go j (yes f) (yes g) =

@@ -131,7 +131,8 @@ module _ (s : List ℕ) (i : ℕ) (bs : List ℕ) (j : ℕ) (f : Found) (k : ℕ
   others : (page_no i ≢ page_no k) × (page_no j ≢ page_no k)
   others = apart (eqb (page_no k) (page_no i)) (eqb (page_no k) (page_no j)) refl refl o.away
     where
-      apart : (a b : Bool) → eqb (page_no k) (page_no i) ≡ a → eqb (page_no k) (page_no j) ≡ b → (a || b) ≡ false → (page_no i ≢ page_no k) × (page_no j ≢ page_no k)
+      apart : (a b : Bool) → eqb (page_no k) (page_no i) ≡ a → eqb (page_no k) (page_no j) ≡ b → (a || b) ≡ false → (page_no i ≢ page_no k)
+          × (page_no j ≢ page_no k)
       apart true b x y z = let c : ◌≡◌ {A = ℕ} 0 1 = cc in absurd (omega arith)
       apart false b x y z = (λ e. eqb-false (page_no k) (page_no i) x (sym e), λ e. eqb-false (page_no k) (page_no j) (y ∙ z) (sym e))
 

@@ -41,7 +41,8 @@ home_is v k n j here = ap (λ (x : Slot). was_moved (relocate_by x v k n)) here 
 -- t is what the step on the root's page left, where there is room
 module _ (s : List ℕ) (i n : ℕ) (bs : List ℕ) (j : ℕ) (h : Follows s i j) (room : n ≤ ((seg_view s).page (page_no i)).free_space) (size : length bs ≡ n)
     (t : List ℕ)
-    (et : t ≡ put s (page_no i * 16384) (page_moved (refilled (relocate ((seg_view s).page (page_no i)) (slot_no i) n) (slot_no i) bs) (page_of s (page_no i)))) where
+    (et : t ≡ put s (page_no i * 16384) (page_moved (refilled (relocate ((seg_view s).page (page_no i)) (slot_no i) n) (slot_no i) bs)
+    (page_of s (page_no i)))) where
   abbrev root : View
   root = (seg_view s).page (page_no i)
 

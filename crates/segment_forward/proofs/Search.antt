@@ -51,7 +51,8 @@ module _ (s v : List ℕ) (i n : ℕ) (bs : List ℕ) (ex : ℕ → Bool) where
   unfolding find
   by_named m e =
       let d : n + 8 + 8 ≡ n + 16 = omega arith in
-      let g : found_in v (seg_view s).pages (n + 8 + 8) ≡ m = ap (λ (k : ℕ). found_in v k (n + 8 + 8)) (seen_pages s) ∙ ap (found_in v (length s / 16384)) d ∙ e in
+      let g : found_in v (seg_view s).pages (n + 8 + 8) ≡ m = ap (λ (k : ℕ). found_in v k (n + 8 + 8)) (seen_pages s)
+      ∙ ap (found_in v (length s / 16384)) d ∙ e in
       sym (rw g)
 
   pub place_full : found_in v (length s / 16384) (n + 16) ≡ Full → outcome answer.Full s v ≡ placing

@@ -13,7 +13,8 @@ use Rattle.store.specs.Page.{view, sound}
 use Rattle.store.specs.PageSteps.{Plan, filled, Alloc, no_room, got, allocate}
 use Rattle.store.specs.Refusals.{DONE, LONG}
 use Rattle.store.specs.Inventory.{Room, found_in, update}
-use Rattle.store.specs.Segment.{seg_view, page_of, size_ok, inv_ok, Out, OnPage, on, refuse, refuse_if, result, step, find, insert_plan, insert_step, allocate_step}
+use Rattle.store.specs.Segment.{seg_view, page_of, size_ok, inv_ok, Out, OnPage, on, refuse, refuse_if, result, step, find, insert_plan, insert_step}
+use Rattle.store.specs.Segment.{allocate_step}
 use Rattle.store.specs.Answers.{outcome, given_place, allotted, named_page}
 use Rattle.store.proofs.Laws.Segments.{length_page}
 use Rattle.store.proofs.Laws.Fit.{length_fit, fit_all, fit_none}

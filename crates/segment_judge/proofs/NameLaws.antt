@@ -2,10 +2,8 @@
 use Prim.Native.Nat.{ℕ, ◌/◌, ◌≤◌, ◌<◌}
 use mathlib.Core.Path.{◌≡◌, refl, sym, ap, subst, ◌∙◌}
 use mathlib.Core.Bool.{Bool, true, false}
-use mathlib.Core.List.{List, [], ◌∷◌}
-use mathlib.Core.Logic.{◌≢◌, ⊎_elim}
-use types.Run.{OneOf}
-use denote.Enum.Declared.{tag_of}
+use mathlib.Core.List.{List}
+use mathlib.Core.Logic.{◌≢◌}
 use native.Mathlib.Omega.{arith}
 use native.Mathlib.Decide.{ℕ_discrete}
 use lib.ListN.{length}
@@ -19,8 +17,7 @@ use Rattle.store.proofs.Laws.RepairPage.{keeps_is}
 use Rattle.store.proofs.Laws.RepairPairs.{Holds, KeptRedirect, named_is, named_in}
 use Rattle.store.proofs.Laws.Repair.{standing_pages, standing_page}
 use Rattle.store.specs.declared.Slot.{Slot}
-use Rattle.store.specs.declared.Slot.TheVariants.{Ordinary, Free, Redirect, Target}
-use Rattle.store.specs.contracts.Slot as slot
+use Rattle.store.specs.declared.Slot.TheVariants.{Free, Redirect}
 use Rattle.segment_judge.specs.Words.{KeptTarget}
 use Rattle.segment_judge.proofs.HoldLaws.{not_lost, lost_few, counted, stands, stands_view}
 

@@ -35,7 +35,8 @@ module _ (s : List ℕ) (p : ℕ) where
   seen_sound = ap sound (seen_page s p) ∙ open_sound (view (page_of s p))
 
   -- the bytes of a slot that lies in its page, and the first 8 of a target's
-  pub slot_bytes_lem : (k : ℕ) (x : Slot) → ((seg_view s).page p).at k ≡ x → off x + len x ≤ 16384 → cut s (p * 16384 + off x) (len x) ≡ ((seg_view s).page p).bytes k
+  pub slot_bytes_lem : (k : ℕ) (x : Slot) → ((seg_view s).page p).at k ≡ x → off x + len x ≤ 16384
+      → cut s (p * 16384 + off x) (len x) ≡ ((seg_view s).page p).bytes k
   slot_bytes_lem k x e = subst (λ (y : Slot). off y + len y ≤ 16384 → cut s (p * 16384 + off y) (len y) ≡ ((seg_view s).page p).bytes k) e (seen_bytes s p k)
 
   pub target_head : (k o l : ℕ) → ((seg_view s).page p).at k ≡ Target o l → 8 ≤ l → o + l ≤ 16384

@@ -8,7 +8,8 @@ use lib.ListN.{length, drop}
 use lib.Dec.{eqb}
 use Rattle.store.specs.Numbers.{cut, page_no, slot_no}
 use Rattle.store.specs.Slots.{is_target}
-use Rattle.store.specs.Segment.{SegView, seg_view, size_ok, points_back, Read, no_read, read_by, read_plan, read_step, Part, no_part, part_on, part_by, Located, held}
+use Rattle.store.specs.Segment.{SegView, seg_view, size_ok, points_back, Read, no_read, read_by, read_plan, read_step, Part, no_part, part_on, part_by}
+use Rattle.store.specs.Segment.{Located, held}
 use Rattle.store.specs.Segment.{root_of, by_root, locate_step}
 use Rattle.store.specs.Refusals.{DONE, SIZE, DAMAGED}
 use Rattle.store.proofs.Laws.Roots.{by_root_lem}
@@ -40,7 +41,8 @@ by_slot s i (Ordinary o l) = refl
 by_slot s i Free = refl
 by_slot s i (Redirect t) = go (points_back s i t) (drop 8 ((s.page (page_no t)).bytes (slot_no t))) (part_on (page_no t) ((s.page (page_no t)).at (slot_no t)))
   where
-    go : (b : Bool) (bs : List ℕ) (a : Part) → cond b (found_at a) (not_found DAMAGED) ≡ part_if (cond b (record { answer = DONE; bytes = bs }) (no_read DAMAGED)) a
+    go : (b : Bool) (bs : List ℕ) (a : Part) → cond b (found_at a) (not_found DAMAGED) ≡ part_if
+        (cond b (record { answer = DONE; bytes = bs }) (no_read DAMAGED)) a
     go true bs a = refl
     go false bs a = refl
 by_slot s i (Target o l) = refl

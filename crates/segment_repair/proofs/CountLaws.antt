@@ -62,7 +62,8 @@ module _ (s : List ℕ) {p : ℕ} {q : List ℕ} (e : q ≡ page_of s p) where
 -- ---- a page that is
 
 module _ (u : SegView) (p : ℕ) where
-  inuse_counted : (n m : ℕ) → n ≡ length (page_entries u p) → m ≡ (page_after u p).free_space → (page_after u p).free_space ≤ 16372 → fresh (page_after u p) ≡ false
+  inuse_counted : (n m : ℕ) → n ≡ length (page_entries u p) → m ≡ (page_after u p).free_space → (page_after u p).free_space ≤ 16372
+      → fresh (page_after u p) ≡ false
       → CountedAs u p (record { entries = n; used = true; space = m })
   inuse_counted n m e g l f =
       record {

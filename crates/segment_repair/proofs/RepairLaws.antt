@@ -11,7 +11,8 @@ use borrow.Author.Tests.{lt-ltb, le-ltb, eqb-true}
 use Rattle.store.specs.Numbers.{put}
 use Rattle.store.specs.Segment.{size_ok, inv_ok}
 use Rattle.store.specs.Answers.{repaired}
-use Rattle.store.specs.Repair.{standing, seg_bytes, seg_entries, true_of, seg_after, same_inv, inv_after, Entry, entry, inv_entries, entries, words, repair_step}
+use Rattle.store.specs.Repair.{standing, seg_bytes, seg_entries, true_of, seg_after, same_inv, inv_after, Entry, entry, inv_entries, entries, words}
+use Rattle.store.specs.Repair.{repair_step}
 use Rattle.store.proofs.Laws.Numbers.{cut_same, length_put}
 use Rattle.store.proofs.Laws.SoundPage.{and_both}
 use Rattle.store.proofs.Laws.SoundSegment.{Sized, sized}

@@ -75,4 +75,8 @@ module _ (ds : List ℕ) (is : Deeds (deeds_of ds) ds) (p k at next : ℕ) (l₀
   pub turn_told : (get_or ds k 0 ≡ 0 → ⊥) → (l' : List ℕ) → l' ≡ put l (3 * next) (p ∷ k ∷ get_or ds k 0 ∷ [])
       → (next + 1 ≡ at + length (slot_entries (deeds_of ds) p (k + 1))) × (l' ≡ put l₀ (3 * at) (words (slot_entries (deeds_of ds) p (k + 1))))
   turn_told z l' g =
-      rw (slots_told ds is p k z) (rw length-append (omega arith), g ∙ rw (f, e) (put_more l₀ at (slot_entries (deeds_of ds) p k) (entry p k (get_or ds k 0) ∷ [])))
+      rw (slots_told ds is p k z) (
+        rw length-append (omega arith),
+        g
+            ∙ rw (f, e) (put_more l₀ at (slot_entries (deeds_of ds) p k) (entry p k (get_or ds k 0) ∷ [])),
+      )

@@ -246,7 +246,8 @@ module _ (s : List ℕ) (whole : length s % 16384 ≡ 0) (p : ℕ) (l : p < leng
 
   pub mixed_turn : (l₀ l₁ l₂ s' : List ℕ) (at next : ℕ) → Written (seg_bytes (standing s) p s) s' l₁ l₂ p at next → at ≡ length (seg_entries (standing s) p)
       → l₁ ≡ put l₀ 0 (words (seg_entries (standing s) p))
-      → (s' ≡ seg_bytes (standing s) (p + 1) s) × (l₂ ≡ put l₀ 0 (words (seg_entries (standing s) (p + 1)))) × (next ≡ length (seg_entries (standing s) (p + 1)))
+      → (s' ≡ seg_bytes (standing s) (p + 1) s) × (l₂ ≡ put l₀ 0 (words (seg_entries (standing s) (p + 1))))
+      × (next ≡ length (seg_entries (standing s) (p + 1)))
   mixed_turn l₀ l₁ l₂ s' at next w e f = (
     w.seg ∙ mixed_next s whole p l,
     w.list ∙ rw (f, e, ← zero-add (length (seg_entries (standing s) p)))

@@ -63,7 +63,8 @@ seen_used s p k =
     by_test (λ (u : View). is_record (u.at k) ≡ true → view (page_of s p) ≡ u) (fresh (view (page_of s p))) initialised (view (page_of s p))
     (λ f e. let z : ◌≡◌ {A = ℕ} 0 1 = cc in absurd (omega arith)) (λ f e. refl)
 
-pub lies_seen : (s : List ℕ) (p k d : ℕ) (x : Slot) → is_record (((seg_view s).page p).at k) ≡ true → d ≡ (view (page_of s p)).data_start → x ≡ ((seg_view s).page p).at k
+pub lies_seen : (s : List ℕ) (p k d : ℕ) (x : Slot) → is_record (((seg_view s).page p).at k) ≡ true → d ≡ (view (page_of s p)).data_start
+    → x ≡ ((seg_view s).page p).at k
     → well_at d x ≡ lies_well ((seg_view s).page p) k
 lies_seen s p k d x r e q =
     let f : d ≡ ((seg_view s).page p).data_start = e ∙ ap (λ (v : View). v.data_start) (seen_used s p k r) in

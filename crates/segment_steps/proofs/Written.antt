@@ -54,7 +54,8 @@ module _ (s : List ℕ) (p : ℕ) (h : SoundOn s p) (n : ℕ)
 
     -- the record's bytes
     pub bytes_written : out ≡ put (lent_part t p) o bs
-        → put_mid (p * 16384) ((p + 1) * 16384 - p * 16384) t out ≡ put s (p * 16384) (page_after (filled_at (allocate ((seg_view s).page p) n) bs) (page_of s p))
+        → put_mid (p * 16384) ((p + 1) * 16384 - p * 16384) t out ≡ put s (p * 16384)
+        (page_after (filled_at (allocate ((seg_view s).page p) n) bs) (page_of s p))
     bytes_written f =
         let g : out ≡ put page o bs = f ∙ ap (λ (q : List ℕ). put q o bs) lent_again in
         back (ap length g ∙ length_put page o bs ∙ whole) _
@@ -63,7 +64,8 @@ module _ (s : List ℕ) (p : ℕ) (h : SoundOn s p) (n : ℕ)
 
     -- the entry of a target, and its bytes
     pub target_written : 20 + 8 * k ≤ o → out ≡ put (put (lent_part t p) (12 + 8 * k) (slot_bytes (Target o n))) o bs
-        → put_mid (p * 16384) ((p + 1) * 16384 - p * 16384) t out ≡ put s (p * 16384) (page_after (target_at (allocate ((seg_view s).page p) n) bs) (page_of s p))
+        → put_mid (p * 16384) ((p + 1) * 16384 - p * 16384) t out ≡ put s (p * 16384)
+        (page_after (target_at (allocate ((seg_view s).page p) n) bs) (page_of s p))
     target_written past f =
         let x : List ℕ = slot_bytes (Target o n) in
         let g : out ≡ put (put page (12 + 8 * k) x) o bs = f ∙ ap (λ (q : List ℕ). put (put q (12 + 8 * k) x) o bs) lent_again in

@@ -26,7 +26,8 @@ told c = c.is_sound.ensures ∙ ap (λ (q : List ℕ). sound (view q)) c.page_of
 
 pub returns-then-not-is_sound : goal.returns-then-not-is_sound
 returns-then-not-is_sound c =
-    filled_stops c.args.segment.now c.loop-p.p c.loop-p.tally (omega arith) (sym (told (goal.at.returns-then-not-is_sound c).After-is_sound) ∙ c.if-not-is_sound.true)
+    filled_stops c.args.segment.now c.loop-p.p c.loop-p.tally (omega arith)
+    (sym (told (goal.at.returns-then-not-is_sound c).After-is_sound) ∙ c.if-not-is_sound.true)
 
 pub page_fill-requires : goal.page_fill-requires
 page_fill-requires c = (long (goal.at.page_fill-requires c).After-page_of-page, sym c.is_sound.ensures ∙ c.if-not-is_sound.false)

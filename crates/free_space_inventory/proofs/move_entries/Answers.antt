@@ -3,8 +3,9 @@ use mathlib.Core.Logic.{inl, inr}
 use native.Mathlib.Omega.{arith}
 use Rattle.free_space_inventory.proofs.Search.{placed_none, placed_more, searched_none, searched_here, searched_next, Left}
 use Rattle.free_space_inventory.proofs.Search.{left_none, left_over}
-use Rattle.free_space_inventory.proofs.move_entries.Goals.{After-read_nibble-nibble, After-write_entry, At-pages, In-loop-u, Joined-old-u}
-use Rattle.free_space_inventory.proofs.move_entries.Goals.{then-old-u+else-pages-test, then-old-u+then-pages-test+else-u-nibble+then-loop-u-test+then-u-old, else-old-u}
+use Rattle.free_space_inventory.proofs.move_entries.Goals.{Joined-old-u}
+use Rattle.free_space_inventory.proofs.move_entries.Goals.{then-old-u+else-pages-test, then-old-u+then-pages-test+else-u-nibble+then-loop-u-test+then-u-old}
+use Rattle.free_space_inventory.proofs.move_entries.Goals.{else-old-u}
 use Rattle.free_space_inventory.proofs.move_entries.Goals as goal
 
 pub overflow_step-p : goal.overflow_step-p

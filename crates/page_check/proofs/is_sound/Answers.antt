@@ -4,7 +4,8 @@ use native.Mathlib.Omega.{arith}
 use Rattle.store.proofs.Laws.SoundPage.{sound_none}
 use Rattle.page_check.proofs.SlotLaws.{not_both}
 use Rattle.page_check.proofs.FitLaws.{Header, sound_header, sound_records, unsound, sound_space}
-use Rattle.page_check.proofs.is_sound.Goals.{After-get_data_start-d, After-get_free_space, After-records_fit-records, Else-n-eq0, Else-not-header_fits, Else-not-records, Start, Then-n-eq0}
+use Rattle.page_check.proofs.is_sound.Goals.{After-get_data_start-d, After-get_free_space, After-records_fit-records, Else-n-eq0, Else-not-header_fits}
+use Rattle.page_check.proofs.is_sound.Goals.{Else-not-records, Start, Then-n-eq0}
 use Rattle.page_check.proofs.is_sound.Goals as goal
 
 -- ---- the places: the page has a slot, its header is read, the header fits, the records are looked at

@@ -29,7 +29,8 @@ took c = let a = c.args in took_erasing a.segment.now a.id (taken (goal.at.After
 same_size : (c : After-erase_on-2) → length c.erase_on-2.new.segment ≡ length c.args.segment.now
 same_size c =
     let a = c.args in
-    both_length a.segment.now a.inventory.now a.id a.t (back_then (goal.at.After-erase_on-2 c).After-erase_on) c.erase_on.new.segment (took (goal.at.After-erase_on-2 c).After-erase_on) c.erase_on-2.new.segment
+    both_length a.segment.now a.inventory.now a.id a.t (back_then (goal.at.After-erase_on-2 c).After-erase_on) c.erase_on.new.segment
+    (took (goal.at.After-erase_on-2 c).After-erase_on) c.erase_on-2.new.segment
     c.erase_on-2.ensures
 
 pub returns-then-not-points_back : goal.returns-then-not-points_back
@@ -43,7 +44,8 @@ erase_on-requires c = taken (goal.at.erase_on-requires c).Start
 pub erase_on-requires-2 : goal.erase_on-requires-2
 erase_on-requires-2 c =
     let a = c.args in
-    still_taken a.segment.now a.inventory.now a.id a.t (back_then (goal.at.erase_on-requires-2 c).After-erase_on) c.erase_on.new.segment (took (goal.at.erase_on-requires-2 c).After-erase_on)
+    still_taken a.segment.now a.inventory.now a.id a.t (back_then (goal.at.erase_on-requires-2 c).After-erase_on) c.erase_on.new.segment
+    (took (goal.at.erase_on-requires-2 c).After-erase_on)
 
 pub update_on-requires : goal.update_on-requires
 update_on-requires c =
@@ -54,8 +56,13 @@ update_on-requires c =
     record {
       room = sizes_room s v r v c.requires.sizes (same_size (goal.at.update_on-requires c).After-erase_on-2) refl;
       within = (
-        omega (arith, same_size (goal.at.update_on-requires c).After-erase_on-2, (back_taken s a.id a.t (back_then (goal.at.update_on-requires c).After-erase_on)).whole),
-        left_room r (page_no a.t) (erasing s a.t).plan.after (target_left s v a.id a.t (back_then (goal.at.update_on-requires c).After-erase_on) c.erase_on.new.segment (took (goal.at.update_on-requires c).After-erase_on) r c.erase_on-2.ensures),
+        omega (
+          arith,
+          same_size (goal.at.update_on-requires c).After-erase_on-2,
+          (back_taken s a.id a.t (back_then (goal.at.update_on-requires c).After-erase_on)).whole,
+        ),
+        left_room r (page_no a.t) (erasing s a.t).plan.after (target_left s v a.id a.t (back_then (goal.at.update_on-requires c).After-erase_on)
+            c.erase_on.new.segment (took (goal.at.update_on-requires c).After-erase_on) r c.erase_on-2.ensures),
       );
     }
 
@@ -69,12 +76,14 @@ update_on-requires-2 c =
       room = sizes_room s v r _ c.requires.sizes (same_size (goal.at.update_on-requires-2 c).After-erase_on-2) c.update_on.auto.inventory;
       within = (
         omega (arith, same_size (goal.at.update_on-requires-2 c).After-erase_on-2, c.requires.root_is.whole),
-        left_room r (page_no a.id) (erasing s a.id).plan.after (root_left s v a.id a.t (back_then (goal.at.update_on-requires-2 c).After-erase_on) c.erase_on.new.segment (took (goal.at.update_on-requires-2 c).After-erase_on) r c.erase_on-2.ensures),
+        left_room r (page_no a.id) (erasing s a.id).plan.after (root_left s v a.id a.t (back_then (goal.at.update_on-requires-2 c).After-erase_on)
+            c.erase_on.new.segment (took (goal.at.update_on-requires-2 c).After-erase_on) r c.erase_on-2.ensures),
       );
     }
 
 pub returns : goal.returns
 returns c =
     let a = c.args in
-    by_redirect a.segment.now a.inventory.now a.id a.t (back_then (goal.at.returns c).After-erase_on) c.erase_on.new.segment (took (goal.at.returns c).After-erase_on) c.erase_on-2.new.segment
+    by_redirect a.segment.now a.inventory.now a.id a.t (back_then (goal.at.returns c).After-erase_on) c.erase_on.new.segment
+    (took (goal.at.returns c).After-erase_on) c.erase_on-2.new.segment
     c.erase_on-2.ensures _ _ c.update_on.ensures c.update_on-2.ensures

@@ -16,7 +16,14 @@ update_on-requires c =
     let e = erasing s c.args.id in
     let t = c.erase_on.new.segment in
     let l = took_length s e t (took (goal.at.update_on-requires c).After-erase_on) in
-    record { room = sizes_room s v t v c.requires.sizes l refl; within = (omega (arith, l, c.requires.taken_on.whole), left_room t e.on e.plan.after (left_own s e t (took (goal.at.update_on-requires c).After-erase_on))) }
+    record {
+      room = sizes_room s v t v c.requires.sizes l refl;
+      within = (
+        omega (arith, l, c.requires.taken_on.whole),
+        left_room t e.on e.plan.after
+            (left_own s e t (took (goal.at.update_on-requires c).After-erase_on)),
+      );
+    }
 
 pub returns : goal.returns
 returns c =

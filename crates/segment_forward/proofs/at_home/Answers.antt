@@ -28,11 +28,18 @@ erase_on-requires c =
 
 pub update_on-requires : goal.update_on-requires
 update_on-requires c =
-    let q = asks_first c.args.segment.now c.args.inventory.now _ _ _ (left (goal.at.update_on-requires c).After-erase_on) c.requires.sizes in record { room = q.0; within = q.1 }
+    let q = asks_first c.args.segment.now c.args.inventory.now _ _ _ (left (goal.at.update_on-requires c).After-erase_on) c.requires.sizes in record {
+      room = q.0;
+      within = q.1;
+    }
 
 pub update_on-requires-2 : goal.update_on-requires-2
 update_on-requires-2 c =
-    let q = asks_second c.args.segment.now c.args.inventory.now _ _ _ (left (goal.at.update_on-requires-2 c).After-erase_on) c.requires.sizes _ c.update_on.auto.inventory in record { room = q.0; within = q.1 }
+    let q = asks_second c.args.segment.now c.args.inventory.now _ _ _ (left (goal.at.update_on-requires-2 c).After-erase_on) c.requires.sizes _
+    c.update_on.auto.inventory in record {
+      room = q.0;
+      within = q.1;
+    }
 
 pub returns : goal.returns
 returns c =

@@ -53,15 +53,27 @@ returns-in_default c =
 pub erase_for_redirect_on-requires : goal.erase_for_redirect_on-requires
 erase_for_redirect_on-requires c =
     let a = c.args in
-    record { taken_on = root_asks a.segment.now a.id (fit a.size a.bytes.now) a.id _ _ _ (placed (goal.at.erase_for_redirect_on-requires c).In-Done) c.requires.taken_on; id_bound = (placed (goal.at.erase_for_redirect_on-requires c).In-Done).small }
+    record {
+      taken_on = root_asks a.segment.now a.id (fit a.size a.bytes.now) a.id _ _ _ (placed (goal.at.erase_for_redirect_on-requires c).In-Done)
+          c.requires.taken_on;
+      id_bound = (placed (goal.at.erase_for_redirect_on-requires c).In-Done).small;
+    }
 
 pub update_on-requires : goal.update_on-requires
 update_on-requires c =
-    let q = asks_first c.args.segment.now c.args.inventory.now _ _ _ (left (goal.at.update_on-requires c).After-erase_for_redirect_on) c.requires.sizes in record { room = q.0; within = q.1 }
+    let q = asks_first c.args.segment.now c.args.inventory.now _ _ _ (left (goal.at.update_on-requires c).After-erase_for_redirect_on) c.requires.sizes in
+    record {
+      room = q.0;
+      within = q.1;
+    }
 
 pub update_on-requires-2 : goal.update_on-requires-2
 update_on-requires-2 c =
-    let q = asks_second c.args.segment.now c.args.inventory.now _ _ _ (left (goal.at.update_on-requires-2 c).After-erase_for_redirect_on) c.requires.sizes _ c.update_on.auto.inventory in record { room = q.0; within = q.1 }
+    let q = asks_second c.args.segment.now c.args.inventory.now _ _ _ (left (goal.at.update_on-requires-2 c).After-erase_for_redirect_on) c.requires.sizes
+    _ c.update_on.auto.inventory in record {
+      room = q.0;
+      within = q.1;
+    }
 
 pub returns : goal.returns
 returns c =
@@ -69,5 +81,6 @@ returns c =
     let s = a.segment.now in
     let v = a.inventory.now in
     let bs = fit a.size a.bytes.now in
-    forward_done s a.id bs a.id _ _ _ (placed (goal.at.returns c).In-Done) c.requires.taken_on c.erase_for_redirect_on.new.segment c.erase_for_redirect_on.ensures
+    forward_done s a.id bs a.id _ _ _ (placed (goal.at.returns c).In-Done) c.requires.taken_on c.erase_for_redirect_on.new.segment
+    c.erase_for_redirect_on.ensures
     v a.size _ _ c.update_on.ensures c.update_on-2.ensures ∙ alone s v a.id a.size bs

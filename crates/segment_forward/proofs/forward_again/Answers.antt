@@ -46,7 +46,8 @@ pub set_redirect_on-requires : goal.set_redirect_on-requires
 set_redirect_on-requires c =
     let a = c.args in
     let s = a.segment.now in record {
-      taken_on = root_asks s a.id (fit a.size a.bytes.now) a.t _ _ _ (placed (goal.at.set_redirect_on-requires c).In-Done) (root_taken s a.id (Redirect a.t) c.requires.follows.root refl);
+      taken_on = root_asks s a.id (fit a.size a.bytes.now) a.t _ _ _ (placed (goal.at.set_redirect_on-requires c).In-Done)
+          (root_taken s a.id (Redirect a.t) c.requires.follows.root refl);
       id_bound = (placed (goal.at.set_redirect_on-requires c).In-Done).small;
     }
 
@@ -58,11 +59,18 @@ erase_on-requires c =
 
 pub update_on-requires : goal.update_on-requires
 update_on-requires c =
-    let q = asks_first c.args.segment.now c.args.inventory.now _ _ _ (left (goal.at.update_on-requires c).After-erase_on) c.requires.sizes in record { room = q.0; within = q.1 }
+    let q = asks_first c.args.segment.now c.args.inventory.now _ _ _ (left (goal.at.update_on-requires c).After-erase_on) c.requires.sizes in record {
+      room = q.0;
+      within = q.1;
+    }
 
 pub update_on-requires-2 : goal.update_on-requires-2
 update_on-requires-2 c =
-    let q = asks_second c.args.segment.now c.args.inventory.now _ _ _ (left (goal.at.update_on-requires-2 c).After-erase_on) c.requires.sizes _ c.update_on.auto.inventory in record { room = q.0; within = q.1 }
+    let q = asks_second c.args.segment.now c.args.inventory.now _ _ _ (left (goal.at.update_on-requires-2 c).After-erase_on) c.requires.sizes _
+    c.update_on.auto.inventory in record {
+      room = q.0;
+      within = q.1;
+    }
 
 pub returns : goal.returns
 returns c =

@@ -52,7 +52,8 @@ place_of_lem : (c : After-allocate_on-place) → let a = c.args in
     c.allocate_on-place.result ≡ place_of (allocate ((seg_view a.segment.now).page (named (goal.at.After-allocate_on-place c).In-At)) (a.size + 8))
 place_of_lem c =
     let a = c.args in
-    given_is c.allocate_on-place.result (allocate ((seg_view a.segment.now).page (named (goal.at.After-allocate_on-place c).In-At)) (a.size + 8)) c.allocate_on-place.ensures.1
+    given_is c.allocate_on-place.result (allocate ((seg_view a.segment.now).page (named (goal.at.After-allocate_on-place c).In-At)) (a.size + 8))
+    c.allocate_on-place.ensures.1
 
 place_here : (c : In-At-place) → let a = c.args in
     place_of (allocate ((seg_view a.segment.now).page (named (goal.at.In-At-place c).In-At)) (a.size + 8))
@@ -93,13 +94,15 @@ pub returns-then-page-id : goal.returns-then-page-id
 returns-then-page-id c =
     let a = c.args in
     place_excluded a.segment.now a.inventory.now a.id a.size (fit a.size a.bytes.now) (root_or_old a.id a.old) _
-    (named_here (goal.at.returns-then-page-id c).In-At) (sound_here (goal.at.returns-then-page-id c).Else-not-page_sound).sound (is_root_lem a.id a.old _ c.if-page-id.true)
+    (named_here (goal.at.returns-then-page-id c).In-At) (sound_here (goal.at.returns-then-page-id c).Else-not-page_sound).sound
+    (is_root_lem a.id a.old _ c.if-page-id.true)
 
 pub returns-then-page-old : goal.returns-then-page-old
 returns-then-page-old c =
     let a = c.args in
     place_excluded a.segment.now a.inventory.now a.id a.size (fit a.size a.bytes.now) (root_or_old a.id a.old) _
-    (named_here (goal.at.returns-then-page-old c).In-At) (sound_here (goal.at.returns-then-page-old c).Else-not-page_sound).sound (is_old a.id a.old _ c.if-page-old.true)
+    (named_here (goal.at.returns-then-page-old c).In-At) (sound_here (goal.at.returns-then-page-old c).Else-not-page_sound).sound
+    (is_old a.id a.old _ c.if-page-old.true)
 
 pub allocate_on-place-requires : goal.allocate_on-place-requires
 allocate_on-place-requires c =
@@ -114,7 +117,8 @@ returns-in_default-place c =
     let bs = fit a.size a.bytes.now in
     let ok = sound_here (goal.at.returns-in_default-place c).Else-not-page_sound in
     let e = sym (place_of_lem (goal.at.returns-in_default-place c).After-allocate_on-place) ∙ c.in_default-place.is in
-    place_no_room s a.inventory.now a.id a.size bs (root_or_old a.id a.old) _ (named_here (goal.at.returns-in_default-place c).In-At) ok.sound (away_here (goal.at.returns-in_default-place c).Else-page-old)
+    place_no_room s a.inventory.now a.id a.size bs (root_or_old a.id a.old) _ (named_here (goal.at.returns-in_default-place c).In-At) ok.sound
+    (away_here (goal.at.returns-in_default-place c).Else-page-old)
     c.allocate_on-place.new.segment
     (none_written s _ ok (a.size + 8) c.allocate_on-place.new.segment c.allocate_on-place.ensures.0 e (to_be 8 a.id ++ bs)).1 e
 
@@ -134,7 +138,8 @@ pub write_target-requires : goal.write_target-requires
 write_target-requires c =
     let found = c.in-At-place.is in
     let a = c.args in (
-      bare_whole a.segment.now _ (sound_here (goal.at.write_target-requires c).Else-not-page_sound) (a.size + 8) c.allocate_on-place.new.segment c.allocate_on-place.ensures.0,
+      bare_whole a.segment.now _ (sound_here (goal.at.write_target-requires c).Else-not-page_sound) (a.size + 8) c.allocate_on-place.new.segment
+          c.allocate_on-place.ensures.0,
       subst PastEntry found c.allocate_on-place.ensures.3,
       subst (λ (y : Place). Inside y (a.size + 8)) found c.allocate_on-place.ensures.2,
     )
@@ -144,11 +149,13 @@ overflow_mul-result c = omega (arith, fits_here (goal.at.overflow_mul-result c).
 
 pub overflow_add-result : goal.overflow_add-result
 overflow_add-result c =
-    let k = slot_small c.args.segment.now _ (sound_here (goal.at.overflow_add-result c).Else-not-page_sound) (c.args.size + 8) _ _ (place_here (goal.at.overflow_add-result c).In-At-place) in
+    let k = slot_small c.args.segment.now _ (sound_here (goal.at.overflow_add-result c).Else-not-page_sound) (c.args.size + 8) _ _
+    (place_here (goal.at.overflow_add-result c).In-At-place) in
     omega (arith, fits_here (goal.at.overflow_add-result c).In-At, k, c.requires.sizes.few)
 
 pub returns : goal.returns
 returns c =
     let a = c.args in
     place_taken a.segment.now a.inventory.now a.id a.size (fit a.size a.bytes.now) (root_or_old a.id a.old) _
-    (named_here (goal.at.returns c).In-At) (sound_here (goal.at.returns c).Else-not-page_sound).sound (away_here (goal.at.returns c).Else-page-old) _ (written_here (goal.at.returns c).After-write_target) _ _ (place_here (goal.at.returns c).In-At-place)
+    (named_here (goal.at.returns c).In-At) (sound_here (goal.at.returns c).Else-not-page_sound).sound (away_here (goal.at.returns c).Else-page-old) _
+    (written_here (goal.at.returns c).After-write_target) _ _ (place_here (goal.at.returns c).In-At-place)

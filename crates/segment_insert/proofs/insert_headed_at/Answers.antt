@@ -28,19 +28,22 @@ stands : (c : After-head_in) →
     (put_mid (a.p * 16384) ((a.p + 1) * 16384 - a.p * 16384) c.allocate_on-place.new.segment c.head_in.new.page)
 stands c =
     let a = c.args in
-    wrote a.segment.now a.inventory.now (row (goal.at.After-head_in c).Start) (long (goal.at.After-head_in c).Start) a.p c.requires.sound_on.0 _ _ (asked (goal.at.After-head_in c).After-allocate_on-place) _ _
+    wrote a.segment.now a.inventory.now (row (goal.at.After-head_in c).Start) (long (goal.at.After-head_in c).Start) a.p c.requires.sound_on.0 _ _
+    (asked (goal.at.After-head_in c).After-allocate_on-place) _ _
     c.in-At.is c.requires.sizes c.head_in.new.page
     (rw (fit_headed a.head a.bytes.now) c.head_in.ensures)
 
 pub returns-in_default : goal.returns-in_default
 returns-in_default c =
     let a = c.args in
-    no_place_lem a.segment.now a.inventory.now (row (goal.at.returns-in_default c).Start) (long (goal.at.returns-in_default c).Start) a.p c.requires.sound_on.0 _ _ (asked (goal.at.returns-in_default c).After-allocate_on-place) c.in_default.is
+    no_place_lem a.segment.now a.inventory.now (row (goal.at.returns-in_default c).Start) (long (goal.at.returns-in_default c).Start) a.p
+    c.requires.sound_on.0 _ _ (asked (goal.at.returns-in_default c).After-allocate_on-place) c.in_default.is
 
 pub head_in-requires : goal.head_in-requires
 head_in-requires c =
     let a = c.args in
-    place_inside a.segment.now a.inventory.now (row (goal.at.head_in-requires c).Start) (long (goal.at.head_in-requires c).Start) a.p c.requires.sound_on.0 _ _ (asked (goal.at.head_in-requires c).After-allocate_on-place) _ _
+    place_inside a.segment.now a.inventory.now (row (goal.at.head_in-requires c).Start) (long (goal.at.head_in-requires c).Start) a.p c.requires.sound_on.0
+    _ _ (asked (goal.at.head_in-requires c).After-allocate_on-place) _ _
     c.in-At.is
 
 pub update_on-requires : goal.update_on-requires

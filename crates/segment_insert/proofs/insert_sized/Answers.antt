@@ -39,7 +39,8 @@ returns-then-not-sizes_ok c =
 pub returns-then-size-gt-LONGEST : goal.returns-then-size-gt-LONGEST
 returns-then-size-gt-LONGEST c =
     let a = c.args in
-    sized_long a.segment.now a.inventory.now a.bytes.now a.size (sizes_here (goal.at.returns-then-size-gt-LONGEST c).Else-not-sizes_ok) c.if-size-gt-LONGEST.true
+    sized_long a.segment.now a.inventory.now a.bytes.now a.size (sizes_here (goal.at.returns-then-size-gt-LONGEST c).Else-not-sizes_ok)
+    c.if-size-gt-LONGEST.true
 
 pub find_page-named-requires : goal.find_page-named-requires
 find_page-named-requires c =

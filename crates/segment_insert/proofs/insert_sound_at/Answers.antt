@@ -24,7 +24,8 @@ stands c =
 pub returns-in_default : goal.returns-in_default
 returns-in_default c =
     let a = c.args in
-    no_place_lem a.segment.now a.inventory.now a.bytes.now a.size a.p c.requires.sound_on.0 _ _ (asked (goal.at.returns-in_default c).After-allocate_on-place) c.in_default.is
+    no_place_lem a.segment.now a.inventory.now a.bytes.now a.size a.p c.requires.sound_on.0 _ _
+    (asked (goal.at.returns-in_default c).After-allocate_on-place) c.in_default.is
 
 pub fit_in-requires : goal.fit_in-requires
 fit_in-requires c =

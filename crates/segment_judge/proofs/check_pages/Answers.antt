@@ -30,7 +30,8 @@ pub loop-p-preserved : goal.loop-p-preserved
 loop-p-preserved c = (
   omega arith,
   elim c.if-is_sound.branch [
-    | then-is_sound w ↦ rw w.sound-is (swept_mark _ _ _ c.loop-p.invariant.1 _ w.set_mark.ensures.0 w.set_mark.ensures.1 (sym (told (goal.at.loop-p-preserved c).After-is_sound) ∙ w.if-is_sound.true))
+    | then-is_sound w ↦ rw w.sound-is (swept_mark _ _ _ c.loop-p.invariant.1 _ w.set_mark.ensures.0 w.set_mark.ensures.1
+        (sym (told (goal.at.loop-p-preserved c).After-is_sound) ∙ w.if-is_sound.true))
     | else-is_sound w ↦ rw w.sound-is (swept_skip _ _ _ c.loop-p.invariant.1 (sym (told (goal.at.loop-p-preserved c).After-is_sound) ∙ w.if-is_sound.false))
   ],
 )

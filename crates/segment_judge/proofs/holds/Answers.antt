@@ -25,8 +25,16 @@ told : (c : Else-get_slot_count-gt-MOST_SLOTS)
     → let a = c.args in
     let s = a.segment.now in
     (page_no a.t < length s / 16384) × (page_no a.t ≢ page_no a.i) × ((view (page_of s (page_no a.t))).slot_count ≤ 2046)
-told c =
-    (c.if-segment-p.false, c.if-p-i.false, omega (arith, c.if-get_slot_count-gt-MOST_SLOTS.false, count (goal.at.Else-get_slot_count-gt-MOST_SLOTS c).After-get_slot_count))
+told c = (
+  c.if-segment-p.false,
+  c.if-p-i.false,
+  omega (
+    arith,
+    c.if-get_slot_count-gt-MOST_SLOTS.false,
+    count
+        (goal.at.Else-get_slot_count-gt-MOST_SLOTS c).After-get_slot_count,
+  ),
+)
 
 is : (c : In-Target)
     → let a = c.args in
@@ -51,7 +59,12 @@ get_slot_count-requires c =
 pub returns-then-get_slot_count-gt-MOST_SLOTS : goal.returns-then-get_slot_count-gt-MOST_SLOTS
 returns-then-get_slot_count-gt-MOST_SLOTS c =
     let a = c.args in
-    hold_lost a.segment.now a.i a.t (omega (arith, c.if-get_slot_count-gt-MOST_SLOTS.true, count (goal.at.returns-then-get_slot_count-gt-MOST_SLOTS c).After-get_slot_count))
+    hold_lost a.segment.now a.i a.t (omega (
+      arith,
+      c.if-get_slot_count-gt-MOST_SLOTS.true,
+      count
+          (goal.at.returns-then-get_slot_count-gt-MOST_SLOTS c).After-get_slot_count,
+    ))
 
 pub slot_on-requires : goal.slot_on-requires
 slot_on-requires c =

@@ -48,7 +48,8 @@ back_id_on-b-requires c =
 pub named-requires : goal.named-requires
 named-requires c =
     let a = c.args in
-    named_asks a.segment.now a.p a.k _ _ _ c.requires.1 (is (goal.at.named-requires c).In-Target) (kept (goal.at.named-requires c).Else-freed-ne0) c.back_id_on-b.ensures
+    named_asks a.segment.now a.p a.k _ _ _ c.requires.1 (is (goal.at.named-requires c).In-Target) (kept (goal.at.named-requires c).Else-freed-ne0)
+    c.back_id_on-b.ensures
 
 pub returns-in-Ordinary : goal.returns-in-Ordinary
 returns-in-Ordinary c =
@@ -73,9 +74,11 @@ returns-else-holds c =
 pub returns-then-named : goal.returns-then-named
 returns-then-named c =
     let a = c.args in
-    deed_named a.segment.now a.p a.k _ _ (is (goal.at.returns-then-named c).In-Target) (kept (goal.at.returns-then-named c).Else-freed-ne0) _ c.named.ensures c.if-named.true
+    deed_named a.segment.now a.p a.k _ _ (is (goal.at.returns-then-named c).In-Target) (kept (goal.at.returns-then-named c).Else-freed-ne0) _
+    c.named.ensures c.if-named.true
 
 pub returns-else-named : goal.returns-else-named
 returns-else-named c =
     let a = c.args in
-    deed_made a.segment.now a.p a.k _ _ (is (goal.at.returns-else-named c).In-Target) (kept (goal.at.returns-else-named c).Else-freed-ne0) _ c.named.ensures c.if-named.false
+    deed_made a.segment.now a.p a.k _ _ (is (goal.at.returns-else-named c).In-Target) (kept (goal.at.returns-else-named c).Else-freed-ne0) _
+    c.named.ensures c.if-named.false

@@ -23,8 +23,16 @@ told : (c : Else-get_slot_count-gt-MOST_SLOTS)
     → let a = c.args in
     let s = a.segment.now in
     (page_no a.b < length s / 16384) × (page_no a.b ≢ page_no a.t) × ((view (page_of s (page_no a.b))).slot_count ≤ 2046)
-told c =
-    (c.if-segment-p.false, c.if-p-t.false, omega (arith, c.if-get_slot_count-gt-MOST_SLOTS.false, count (goal.at.Else-get_slot_count-gt-MOST_SLOTS c).After-get_slot_count))
+told c = (
+  c.if-segment-p.false,
+  c.if-p-t.false,
+  omega (
+    arith,
+    c.if-get_slot_count-gt-MOST_SLOTS.false,
+    count
+        (goal.at.Else-get_slot_count-gt-MOST_SLOTS c).After-get_slot_count,
+  ),
+)
 
 pub returns-then-segment-p : goal.returns-then-segment-p
 returns-then-segment-p c =
@@ -44,7 +52,12 @@ get_slot_count-requires c =
 pub returns-then-get_slot_count-gt-MOST_SLOTS : goal.returns-then-get_slot_count-gt-MOST_SLOTS
 returns-then-get_slot_count-gt-MOST_SLOTS c =
     let a = c.args in
-    name_lost a.segment.now a.t a.b c.requires (omega (arith, c.if-get_slot_count-gt-MOST_SLOTS.true, count (goal.at.returns-then-get_slot_count-gt-MOST_SLOTS c).After-get_slot_count))
+    name_lost a.segment.now a.t a.b c.requires (omega (
+      arith,
+      c.if-get_slot_count-gt-MOST_SLOTS.true,
+      count
+          (goal.at.returns-then-get_slot_count-gt-MOST_SLOTS c).After-get_slot_count,
+    ))
 
 pub slot_on-requires : goal.slot_on-requires
 slot_on-requires c =

@@ -9,7 +9,7 @@ use Rattle.store.specs.Page.{sound}
 use Rattle.store.specs.Segment.{seg_view}
 use Rattle.segment_pages.proofs.Seen.{few_slots, not_target}
 use Rattle.segment_pages.proofs.Back.{back_past, back_home, back_damaged, back_other, target_inside, back_target}
-use Rattle.segment_pages.proofs.points_back.Goals.{After-slot_on, Else-not-page_sound, Else-p-i, Start}
+use Rattle.segment_pages.proofs.points_back.Goals.{Else-not-page_sound, Else-p-i, Start}
 use Rattle.segment_pages.proofs.points_back.Goals as goal
 
 -- the code's places: where the page was found sound, and the function's start

@@ -28,7 +28,8 @@ slot_on-requires c =
 pub returns-in_default : goal.returns-in_default
 returns-in_default c =
     let a = c.args in
-    follow_other a.segment.now a.i a.t (points (goal.at.returns-in_default c).Else-not-points_back) _ c.slot_on.ensures.0 (not_target c.slot_on.result c.in_default.not-Target)
+    follow_other a.segment.now a.i a.t (points (goal.at.returns-in_default c).Else-not-points_back) _ c.slot_on.ensures.0
+    (not_target c.slot_on.result c.in_default.not-Target)
 
 pub target_part-requires : goal.target_part-requires
 target_part-requires c =

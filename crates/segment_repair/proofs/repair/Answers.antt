@@ -5,8 +5,10 @@ use lib.ListN.{length}
 use Rattle.store.specs.Segment.{size_ok, inv_ok}
 use Rattle.store.specs.Repair.{standing, entries}
 use Rattle.page_check.proofs.MapLaws.{blank_words}
-use Rattle.segment_repair.proofs.RepairLaws.{wrong_size_lem, right_size, one_page, length_true, Passed, passed_same, count_same, count_other, count_small, nothing_done, no_place_lem, pages_done, pages_room, last_room, all_done}
-use Rattle.segment_repair.proofs.repair.Goals.{After-count_pages-count, After-same_inventory-same, After-sizes_ok, then-not-same, else-not-same, Else-not-sizes_ok, Joined-not-same}
+use Rattle.segment_repair.proofs.RepairLaws.{wrong_size_lem, right_size, one_page, length_true, Passed, passed_same, count_same, count_other, count_small}
+use Rattle.segment_repair.proofs.RepairLaws.{nothing_done, no_place_lem, pages_done, pages_room, last_room, all_done}
+use Rattle.segment_repair.proofs.repair.Goals.{After-same_inventory-same, then-not-same, else-not-same}
+use Rattle.segment_repair.proofs.repair.Goals.{Else-not-sizes_ok, Joined-not-same}
 use Rattle.segment_repair.proofs.repair.Goals as goal
 
 right : (c : Else-not-sizes_ok) → (size_ok c.args.segment.now && inv_ok c.args.inventory.now) ≡ true
@@ -34,26 +36,36 @@ check_pages-requires c =
     (omega (arith, (right_size c.args.segment.now c.args.inventory.now (right (goal.at.check_pages-requires c).Else-not-sizes_ok)).few), refl, blank_words 509)
 
 pub same_inventory-same-requires : goal.same_inventory-same-requires
-same_inventory-same-requires c =
-    (one_page c.args.segment.now c.args.inventory.now (right (goal.at.same_inventory-same-requires c).Else-not-sizes_ok), ap length c.count_pages-count.ensures.1 ∙ length_true c.args.segment.now c.args.inventory.now)
+same_inventory-same-requires c = (
+  one_page c.args.segment.now c.args.inventory.now (right (goal.at.same_inventory-same-requires c).Else-not-sizes_ok),
+  ap length
+      c.count_pages-count.ensures.1 ∙ length_true c.args.segment.now c.args.inventory.now,
+)
 
 pub overflow_add-count : goal.overflow_add-count
 overflow_add-count c =
-    omega (arith, count_small (passed (goal.at.overflow_add-count c).After-same_inventory-same) c.if-not-same.true (right_size c.args.segment.now c.args.inventory.now (right (goal.at.overflow_add-count c).Else-not-sizes_ok)).few)
+    omega (
+      arith,
+      count_small (passed (goal.at.overflow_add-count c).After-same_inventory-same) c.if-not-same.true
+          (right_size c.args.segment.now c.args.inventory.now (right (goal.at.overflow_add-count c).Else-not-sizes_ok)).few,
+    )
 
 pub returns-then-count-eq0 : goal.returns-then-count-eq0
 returns-then-count-eq0 c =
-    nothing_done c.args.segment.now c.args.inventory.now c.args.entries.now (right (goal.at.returns-then-count-eq0 c).Else-not-sizes_ok) c.if-not-same.count (is_count (goal.at.returns-then-count-eq0 c).Joined-not-same) c.if-count-eq0.true
+    nothing_done c.args.segment.now c.args.inventory.now c.args.entries.now (right (goal.at.returns-then-count-eq0 c).Else-not-sizes_ok)
+    c.if-not-same.count (is_count (goal.at.returns-then-count-eq0 c).Joined-not-same) c.if-count-eq0.true
 
 pub returns-then-entries-count : goal.returns-then-entries-count
 returns-then-entries-count c =
-    no_place_lem c.args.segment.now c.args.inventory.now c.args.entries.now (right (goal.at.returns-then-entries-count c).Else-not-sizes_ok) c.if-not-same.count (is_count (goal.at.returns-then-entries-count c).Joined-not-same) c.if-entries-count.true
+    no_place_lem c.args.segment.now c.args.inventory.now c.args.entries.now (right (goal.at.returns-then-entries-count c).Else-not-sizes_ok)
+    c.if-not-same.count (is_count (goal.at.returns-then-entries-count c).Joined-not-same) c.if-entries-count.true
 
 pub write_pages-at-requires : goal.write_pages-at-requires
 write_pages-at-requires c = (
   c.check_pages.ensures.known,
   (right_size c.args.segment.now c.args.inventory.now (right (goal.at.write_pages-at-requires c).Else-not-sizes_ok)).whole,
-  pages_room c.args.segment.now c.args.inventory.now c.args.entries.now (right (goal.at.write_pages-at-requires c).Else-not-sizes_ok) c.if-not-same.count (is_count (goal.at.write_pages-at-requires c).Joined-not-same) c.if-entries-count.false,
+  pages_room c.args.segment.now c.args.inventory.now c.args.entries.now (right (goal.at.write_pages-at-requires c).Else-not-sizes_ok) c.if-not-same.count
+      (is_count (goal.at.write_pages-at-requires c).Joined-not-same) c.if-entries-count.false,
 )
 
 pub tell-requires : goal.tell-requires
@@ -61,23 +73,31 @@ tell-requires c =
     let b = passed_same (passed (goal.at.tell-requires c).After-same_inventory-same) false c.if-not-same-2.true in
     omega (
       arith,
-      last_room c.args.segment.now c.args.inventory.now c.args.entries.now (right (goal.at.tell-requires c).Else-not-sizes_ok) c.if-not-same.count (is_count (goal.at.tell-requires c).Joined-not-same) c.if-entries-count.false b c.write_pages-at.result c.write_pages-at.ensures.2,
+      last_room c.args.segment.now c.args.inventory.now c.args.entries.now (right (goal.at.tell-requires c).Else-not-sizes_ok) c.if-not-same.count
+          (is_count (goal.at.tell-requires c).Joined-not-same) c.if-entries-count.false b c.write_pages-at.result c.write_pages-at.ensures.2,
       c.write_pages-at.auto.entries,
     )
 
 pub copy_in-requires : goal.copy_in-requires
 copy_in-requires c =
-    omega (arith, ap length (passed (goal.at.copy_in-requires c).After-same_inventory-same).is, length_true c.args.segment.now c.args.inventory.now, one_page c.args.segment.now c.args.inventory.now (right (goal.at.copy_in-requires c).Else-not-sizes_ok))
+    omega (
+      arith,
+      ap length (passed (goal.at.copy_in-requires c).After-same_inventory-same).is,
+      length_true c.args.segment.now c.args.inventory.now,
+      one_page c.args.segment.now c.args.inventory.now (right (goal.at.copy_in-requires c).Else-not-sizes_ok),
+    )
 
 pub returns-then-not-same-2 : goal.returns-then-not-same-2
 returns-then-not-same-2 c =
     let b = passed_same (passed (goal.at.returns-then-not-same-2 c).After-same_inventory-same) false c.if-not-same-2.true in
-    all_done c.args.segment.now c.args.inventory.now c.args.entries.now (right (goal.at.returns-then-not-same-2 c).Else-not-sizes_ok) c.if-not-same.count (is_count (goal.at.returns-then-not-same-2 c).Joined-not-same) c.if-entries-count.false b c.write_pages-at.result c.write_pages-at.ensures.2
+    all_done c.args.segment.now c.args.inventory.now c.args.entries.now (right (goal.at.returns-then-not-same-2 c).Else-not-sizes_ok) c.if-not-same.count
+    (is_count (goal.at.returns-then-not-same-2 c).Joined-not-same) c.if-entries-count.false b c.write_pages-at.result c.write_pages-at.ensures.2
     c.write_pages-at.new.segment c.copy_in.new.page c.count_pages-count.new.inventory c.write_pages-at.new.entries c.tell.new.entries c.write_pages-at.ensures.0
     c.write_pages-at.ensures.1 c.tell.ensures (passed (goal.at.returns-then-not-same-2 c).After-same_inventory-same).is c.copy_in.ensures
 
 pub returns-else-not-same-2 : goal.returns-else-not-same-2
 returns-else-not-same-2 c =
     let b = passed_same (passed (goal.at.returns-else-not-same-2 c).After-same_inventory-same) true c.if-not-same-2.false in
-    pages_done c.args.segment.now c.args.inventory.now c.args.entries.now (right (goal.at.returns-else-not-same-2 c).Else-not-sizes_ok) c.if-not-same.count (is_count (goal.at.returns-else-not-same-2 c).Joined-not-same) c.if-entries-count.false b c.write_pages-at.new.segment c.write_pages-at.new.entries
+    pages_done c.args.segment.now c.args.inventory.now c.args.entries.now (right (goal.at.returns-else-not-same-2 c).Else-not-sizes_ok) c.if-not-same.count
+    (is_count (goal.at.returns-else-not-same-2 c).Joined-not-same) c.if-entries-count.false b c.write_pages-at.new.segment c.write_pages-at.new.entries
     c.write_pages-at.ensures.0 c.write_pages-at.ensures.1

@@ -28,7 +28,12 @@ pub overflow_add-result : goal.overflow_add-result
 overflow_add-result c = omega (arith, high (goal.at.overflow_add-result c).After-is_target, long (goal.at.overflow_add-result c).Then-is_target)
 
 pub overflow_add-result-then-is_target : goal.overflow_add-result-then-is_target
-overflow_add-result-then-is_target c = omega (arith, high (goal.at.overflow_add-result-then-is_target c).After-is_target, long (goal.at.overflow_add-result-then-is_target c).Then-is_target)
+overflow_add-result-then-is_target c = omega (
+  arith,
+  high (goal.at.overflow_add-result-then-is_target c).After-is_target,
+  long
+      (goal.at.overflow_add-result-then-is_target c).Then-is_target,
+)
 
 pub overflow_sub-result : goal.overflow_sub-result
 overflow_sub-result c = long (goal.at.overflow_sub-result c).Then-is_target

@@ -29,7 +29,8 @@ get_data_start-d-requires c =
 pub returns-then-not-lies_well : goal.returns-then-not-lies_well
 returns-then-not-lies_well c =
     let a = c.args in
-    record_no (page (goal.at.returns-then-not-lies_well c).After-lies_well) a.p a.k (sym (lies (goal.at.returns-then-not-lies_well c).After-lies_well) ∙ c.if-not-lies_well.true)
+    record_no (page (goal.at.returns-then-not-lies_well c).After-lies_well) a.p a.k
+    (sym (lies (goal.at.returns-then-not-lies_well c).After-lies_well) ∙ c.if-not-lies_well.true)
 
 pub record_at-requires : goal.record_at-requires
 record_at-requires c =
@@ -43,4 +44,5 @@ record_at-requires c =
 pub returns : goal.returns
 returns c =
     let a = c.args in
-    c.record_at.ensures ∙ record_yes (page (goal.at.returns c).After-lies_well) a.p a.k (sym (lies (goal.at.returns c).After-lies_well) ∙ c.if-not-lies_well.false)
+    c.record_at.ensures ∙ record_yes (page (goal.at.returns c).After-lies_well) a.p a.k
+    (sym (lies (goal.at.returns c).After-lies_well) ∙ c.if-not-lies_well.false)

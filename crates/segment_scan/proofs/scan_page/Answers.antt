@@ -41,7 +41,8 @@ damaged_at-requires c = record { within = c.requires.within; n_value = counted (
 pub returns-then-damaged_at : goal.returns-then-damaged_at
 returns-then-damaged_at c =
     let a = c.args in
-    λ d. page_damaged a.segment.now (page (goal.at.returns-then-damaged_at c).After-get_slot_count-n) a.p a.k d (sym c.damaged_at.ensures ∙ c.if-damaged_at.true)
+    λ d. page_damaged a.segment.now (page (goal.at.returns-then-damaged_at c).After-get_slot_count-n) a.p a.k d
+    (sym c.damaged_at.ensures ∙ c.if-damaged_at.true)
 
 pub next_record-j-requires : goal.next_record-j-requires
 next_record-j-requires c =
@@ -51,7 +52,9 @@ next_record-j-requires c =
 pub returns-then-n-j : goal.returns-then-n-j
 returns-then-n-j c =
     let a = c.args in
-    λ d. page_none a.segment.now (page (goal.at.returns-then-n-j c).After-get_slot_count-n) a.p a.k d _ _ (undamaged (goal.at.returns-then-n-j c).Else-damaged_at) (counted (goal.at.returns-then-n-j c).After-get_slot_count-n) c.next_record-j.ensures c.if-n-j.true _ _
+    λ d. page_none a.segment.now (page (goal.at.returns-then-n-j c).After-get_slot_count-n) a.p a.k d _ _
+    (undamaged (goal.at.returns-then-n-j c).Else-damaged_at) (counted (goal.at.returns-then-n-j c).After-get_slot_count-n) c.next_record-j.ensures
+    c.if-n-j.true _ _
 
 pub record_or_damage-requires : goal.record_or_damage-requires
 record_or_damage-requires c = record {
@@ -66,6 +69,7 @@ record_or_damage-requires c = record {
 pub returns : goal.returns
 returns c =
     let a = c.args in
-    λ d. page_record a.segment.now (page (goal.at.returns c).After-get_slot_count-n) a.p a.k d _ _ (undamaged (goal.at.returns c).Else-damaged_at) (counted (goal.at.returns c).After-get_slot_count-n) c.next_record-j.ensures c.if-n-j.false
+    λ d. page_record a.segment.now (page (goal.at.returns c).After-get_slot_count-n) a.p a.k d _ _ (undamaged (goal.at.returns c).Else-damaged_at)
+    (counted (goal.at.returns c).After-get_slot_count-n) c.next_record-j.ensures c.if-n-j.false
     c.record_or_damage.result c.record_or_damage.ensures
     (record_not_end (page (goal.at.returns c).After-get_slot_count-n) a.p _ a.segment.now c.record_or_damage.result c.record_or_damage.ensures)

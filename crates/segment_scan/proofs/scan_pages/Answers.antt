@@ -31,13 +31,15 @@ pub returns-then-not-is_end : goal.returns-then-not-is_end
 returns-then-not-is_end c =
     let s = c.args.segment.now in
     let a = c.args in
-    later_no s c.scan_page-step.result (later (goal.at.returns-then-not-is_end c).After-scan_page-step) (sym c.is_end.ensures ∙ c.if-not-is_end.true) ∙ turned (goal.at.returns-then-not-is_end c).After-scan_page-step
+    later_no s c.scan_page-step.result (later (goal.at.returns-then-not-is_end c).After-scan_page-step) (sym c.is_end.ensures ∙ c.if-not-is_end.true)
+    ∙ turned (goal.at.returns-then-not-is_end c).After-scan_page-step
     ∙ plan_from s (length s / 16384) a.page a.slot refl
 
 pub loop-p-preserved : goal.loop-p-preserved
 loop-p-preserved c =
     let s = c.args.segment.now in
-    later_yes s c.scan_page-step.result (later (goal.at.loop-p-preserved c).After-scan_page-step) (sym c.is_end.ensures ∙ c.if-not-is_end.false) ∙ turned (goal.at.loop-p-preserved c).After-scan_page-step
+    later_yes s c.scan_page-step.result (later (goal.at.loop-p-preserved c).After-scan_page-step) (sym c.is_end.ensures ∙ c.if-not-is_end.false)
+    ∙ turned (goal.at.loop-p-preserved c).After-scan_page-step
 
 pub returns : goal.returns
 returns c =

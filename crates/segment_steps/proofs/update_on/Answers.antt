@@ -24,7 +24,14 @@ pub update_page_size-requires : goal.update_page_size-requires
 update_page_size-requires c =
     record {
       room = c.requires.room;
-      page_lt_n = (omega (arith, c.requires.within.0), omega (arith, freed (goal.at.update_page_size-requires c).After-get_free_space-free, c.requires.within.1));
+      page_lt_n = (
+        omega (arith, c.requires.within.0),
+        omega (
+          arith,
+          freed (goal.at.update_page_size-requires c).After-get_free_space-free,
+          c.requires.within.1,
+        ),
+      );
     }
 
 pub returns : goal.returns

@@ -113,7 +113,8 @@ run_headed (move k v ∷ es) p q a b w = run_headed es (apply (move k v) p) (app
 run_headed (fill k v ∷ es) p q a b w = run_headed es (apply (fill k v) p) (apply (fill k v) q) (length_apply (fill k v) p ∙ a) (length_apply (fill k v) q ∙ b) w
 run_headed (commit k v ∷ es) p q a b w =
     let c : cut (apply (commit k v) p) 0 12 ≡ cut (apply (commit k v) q) 0 12 =
-    apply_both 0 12 (move k v) (put_head v p) (put_head v q) (length_put p 0 (head_bytes v) ∙ a ∙ sym (length_put q 0 (head_bytes v) ∙ b)) (head_both v p q a b) in
+    apply_both 0 12 (move k v) (put_head v p) (put_head v q) (length_put p 0 (head_bytes v) ∙ a ∙ sym (length_put q 0 (head_bytes v) ∙ b))
+    (head_both v p q a b) in
     run_both 0 12 es (apply (commit k v) p) (apply (commit k v) q) (length_apply (commit k v) p ∙ a ∙ sym (length_apply (commit k v) q ∙ b)) c
 
 -- ---- one step on two pages

@@ -270,10 +270,12 @@ module _ (s v : List ℕ) (i size : ℕ) (new : List ℕ → List ℕ) (sized : 
     root_relocate n = relocate_answer (page_of s (page_no i)) ((seg_view s).page (page_no i)) (length_page s (page_no i) k.fits) k.seen k.sound
         (slot_no i) k.counted n
 
-    forwarded_exact : (old : List ℕ) (f : Found) → FoundOk s (size + 8) (λ p. eqb p (page_no i)) f → AllExact s (forwarded (seg_view s) v i size new old f).steps
+    forwarded_exact : (old : List ℕ) (f : Found) → FoundOk s (size + 8) (λ p. eqb p (page_no i)) f
+        → AllExact s (forwarded (seg_view s) v i size new old f).steps
     forwarded_exact old (nowhere a) o = tt
     forwarded_exact old (found q j a) o =
-        two_exact s (on (page_no i) (erase_for_redirect ((seg_view s).page (page_no i)) (slot_no i) (id_of q j))) (on q (targeted (seg_view s) v i size new j a old))
+        two_exact s (on (page_no i) (erase_for_redirect ((seg_view s).page (page_no i)) (slot_no i) (id_of q j)))
+        (on q (targeted (seg_view s) v i size new j a old))
         (record {
           inside = k.fits;
           exact =

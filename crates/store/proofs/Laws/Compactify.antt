@@ -407,7 +407,15 @@ pub record Kept (v w : View) : Type 0 where
   pub tags : (j : ℕ) → tag (w.at j) ≡ tag (v.at j)
 
 pack_keeps : (ks : List ℕ) (d : ℕ) (v : View) → Packing ks d v → Kept v (pack ks d v).after
-pack_keeps [] d v p = record { slot_count = refl; first_free = refl; free_space = refl; bytes = λ j. refl; lens = λ j. refl; kinds = λ j. refl; tags = λ j. refl }
+pack_keeps [] d v p = record {
+  slot_count = refl;
+  first_free = refl;
+  free_space = refl;
+  bytes = λ j. refl;
+  lens = λ j. refl;
+  kinds = λ j. refl;
+  tags = λ j. refl;
+}
 pack_keeps (k ∷ ks) d v p =
     let h = pack_keeps ks (d - len (v.at k)) (with_packed v k d) (packing_next k ks d v p) in
     record {

@@ -188,7 +188,8 @@ module _ (s v : List ℕ) (h : SoundSegment s v) where
       l = subst (λ (n : ℕ). page_no i < n) (sym (seen_pages s)) r.below
 
       -- of the record in the slot of id t
-      at_slot : (t : ℕ) → page_no t < u.pages → is_record (slot_on u t) ≡ true → cond (is_target (slot_on u t)) (back_id u t) (id_of (page_no t) (slot_no t)) ≡ i
+      at_slot : (t : ℕ) → page_no t < u.pages → is_record (slot_on u t) ≡ true
+          → cond (is_target (slot_on u t)) (back_id u t) (id_of (page_no t) (slot_no t)) ≡ i
           → Listed i
       at_slot t b e f = record {
         entry = entry_of (u.page (page_no t)) (page_no t) (slot_no t);

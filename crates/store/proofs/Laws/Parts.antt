@@ -32,7 +32,8 @@ module _ (s : List ℕ) (p k : ℕ) where
   pub ordinary_part : (o l : ℕ) → ((seg_view s).page p).at k ≡ Ordinary o l → o + l ≤ 16384 → held s (part_on p (Ordinary o l)) ≡ ((seg_view s).page p).bytes k
   ordinary_part o l e h = slot_bytes_lem (Ordinary o l) e h
 
-  pub target_part : (o l : ℕ) → ((seg_view s).page p).at k ≡ Target o l → o + l ≤ 16384 → held s (part_on p (Target o l)) ≡ drop 8 (((seg_view s).page p).bytes k)
+  pub target_part : (o l : ℕ) → ((seg_view s).page p).at k ≡ Target o l → o + l ≤ 16384
+      → held s (part_on p (Target o l)) ≡ drop 8 (((seg_view s).page p).bytes k)
   target_part o l e h =
       let q : p * 16384 + (o + 8) ≡ p * 16384 + o + 8 = omega arith in
       ap (λ (a : ℕ). cut s a (l - 8)) q ∙ sym (cut_drop s (p * 16384 + o) l 8) ∙ ap (drop 8) (slot_bytes_lem (Target o l) e h)
@@ -43,7 +44,8 @@ module _ (s : List ℕ) (i : ℕ) where
   abbrev pub Holds : Read → Type 0
   Holds r = held s (cond (eqb r.answer 0) (part_by (seg_view s) i (((seg_view s).page (page_no i)).at (slot_no i))) no_part) ≡ r.bytes
 
-  pub high : (p k : ℕ) → p < (seg_view s).pages → sound ((seg_view s).page p) ≡ true → off (((seg_view s).page p).at k) + len (((seg_view s).page p).at k) ≤ 16384
+  pub high : (p k : ℕ) → p < (seg_view s).pages → sound ((seg_view s).page p) ≡ true
+      → off (((seg_view s).page p).at k) + len (((seg_view s).page p).at k) ≤ 16384
   unfolding seg_view
   high p k l e = (sound_seen (page_of s p) (length_page s p (page_below s p l)) e).high k
 

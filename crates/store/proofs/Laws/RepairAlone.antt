@@ -229,7 +229,8 @@ unfolding seg_entries
 all_silent u zero e p l = absurd (not-suc-le-zero l)
 all_silent u (suc n) e p l = go (all_silent u n) (nil_both u p (seg_entries u n) (page_entries u n) e) (ℕ_discrete p n)
   where
-    go : (seg_entries u n ≡ [] → (q : ℕ) → q < n → page_entries u q ≡ []) → (seg_entries u n ≡ []) × (page_entries u n ≡ []) → Dec (p ≡ n) → page_entries u p ≡ []
+    go : (seg_entries u n ≡ [] → (q : ℕ) → q < n → page_entries u q ≡ []) → (seg_entries u n ≡ []) × (page_entries u n ≡ []) → Dec (p ≡ n)
+        → page_entries u p ≡ []
     go ih h (yes d) = ap (page_entries u) d ∙ h.1
     go ih h (no d) = ih h.0 p (omega arith)
 
@@ -369,7 +370,13 @@ module _ (s v : List ℕ) (h : SoundSegment s v) where
       rest : Repaired
       rest =
           cond (ltb (length l / 3) (length (entries u v))) (record { answer = 11; count = length (entries u v); seg = s; inv = v; list = l })
-          (record { answer = 0; count = length (entries u v); seg = seg_bytes u (length s / 16384) s; inv = inv_after u v; list = put l 0 (words (entries u v)) })
+          (record {
+            answer = 0;
+            count = length (entries u v);
+            seg = seg_bytes u (length s / 16384) s;
+            inv = inv_after u v;
+            list = put l 0 (words (entries u v));
+          })
 
 -- ---- law 2, the other half: only a sound one gets no entry
 

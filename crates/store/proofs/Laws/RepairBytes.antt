@@ -222,7 +222,8 @@ module _ (u : SegView) (p : ℕ) (q : List ℕ) (is : view q ≡ u.page p) (whol
         go (dec_lt 0 (len (slot_after u p j)))
         ∙ done_bytes q (deed u p j) ((u.page p).at j) ∙ ap (bytes_done (deed u p j)) (bytes_is j)
       where
-        go : Dec (0 < len (slot_after u p j)) → cut r (off (slot_after u p j)) (len (slot_after u p j)) ≡ cut q (off (slot_after u p j)) (len (slot_after u p j))
+        go : Dec (0 < len (slot_after u p j)) → cut r (off (slot_after u p j)) (len (slot_after u p j)) ≡ cut q (off (slot_after u p j))
+            (len (slot_after u p j))
         go (yes l) =
             let w = (after u p shown j).within l in
             slots_frame (deed u p) (u.page p) c q (off (slot_after u p j)) (len (slot_after u p j))

@@ -61,7 +61,8 @@ module _ (u : SegView) (p : ℕ) where
       go : (k < n → changes (deed u p k) ≡ true → In (entry p k (deed_no (deed u p k))) (slot_entries (deed u p) p n)) → Dec (k ≡ n)
           → In (entry p k (deed_no (deed u p k))) (slot_entries (deed u p) p (suc n))
       go ih (yes d) =
-          rw d (in_right (entry p n (deed_no (deed u p n))) (slot_entries (deed u p) p n) (cond (changes (deed u p n)) (entry p n (deed_no (deed u p n)) ∷ []) [])
+          rw d (in_right (entry p n (deed_no (deed u p n))) (slot_entries (deed u p) p n)
+          (cond (changes (deed u p n)) (entry p n (deed_no (deed u p n)) ∷ []) [])
           (own (changes (deed u p n)) (ap (λ (x : ℕ). changes (deed u p x)) (sym d) ∙ c)))
       go ih (no d) =
           in_left (entry p k (deed_no (deed u p k))) (slot_entries (deed u p) p n) (cond (changes (deed u p n)) (entry p n (deed_no (deed u p n)) ∷ []) [])
@@ -69,7 +70,8 @@ module _ (u : SegView) (p : ℕ) where
 
   slot_no_of : (e : Entry) (n : ℕ) → In e (slot_entries (deed u p) p n) → SlotEntry u p n e
   slot_no_of e zero h = absurd h
-  slot_no_of e (suc n) h = go (slot_no_of e n) (in_either e (slot_entries (deed u p) p n) (cond (changes (deed u p n)) (entry p n (deed_no (deed u p n)) ∷ []) []) h)
+  slot_no_of e (suc n) h = go (slot_no_of e n) (in_either e (slot_entries (deed u p) p n)
+      (cond (changes (deed u p n)) (entry p n (deed_no (deed u p n)) ∷ []) []) h)
     where
       own : (b : Bool) → changes (deed u p n) ≡ b → In e (cond b (entry p n (deed_no (deed u p n)) ∷ []) []) → SlotEntry u p (suc n) e
       own true q (inl w) = record { slot = n; below = omega arith; changes = q; is = w }
@@ -205,7 +207,8 @@ module _ (a b : List ℕ) (e : cut a 0 12 ≡ cut b 0 12) where
   unfolding view
   same_space = ap be (header_part a b 8 4 (omega arith) e)
 
-pub same_entry : (a b : List ℕ) (k : ℕ) → (view a).slot_count ≡ (view b).slot_count → cut a (12 + 8 * k) 8 ≡ cut b (12 + 8 * k) 8 → (view a).at k ≡ (view b).at k
+pub same_entry : (a b : List ℕ) (k : ℕ) → (view a).slot_count ≡ (view b).slot_count → cut a (12 + 8 * k) 8 ≡ cut b (12 + 8 * k) 8
+    → (view a).at k ≡ (view b).at k
 unfolding view
 same_entry a b k n e = λ i. cond (ltb k (n i)) (slot_of (be (e i))) Free
 
@@ -330,7 +333,8 @@ module _ (s : List ℕ) (whole : length s % 16384 ≡ 0) (v : List ℕ) where
     where
       same : (lost (us.page p) ≡ false → fresh (us.page p) ≡ false → k < (us.page p).slot_count → changes (deed us p k) ≡ false) → ⊥
       same h =
-          n (ap (λ (q : List ℕ). cut q (12 + 8 * k) 8) (repaired_page s whole p l) ∙ slot_bytes_same us p (page_of s p) (sym (standing_page s p)) (long p l) k h)
+          n (ap (λ (q : List ℕ). cut q (12 + 8 * k) 8) (repaired_page s whole p l)
+          ∙ slot_bytes_same us p (page_of s p) (sym (standing_page s p)) (long p l) k h)
 
       go : (a : Bool) → lost (us.page p) ≡ a → (b : Bool) → fresh (us.page p) ≡ b → Dec (k < (us.page p).slot_count) → (c : Bool) → changes (deed us p k) ≡ c
           → In (entry p k (deed_no (deed us p k))) (entries us v)

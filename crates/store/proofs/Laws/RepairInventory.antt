@@ -1,5 +1,6 @@
 -- The true inventory: the fold of updates is one, what is the same as it is one, and any two are the same.
-use Rattle.std.specs.Prelude.{ℕ, zero, suc, ◌+◌, ◌-◌, ◌*◌, ◌/◌, ◌%◌, ◌≤◌, ◌<◌, ◌≡◌, refl, Bool, true, false, cond, List, [], ◌∷◌, length, get_or, drop, eqb, ltb}
+use Rattle.std.specs.Prelude.{ℕ, zero, suc, ◌+◌, ◌-◌, ◌*◌, ◌/◌, ◌%◌, ◌≤◌, ◌<◌, ◌≡◌, refl, Bool, true, false, cond, List, [], ◌∷◌, length, get_or, drop, eqb}
+use Rattle.std.specs.Prelude.{ltb}
 use Rattle.std.proofs.Common.{sym, ap, ◌∙◌, subst, arith, length-drop, get_or-drop, ext_get_or, eq-eqb, eqb-true, ne_eqb, lt-ltb, le-ltb}
 use Rattle.std.proofs.Math.Decide.{ℕ_discrete, dec_lt}
 use Rattle.std.proofs.lemmas.List.{length-replicate}
@@ -108,7 +109,8 @@ same_true f n v w l e t =
     let b = and_both (all 15 (λ c. eqb (entry_at v c) (entry_at w c))) (same_bytes (drop 120 v) (drop 120 w)) e in
     let d : drop 120 v ≡ drop 120 w = same_is (drop 120 v) (drop 120 w) b.1 in
     record {
-      nibbles = λ k m. nibble_drop v k ∙ ap (λ (r : List ℕ). half_of (get_or r (k / 2) 0) ((k + 240) % 2)) d ∙ sym (nibble_drop w k) ∙ t.nibbles k (omega arith);
+      nibbles = λ k m. nibble_drop v k ∙ ap (λ (r : List ℕ). half_of (get_or r (k / 2) 0) ((k + 240) % 2)) d ∙ sym (nibble_drop w k)
+          ∙ t.nibbles k (omega arith);
       entries = λ c m. rw (eqb-true (entry_at v c) (entry_at w c) (all_at 15 (λ x. eqb (entry_at v x) (entry_at w x)) b.0 c m)) (t.entries c m);
     }
 

@@ -143,7 +143,8 @@ module _ (s : List ℕ) (whole : length s % 16384 ≡ 0) where
         same_by (ap (λ (y : Slot). look (bytes_on (seg_view s')) i (tag y)) f ∙ by x k h.1 ∙ ap (read_by (seg_view s) i) (sym e))
         (ap (part_by (seg_view s') i) f ∙ part x k ∙ ap (part_by (seg_view s) i) (sym e))
       where
-        by : (y : Slot) → is_record y ≡ true → bytes_on (seg_view s') i ≡ bytes_on (seg_view s) i → look (bytes_on (seg_view s')) i (tag y) ≡ read_by (seg_view s) i y
+        by : (y : Slot) → is_record y ≡ true → bytes_on (seg_view s') i ≡ bytes_on (seg_view s) i
+            → look (bytes_on (seg_view s')) i (tag y) ≡ read_by (seg_view s) i y
         by (Ordinary o l) q b = ap (λ (z : List ℕ). record { answer = 0; bytes = z }) b
         by Free q b = let z : ◌≡◌ {A = ℕ} 0 1 = cc in absurd (omega arith)
         by (Redirect t) q b = let z : ◌≡◌ {A = ℕ} 0 1 = cc in absurd (omega arith)
@@ -218,7 +219,8 @@ module _ (s : List ℕ) (whole : length s % 16384 ≡ 0) where
             let y = page_by (Ordinary o l) e refl in
             own_stays (Ordinary o l) e refl
             (deed_is i (Ordinary o l) (sym (seen_slot s i) ∙ e) ∙ ap (λ (b : Bool). cond b Stays RecordFreed) (kept_by (Ordinary o l) e refl)) y.0 y.1
-        go Free e a = let z : (read_by (seg_view s) i Free).answer ≡ 0 = ap (λ (x : Slot). (read_by (seg_view s) i x).answer) (sym e) ∙ a in absurd (omega arith)
+        go Free e a = let z : (read_by (seg_view s) i Free).answer ≡ 0 = ap (λ (x : Slot). (read_by (seg_view s) i x).answer) (sym e) ∙ a in
+            absurd (omega arith)
         go (Redirect t) e a = back (points_back (seg_view s) i t) refl (ap (λ (x : Slot). (read_by (seg_view s) i x).answer) (sym e) ∙ a)
           where
             back : (b : Bool) → points_back (seg_view s) i t ≡ b

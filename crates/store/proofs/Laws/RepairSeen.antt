@@ -18,7 +18,8 @@ use Rattle.store.specs.Segment.{SegView, page_of, size_ok, inv_ok}
 use Rattle.store.specs.SoundSegment.{slot_on, back_id}
 use Rattle.store.specs.Repair.{standing, Repaired, repair_step}
 use Rattle.store.specs.Repair.{lost, lies, clear, kept_below, is_in, keeps, kept, holds, redirects_to, named, deed_by, deed, changes, slot_done, slot_after}
-use Rattle.store.specs.Repair.{start_after, space_after, mended, emptied, page_after, seg_after, same_head, put_slots, put_mended, page_bytes, true_inv, true_of}
+use Rattle.store.specs.Repair.{start_after, space_after, mended, emptied, page_after, seg_after, same_head, put_slots, put_mended, page_bytes, true_inv}
+use Rattle.store.specs.Repair.{true_of}
 use Rattle.store.specs.Repair.{same_inv, inv_after, entry, deed_no, slot_entries, head_entries, page_entries, seg_entries, entries, mended_by}
 use Rattle.store.specs.RepairTold.{LooksSame}
 use Rattle.store.specs.declared.Deed.TheVariants.{Stays, RecordFreed, RedirectFreed, MadeOrdinary}
@@ -159,7 +160,8 @@ module _ (a b : SegView) (h : SameSeen a b) where
               ∙ sym (ap (λ (y : Bool). ltb (page_no x) b.pages && (not y && (redirects_to t (slot_on b x) && holds b x t))) g)
           go true q false r =
               let l = ltb-true (page_no x) a.pages q in
-              λ i. ltb (page_no x) (h.pages i) && (not (lost_same (page_no x) l i) && (redirects_to t (h.slots (page_no x) l r (slot_no x) i) && holds_same x t i))
+              λ i. ltb (page_no x) (h.pages i) && (not (lost_same (page_no x) l i) &&
+              (redirects_to t (h.slots (page_no x) l r (slot_no x) i) && holds_same x t i))
 
   -- ---- slots and pages
 
@@ -287,7 +289,8 @@ module _ (a b : SegView) (h : SameSeen a b) where
   seg_told (suc n) g = λ i. seg_told n (omega arith) i ++ page_told n (omega arith) i
 
   -- the inventory too
-  number_same : (p : ℕ) → p < a.pages → ((page_after a p).slot_count ≡ (page_after b p).slot_count) × ((page_after a p).first_free ≡ (page_after b p).first_free)
+  number_same : (p : ℕ) → p < a.pages → ((page_after a p).slot_count ≡ (page_after b p).slot_count)
+      × ((page_after a p).first_free ≡ (page_after b p).first_free)
       × ((page_after a p).data_start ≡ (page_after b p).data_start) × ((page_after a p).free_space ≡ (page_after b p).free_space)
   unfolding page_after
   number_same p l = go (lost (a.page p)) refl (fresh (a.page p)) refl

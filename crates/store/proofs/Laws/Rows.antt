@@ -26,7 +26,8 @@ module _ (s v : List ℕ) (h : SoundSegment s v) where
   read_by_lem i l = rw (h.whole, root_entry (seg_view s) i l (sound_test ((seg_view s).page (page_no i)) ((seen_sound s v h).sounds (page_no i))))
 
   -- a redirect leads to its target
-  pub by_look : (i : ℕ) → page_no i < (seg_view s).pages → read_by (seg_view s) i (slot_on (seg_view s) i) ≡ look (bytes_on (seg_view s)) i (tag_on (seg_view s) i)
+  pub by_look : (i : ℕ) → page_no i < (seg_view s).pages → read_by (seg_view s) i (slot_on (seg_view s) i) ≡ look (bytes_on (seg_view s)) i
+      (tag_on (seg_view s) i)
   by_look i l = go (slot_on (seg_view s) i) refl
     where
       go : (x : Slot) → slot_on (seg_view s) i ≡ x → read_by (seg_view s) i x ≡ look (bytes_on (seg_view s)) i (tag x)

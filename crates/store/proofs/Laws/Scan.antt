@@ -26,7 +26,8 @@ next_record_lem zero v k h = absurd (omega arith)
 next_record_lem (suc m) v k h = go (is_record (v.at k)) refl h (λ l. next_record_lem m v (k + 1) l)
   where
     go : (b : Bool) → is_record (v.at k) ≡ b → cond b k (next_record m v (k + 1)) < k + suc m
-        → (next_record m v (k + 1) < k + 1 + m → is_record (v.at (next_record m v (k + 1))) ≡ true) → is_record (v.at (cond b k (next_record m v (k + 1)))) ≡ true
+        → (next_record m v (k + 1) < k + 1 + m → is_record (v.at (next_record m v (k + 1))) ≡ true)
+        → is_record (v.at (cond b k (next_record m v (k + 1)))) ≡ true
     go true e l ih = e
     go false e l ih = ih (omega arith)
 
@@ -114,7 +115,8 @@ module _ (s v : List ℕ) (h : SoundSegment s v) where
     abbrev pub back : ℕ
     back = be (take 8 (((seg_view s).page p).bytes j))
 
-    pub back_root : (o l : ℕ) → ((seg_view s).page p).at j ≡ Target o l → (page_no back < (seg_view s).pages) × (slot_on (seg_view s) back ≡ Redirect (id_of p j))
+    pub back_root : (o l : ℕ) → ((seg_view s).page p).at j ≡ Target o l → (page_no back < (seg_view s).pages)
+        × (slot_on (seg_view s) back ≡ Redirect (id_of p j))
     back_root o l e =
         let t : ℕ = id_of p j in
         let n = h.pairs.targets t inside (ap is_target (here ∙ e)) in

@@ -1,5 +1,6 @@
 -- A segment: what is seen after a call's steps, and demand 3 over every plan.
-use Rattle.std.specs.Prelude.{ℕ, ◌+◌, ◌-◌, ◌*◌, ◌/◌, ◌%◌, ◌≤◌, ◌<◌, ◌≡◌, refl, Bool, true, false, cond, not, ◌&&◌, List, [], ◌∷◌, ◌++◌, ◌⊎◌, ◌≢◌, length, take, drop, eqb, leb}
+use Rattle.std.specs.Prelude.{ℕ, ◌+◌, ◌-◌, ◌*◌, ◌/◌, ◌%◌, ◌≤◌, ◌<◌, ◌≡◌, refl, Bool, true, false, cond, not, ◌&&◌, List, [], ◌∷◌, ◌++◌, ◌⊎◌, ◌≢◌, length}
+use Rattle.std.specs.Prelude.{take, drop, eqb, leb}
 use Rattle.std.proofs.Math.Path.{sym, ap}
 use Rattle.std.proofs.Common.{◌∙◌, inl, inr, arith, length-take, length-drop, eq-eqb, ne_eqb}
 use Rattle.std.proofs.Math.Decide.{ℕ_discrete, dec_lt}
@@ -158,7 +159,8 @@ lent_part_lem s p = let e : (p + 1) * 16384 - p * 16384 ≡ 16384 = omega arith 
 
 -- to a function that leaves f of it
 pub lent_page : (s : List ℕ) (p : ℕ) (f : List ℕ → List ℕ) → ((q : List ℕ) → length (f q) ≡ length q) → (out : List ℕ) → p * 16384 + 16384 ≤ length s
-    → out ≡ f (mid_of (p * 16384) ((p + 1) * 16384 - p * 16384) s) → put_mid (p * 16384) ((p + 1) * 16384 - p * 16384) s out ≡ put s (p * 16384) (f (page_of s p))
+    → out ≡ f (mid_of (p * 16384) ((p + 1) * 16384 - p * 16384) s)
+    → put_mid (p * 16384) ((p + 1) * 16384 - p * 16384) s out ≡ put s (p * 16384) (f (page_of s p))
 lent_page s p f keeps out h e =
     let g : out ≡ f (page_of s p) = e ∙ ap f (lent_part_lem s p) in
     let l : length out ≡ (p + 1) * 16384 - p * 16384 = ap length g ∙ keeps (page_of s p) ∙ length_page s p h ∙ omega arith in

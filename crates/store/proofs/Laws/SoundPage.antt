@@ -1,5 +1,6 @@
 -- The sound-page test, taken apart: a page that passes it shows a sound view.
-use Rattle.std.specs.Prelude.{ℕ, zero, suc, ◌+◌, ◌*◌, ◌/◌, ◌%◌, ◌^◌, ◌≤◌, ◌<◌, ◌≡◌, refl, Bool, false, cond, ◌&&◌, ◌||◌, List, [], ◌∷◌, ◌⊎◌, ◌≢◌, length, drop, ltb, leb, eqb}
+use Rattle.std.specs.Prelude.{ℕ, zero, suc, ◌+◌, ◌*◌, ◌/◌, ◌%◌, ◌^◌, ◌≤◌, ◌<◌, ◌≡◌, refl, Bool, false, cond, ◌&&◌, ◌||◌, List, [], ◌∷◌, ◌⊎◌, ◌≢◌, length}
+use Rattle.std.specs.Prelude.{drop, ltb, leb, eqb}
 use Rattle.std.proofs.Math.Path.{ap}
 use Rattle.std.proofs.Common.{◌∙◌, inl, inr, not-suc-le-zero}
 use Rattle.std.proofs.Math.Bool.{true, not}
@@ -241,7 +242,8 @@ module _ (p : List ℕ) (whole : length p ≡ 16384) where
       high_by j g (yes h) = in_page (view p) j (g j h)
       high_by j g (no h) = let q : count p ≤ j = omega arith in rw (past_free p j q) (omega arith)
 
-      low_by : (j : ℕ) → 0 < len (slot_at p j) → ((i : ℕ) → i < count p → lies_well (view p) i ≡ true) → Dec (j < count p) → (view p).data_start ≤ off (slot_at p j)
+      low_by : (j : ℕ) → 0 < len (slot_at p j) → ((i : ℕ) → i < count p → lies_well (view p) i ≡ true) → Dec (j < count p)
+          → (view p).data_start ≤ off (slot_at p j)
       low_by j l g (yes h) = above (view p) j (g j h) l
       low_by j l g (no h) = let q : len (slot_at p j) ≡ 0 = ap len (past_free p j (omega arith)) in absurd (omega arith)
 

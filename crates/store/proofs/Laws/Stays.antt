@@ -401,7 +401,8 @@ module _ (u : SegView) (v : List ℕ) (seen : Seen u v) where
       go : page_no i < u.pages → (x : Slot) → r.at (slot_no i) ≡ x → Stays u v (no_read 5) (erase_by u v i x)
       go l (Ordinary o k) e =
           one_step (no_read 5) i l (page_no i) (slot_no i) Free [] (erase r (slot_no i)) l
-          (erase_changes r (seen.sounds (page_no i)) (slot_no i) (counted r (seen.sounds (page_no i)) (slot_no i) (ap is_free e)) (ap is_free e)) i (id_of_lem i)
+          (erase_changes r (seen.sounds (page_no i)) (slot_no i) (counted r (seen.sounds (page_no i)) (slot_no i) (ap is_free e)) (ap is_free e)) i
+          (id_of_lem i)
           (pairs_one u.pages (tag_on u) (bytes_on u) seen.pairs i Free [] (no_read 5) (subst Plain (sym (ap tag e)) tt) tt refl)
       go l Free e = refusal (no_read 5) 5 refl
       go l (Redirect t) e =
@@ -413,7 +414,8 @@ module _ (u : SegView) (v : List ℕ) (seen : Seen u v) where
           (λ f.
           two_swapped (no_read 5) i l (page_no i) (slot_no i) Free [] (erase r (slot_no i)) l
           (erase_changes r (seen.sounds (page_no i)) (slot_no i) (root_counted i t l e) (root_taken i t l e)) i (id_of_lem i)
-          (page_no t) (slot_no t) Free [] (erase (u.page (page_no t)) (slot_no t)) (partner i t l e).0 (target_erased i t l e) (partner i t l e).1 t (id_of_lem t)
+          (page_no t) (slot_no t) Free [] (erase (u.page (page_no t)) (slot_no t)) (partner i t l e).0 (target_erased i t l e) (partner i t l e).1 t
+          (id_of_lem t)
           (pairs_home u.pages (tag_on u) (bytes_on u) seen.pairs i t l (ap tag e) Free [] (no_read 5) tt refl))
       go l (Target o k) e = refusal (no_read 5) 6 refl
 
@@ -439,7 +441,8 @@ module _ (u : SegView) (v : List ℕ) (seen : Seen u v) where
       forwarded_stays plain old (found q j a) o =
           let n : q ≢ page_no i = eqb-false q (page_no i) o.1 in
           let h = o.3.small in
-          two_steps (wrote (new old)) i below (page_no i) (slot_no i) (Redirect (id_of q j)) [] (erase_for_redirect (u.page (page_no i)) (slot_no i) (id_of q j)) below
+          two_steps (wrote (new old)) i below (page_no i) (slot_no i) (Redirect (id_of q j)) []
+          (erase_for_redirect (u.page (page_no i)) (slot_no i) (id_of q j)) below
           (redirect_changes (u.page (page_no i)) (seen.sounds (page_no i)) (slot_no i) inside taken (id_of q j)) i (id_of_lem i)
           q j (Target 0 (len (a.after.at j))) (to_be 8 i ++ new old) (targeted u v i size new j a old) o.0
           (target_new old q j a (size + 8) o.3) n (id_of q j) refl
@@ -518,7 +521,8 @@ module _ (u : SegView) (v : List ℕ) (seen : Seen u v) where
             (ap (λ (x : Slot). look (λ m. new old) i (placed x 0 size)) here))
         home_stays old refused m =
             at_target_stays old m (relocate (u.page (page_no t)) (slot_no t) (size + 8))
-            (relocate_changes (u.page (page_no t)) (seen.sounds (page_no t)) (slot_no t) (target_counted i t below here) (target_used i t below here) (size + 8))
+            (relocate_changes (u.page (page_no t)) (seen.sounds (page_no t)) (slot_no t) (target_counted i t below here) (target_used i t below here)
+            (size + 8))
 
   pub store_stays : (i size : ℕ) (new : List ℕ → List ℕ) → Stays u v (wrote (new (old_bytes u i))) (store_plan found_in u v i size new)
   unfolding store_plan

@@ -1,6 +1,7 @@
 -- Laws of writes, the store's `put`, by which the loops of the leaves turn.
 use Rattle.std.specs.Prelude.{◌≡◌, List, [], ◌∷◌, ◌++◌, ℕ, zero, suc, ◌+◌, ◌-◌, ◌≤◌, ◌<◌, length, get_or, take, drop, set}
-use Rattle.std.proofs.Common.{sym, ap, ◌∙◌, append_assoc, inl, inr, add-zero, add-suc, add-one, arith, length-drop, length-append, take-suc, drop-cons, get_or-take, get_or-drop, length-take-le, take_at}
+use Rattle.std.proofs.Common.{sym, ap, ◌∙◌, append_assoc, inl, inr, add-zero, add-suc, add-one, arith, length-drop, length-append, take-suc, drop-cons}
+use Rattle.std.proofs.Common.{get_or-take, get_or-drop, length-take-le, take_at}
 use Rattle.std.proofs.lemmas.List.{length-replicate, replicate-append-replicate}
 use Rattle.store.specs.Numbers.{cut, put, zeros}
 use Rattle.store.proofs.Laws.Numbers.{put_set, set_put, put_nil, put_parts, put_swap, get_d_put}

@@ -85,7 +85,8 @@ module _ (s v : List ℕ) (p : ℕ) (fits : size_ok s ≡ true) (one : inv_ok v 
 
   -- ---- "4 (new page)", after 7 and before 8: the page that the inventory names, for a record of insert and allocate and for a new target
 
-  pub new_damaged : (m : ℕ) (excluded : ℕ → Bool) → found_in v (length s / 16384) (need_for m) ≡ At p → find found_in (seg_view s) v m excluded ≡ nowhere DAMAGED
+  pub new_damaged : (m : ℕ) (excluded : ℕ → Bool) → found_in v (length s / 16384) (need_for m) ≡ At p
+      → find found_in (seg_view s) v m excluded ≡ nowhere DAMAGED
   unfolding find
   new_damaged m excluded e = rw (seen_pages s, e, seen)
 

@@ -192,7 +192,8 @@ e13 v p = record {
 -- ---- the table
 
 on_fresh_is : map (λ r. r.got) (on_fresh (zeros 16384)) ≡ map (λ r. r.want) (on_fresh (zeros 16384))
-unfolding on_fresh fresh_pages told header place both all_seen sound compactify allocate class_of nibble_at set_nibble entry_at set_entry first_from next_page run_end
+unfolding on_fresh fresh_pages told header place both all_seen sound compactify allocate class_of nibble_at set_nibble entry_at set_entry first_from
+    next_page run_end
     set_from pulled_back moved_on updated update found_in find insert_plan
 on_fresh_is = refl
 

@@ -206,12 +206,14 @@ e26 v = record {
 
 -- one after the other, as each is given its own share of steps
 on_one_is : map (λ r. r.got) (on_one (counted 16336)) ≡ map (λ r. r.want) (on_one (counted 16336))
-unfolding on_one shown inventory counted view class_of nibble_at set_nibble entry_at set_entry first_from next_page run_end set_from pulled_back moved_on updated
+unfolding on_one shown inventory counted view class_of nibble_at set_nibble entry_at set_entry first_from next_page run_end set_from pulled_back moved_on
+    updated
     update kept_below keeps kept holds named deed mended_by page_after seg_after page_bytes true_inv same_inv inv_after page_entries seg_entries entries
 on_one_is = refl
 
 on_three_is : map (λ r. r.got) (on_three pairs) ≡ map (λ r. r.want) (on_three pairs)
-unfolding on_three shown2 with_back pairs view class_of nibble_at set_nibble entry_at set_entry first_from next_page run_end set_from pulled_back moved_on updated
+unfolding on_three shown2 with_back pairs view class_of nibble_at set_nibble entry_at set_entry first_from next_page run_end set_from pulled_back moved_on
+    updated
     update kept_below keeps kept holds named deed mended_by page_after seg_after page_bytes true_inv same_inv inv_after page_entries seg_entries entries
 on_three_is = refl
 

@@ -154,13 +154,15 @@ in_one : SegView
 in_one = (all_seen (fresh_pages 1) (zeros 16384) (zeros 3 ∷ [])).seen
 
 on_three_is : map (λ r. r.got) (on_three in_one) ≡ map (λ r. r.want) (on_three in_one)
-unfolding on_three in_one told empty but only report_seen figures_to fresh_pages all_seen sound compactify allocate class_of nibble_at set_nibble entry_at set_entry
+unfolding on_three in_one told empty but only report_seen figures_to fresh_pages all_seen sound compactify allocate class_of nibble_at set_nibble entry_at
+    set_entry
     first_from next_page run_end set_from pulled_back moved_on updated update found_in find insert_plan
 on_three_is = refl
 
 on_forwarded_is : map (λ r. r.got) (on_forwarded forwarded.seen) ≡ map (λ r. r.want) (on_forwarded forwarded.seen)
 unfolding on_forwarded told empty only report_seen figures_to start did then three forwarded sound compactify allocate erase_for_redirect relocate class_of
-    nibble_at set_nibble entry_at set_entry first_from next_page run_end set_from pulled_back moved_on updated update found_in find insert_plan store_plan root_of
+    nibble_at set_nibble entry_at set_entry first_from next_page run_end set_from pulled_back moved_on updated update found_in find insert_plan store_plan
+    root_of
 on_forwarded_is = refl
 
 emptied_is : (e6 (before 1 emptied)).got ≡ (e6 (before 1 emptied)).want

@@ -60,7 +60,8 @@ module _ (c : After-get_free_space-space) where
 
 -- ---- the needs
 pub returns-then-get_slot_count-ne0 : goal.returns-then-get_slot_count-ne0
-returns-then-get_slot_count-ne0 c = sym (used_not_fresh (seen (goal.at.returns-then-get_slot_count-ne0 c).Start) (λ e. c.if-get_slot_count-ne0.true (c.get_slot_count.ensures.0 ∙ e)))
+returns-then-get_slot_count-ne0 c = sym (used_not_fresh (seen (goal.at.returns-then-get_slot_count-ne0 c).Start)
+    (λ e. c.if-get_slot_count-ne0.true (c.get_slot_count.ensures.0 ∙ e)))
 
 pub returns-then-get_first_free_slot-ne0 : goal.returns-then-get_first_free_slot-ne0
 returns-then-get_first_free_slot-ne0 c =
@@ -68,7 +69,8 @@ returns-then-get_first_free_slot-ne0 c =
     first_taken (seen (start at)) (none at) (λ e. c.if-get_first_free_slot-ne0.true (c.get_first_free_slot.ensures.0 ∙ e))
 
 pub returns-then-start-eq0 : goal.returns-then-start-eq0
-returns-then-start-eq0 c = let at = (goal.at.returns-then-start-eq0 c).After-get_free_space-space in read_space at 0 ∙ at_zero (read at) (none (empty (free at))) (first (free at)) (read_start at ∙ c.if-start-eq0.true)
+returns-then-start-eq0 c = let at = (goal.at.returns-then-start-eq0 c).After-get_free_space-space in
+    read_space at 0 ∙ at_zero (read at) (none (empty (free at))) (first (free at)) (read_start at ∙ c.if-start-eq0.true)
 
 pub returns-then-start-eq-PAGE_SIZE : goal.returns-then-start-eq-PAGE_SIZE
 returns-then-start-eq-PAGE_SIZE c =

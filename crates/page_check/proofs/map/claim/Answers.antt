@@ -5,7 +5,8 @@ use lib.Bits.{bit_and}
 use Rattle.page_check.specs.Map.{Clear, Claimed, Claims}
 use Rattle.page_check.proofs.SlotLaws.{tells_no, not_both, refuted}
 use Rattle.page_check.proofs.MapLaws.{mask_of, mask_and, claimed_none, claim_more}
-use Rattle.page_check.proofs.map.claim.Goals.{After-bits_to, After-claim_word, After-claim_word-2, After-loop-i, After-slice_known-in-loop-i-1, At-loop-i, Start}
+use Rattle.page_check.proofs.map.claim.Goals.{After-bits_to, After-claim_word, After-claim_word-2, After-loop-i, After-slice_known-in-loop-i-1, At-loop-i}
+use Rattle.page_check.proofs.map.claim.Goals.{Start}
 use Rattle.page_check.proofs.map.claim.Goals as goal
 
 -- ---- the places: a turn begins, its word is claimed

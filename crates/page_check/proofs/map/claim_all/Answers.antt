@@ -6,7 +6,8 @@ use Rattle.page_check.specs.Fit.{Found, Runs}
 use Rattle.page_check.proofs.SlotLaws.{found_at, tells_no, tells_yes, not_both, refuted}
 use Rattle.page_check.proofs.FitLaws.{records_none, records_more, total_none, total_more}
 use Rattle.page_check.proofs.MarkLaws.{marked_none, below_next, marked_more, apart_before, clear_apart}
-use Rattle.page_check.proofs.map.claim_all.Goals.{After-claim_record, After-get_u32-l, After-run_of-run, After-slice_known-in-loop-k-1, At-loop-k, Else-not-claim_record, Else-not-run, Start}
+use Rattle.page_check.proofs.map.claim_all.Goals.{After-claim_record, After-get_u32-l, After-run_of-run, After-slice_known-in-loop-k-1, At-loop-k}
+use Rattle.page_check.proofs.map.claim_all.Goals.{Else-not-claim_record, Else-not-run, Start}
 use Rattle.page_check.proofs.map.claim_all.Goals as goal
 
 -- ---- the places: a turn begins, slot k is found, it is allowed, its bytes are claimed

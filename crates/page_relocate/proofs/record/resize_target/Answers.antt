@@ -38,8 +38,11 @@ put_u64-requires c =
 pub returns-then-relocate : goal.returns-then-relocate
 returns-then-relocate c =
     let a = c.args in
-    let f = c.off_of.ensures ∙ ap off c.get_slot-s.ensures.0 in
-    ((kept (goal.at.returns-then-relocate c).Then-relocate).done (to_be 8 a.id) c.put_u64.new.page refl (c.put_u64.ensures ∙ rw f), was_moved_lem (goal.at.returns-then-relocate c).Then-relocate)
+    let f = c.off_of.ensures ∙ ap off c.get_slot-s.ensures.0 in (
+      (kept (goal.at.returns-then-relocate c).Then-relocate).done (to_be 8 a.id) c.put_u64.new.page refl (c.put_u64.ensures ∙ rw f),
+      was_moved_lem
+          (goal.at.returns-then-relocate c).Then-relocate,
+    )
 
 pub returns : goal.returns
 returns c =

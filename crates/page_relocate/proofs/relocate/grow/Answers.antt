@@ -27,7 +27,14 @@ inside c =
 
 pub move_within-requires : goal.move_within-requires
 move_within-requires c =
-    omega (arith, inside (goal.at.move_within-requires c).In-At, in_page (goal.at.move_within-requires c).After-len_of-n, c.off_of.ensures, c.len_of-n.ensures, c.requires.s_value.1)
+    omega (
+      arith,
+      inside (goal.at.move_within-requires c).In-At,
+      in_page (goal.at.move_within-requires c).After-len_of-n,
+      c.off_of.ensures,
+      c.len_of-n.ensures,
+      c.requires.s_value.1,
+    )
 
 pub overflow_add-offset : goal.overflow_add-offset
 overflow_add-offset c =
@@ -45,7 +52,8 @@ returns-in-At c =
     let d = c.in-At.offset in
     let x = grow_done a.page.now a.k a.size c.requires.used_slot j d c.move_slot-place.new.page c.move_within.new.page e
     c.move_slot-place.ensures.0 c.off_of.result c.len_of-n.result c.zero_fill.new.page
-    (c.off_of.ensures ∙ ap off c.requires.s_value.0) (length_is (goal.at.returns-in-At c).After-len_of-n) (omega (arith, c.len_of-n.ensures, c.requires.s_value.1)) c.requires.s_value.2
+    (c.off_of.ensures ∙ ap off c.requires.s_value.0) (length_is (goal.at.returns-in-At c).After-len_of-n)
+    (omega (arith, c.len_of-n.ensures, c.requires.s_value.1)) c.requires.s_value.2
     c.move_within.ensures c.zero_fill.ensures in
     old_done a.page.now a.k a.size c.requires.used_slot j d c.move_slot-place.new.page c.zero_fill.new.page e c.move_slot-place.ensures.0 x
 

@@ -29,7 +29,8 @@ pub returns-then-size-n : goal.returns-then-size-n
 returns-then-size-n c =
     let a = c.args in
     let y = resize_same (page (goal.at.returns-then-size-n c).After-off_of-offset) a.k a.size c.len_of-n.result c.off_of-offset.result a.page.now a.page.now
-    (length_is (goal.at.returns-then-size-n c).After-off_of-offset) (offset_is (goal.at.returns-then-size-n c).After-off_of-offset) (holds_record (goal.at.returns-then-size-n c).After-off_of-offset) c.if-size-n.true in
+    (length_is (goal.at.returns-then-size-n c).After-off_of-offset) (offset_is (goal.at.returns-then-size-n c).After-off_of-offset)
+    (holds_record (goal.at.returns-then-size-n c).After-off_of-offset) c.if-size-n.true in
     (y.0, y.1, omega (arith, inside (goal.at.returns-then-size-n c).After-off_of-offset))
 
 pub shrink-requires : goal.shrink-requires
@@ -39,15 +40,19 @@ shrink-requires c =
 pub returns-then-size-n-2 : goal.returns-then-size-n-2
 returns-then-size-n-2 c =
     let a = c.args in
-    let y = resize_less (page (goal.at.returns-then-size-n-2 c).After-off_of-offset) a.k a.size c.len_of-n.result c.off_of-offset.result a.page.now c.shrink.new.page
-    (length_is (goal.at.returns-then-size-n-2 c).After-off_of-offset) (offset_is (goal.at.returns-then-size-n-2 c).After-off_of-offset) (holds_record (goal.at.returns-then-size-n-2 c).After-off_of-offset) c.if-size-n-2.true c.shrink.ensures in
+    let y = resize_less (page (goal.at.returns-then-size-n-2 c).After-off_of-offset) a.k a.size c.len_of-n.result c.off_of-offset.result a.page.now
+    c.shrink.new.page
+    (length_is (goal.at.returns-then-size-n-2 c).After-off_of-offset) (offset_is (goal.at.returns-then-size-n-2 c).After-off_of-offset)
+    (holds_record (goal.at.returns-then-size-n-2 c).After-off_of-offset) c.if-size-n-2.true c.shrink.ensures in
     (y.0, y.1, omega (arith, inside (goal.at.returns-then-size-n-2 c).After-off_of-offset))
 
 pub returns-then-room-size : goal.returns-then-room-size
 returns-then-room-size c =
     let a = c.args in
     let y = resize_none (page (goal.at.returns-then-room-size c).After-off_of-offset) a.k a.size c.len_of-n.result c.off_of-offset.result a.page.now a.page.now
-    (length_is (goal.at.returns-then-room-size c).After-off_of-offset) (offset_is (goal.at.returns-then-room-size c).After-off_of-offset) (holds_record (goal.at.returns-then-room-size c).After-off_of-offset) c.get_free_space-room.result c.get_free_space-room.ensures.0 (omega arith) c.if-room-size.true in
+    (length_is (goal.at.returns-then-room-size c).After-off_of-offset) (offset_is (goal.at.returns-then-room-size c).After-off_of-offset)
+    (holds_record (goal.at.returns-then-room-size c).After-off_of-offset) c.get_free_space-room.result c.get_free_space-room.ensures.0 (omega arith)
+    c.if-room-size.true in
     (y.0, y.1, tt)
 
 pub park-requires : goal.park-requires
@@ -61,7 +66,10 @@ module _ (c : After-park) where
 
 pub put_under-d-requires : goal.put_under-d-requires
 put_under-d-requires c =
-    record { used_slot = (parked (goal.at.put_under-d-requires c).After-park).used; size_bound = rw (parked (goal.at.put_under-d-requires c).After-park).seen (omega (arith, length_is (goal.at.put_under-d-requires c).After-off_of-offset)) }
+    record {
+      used_slot = (parked (goal.at.put_under-d-requires c).After-park).used;
+      size_bound = rw (parked (goal.at.put_under-d-requires c).After-park).seen (omega (arith, length_is (goal.at.put_under-d-requires c).After-off_of-offset));
+    }
 
 pub returns : goal.returns
 returns c =
@@ -69,6 +77,7 @@ returns c =
     let g = grow_done a.page.now a.k c.len_of-n.result a.s c.park.new.page c.requires.used_slot c.requires.s_value.0 c.requires.s_value.1
     c.len_of-n.ensures a.size c.put_under-d.new.page c.park.ensures c.put_under-d.ensures.0 in
     let y = resize_more (page (goal.at.returns c).After-off_of-offset) a.k a.size c.len_of-n.result c.off_of-offset.result a.page.now c.put_under-d.new.page
-    (length_is (goal.at.returns c).After-off_of-offset) (offset_is (goal.at.returns c).After-off_of-offset) (holds_record (goal.at.returns c).After-off_of-offset) c.get_free_space-room.result c.put_under-d.result c.get_free_space-room.ensures.0
+    (length_is (goal.at.returns c).After-off_of-offset) (offset_is (goal.at.returns c).After-off_of-offset)
+    (holds_record (goal.at.returns c).After-off_of-offset) c.get_free_space-room.result c.put_under-d.result c.get_free_space-room.ensures.0
     (omega arith) (omega arith) g (rw (parked (goal.at.returns c).After-park).seen at c.put_under-d.ensures.1) in
     (y.0, y.1, c.put_under-d.ensures.2)

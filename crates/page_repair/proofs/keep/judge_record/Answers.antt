@@ -8,7 +8,8 @@ use Rattle.store.specs.Repair.{lies_in, lies}
 use Rattle.page_check.specs.Fit.{Runs}
 use Rattle.page_check.proofs.SlotLaws.{not_both}
 use Rattle.page_repair.proofs.KeepLaws.{runs_at, no_record, lies_ill, overlaps, claims, no_bytes}
-use Rattle.page_repair.proofs.keep.judge_record.Goals.{After-claim, After-is_clear, After-is_record, After-len_of-l, After-lies_in, After-off_of-o, After-slice_known-2-1, Else-not-is_clear, Start}
+use Rattle.page_repair.proofs.keep.judge_record.Goals.{After-claim, After-is_clear, After-is_record, After-len_of-l, After-lies_in}
+use Rattle.page_repair.proofs.keep.judge_record.Goals.{After-slice_known-2-1, Else-not-is_clear, Start}
 use Rattle.page_repair.proofs.keep.judge_record.Goals as goal
 
 -- ---- the places: the slot is read and asked whether it holds a record, how it lies, and where
@@ -51,7 +52,8 @@ below c = omega (arith, c.requires.counted_page.0.counted)
 
 -- ---- the needs
 pub get_slot-s-requires : goal.get_slot-s-requires
-get_slot-s-requires c = let s = (goal.at.get_slot-s-requires c).Start in (s.requires.counted_page.0.whole, below s, omega (arith, s.requires.counted_page.0.few))
+get_slot-s-requires c = let s = (goal.at.get_slot-s-requires c).Start in
+    (s.requires.counted_page.0.whole, below s, omega (arith, s.requires.counted_page.0.few))
 
 pub returns-then-not-is_record : goal.returns-then-not-is_record
 returns-then-not-is_record c =
@@ -64,7 +66,8 @@ lies_in-requires c = ((entry (goal.at.lies_in-requires c).After-is_record).requi
 pub returns-then-not-lies_in : goal.returns-then-not-lies_in
 returns-then-not-lies_in c =
     let s = entry (asked (goal.at.returns-then-not-lies_in c).After-lies_in) in
-    lies_ill _ _ _ (below s) s.requires.kept_marks (record_at_lem (goal.at.returns-then-not-lies_in c).After-lies_in) (lie (goal.at.returns-then-not-lies_in c).After-lies_in false c.if-not-lies_in.true)
+    lies_ill _ _ _ (below s) s.requires.kept_marks (record_at_lem (goal.at.returns-then-not-lies_in c).After-lies_in)
+    (lie (goal.at.returns-then-not-lies_in c).After-lies_in false c.if-not-lies_in.true)
 
 pub returns-then-l-eq0 : goal.returns-then-l-eq0
 returns-then-l-eq0 c =

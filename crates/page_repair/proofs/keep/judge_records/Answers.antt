@@ -36,7 +36,11 @@ pub loop-k-preserved : goal.loop-k-preserved
 loop-k-preserved c =
     let at = (turn (goal.at.loop-k-preserved c).After-used-in-loop-k-1).loop-k in
     let judged = c.judge_record.ensures in
-    record { upto = omega arith; judged = judged_more _ _ _ _ _ at.invariant.judged (inside (goal.at.loop-k-preserved c).After-used-in-loop-k-1) judged.0; marks = judged.1 }
+    record {
+      upto = omega arith;
+      judged = judged_more _ _ _ _ _ at.invariant.judged (inside (goal.at.loop-k-preserved c).After-used-in-loop-k-1) judged.0;
+      marks = judged.1;
+    }
 
 pub returns : goal.returns
 returns c =

@@ -41,8 +41,13 @@ pub gather_slot-r-requires : goal.gather_slot-r-requires
 gather_slot-r-requires c =
     let s = start (turn (goal.at.gather_slot-r-requires c).After-slot_done-s) in
     let at = (turn (goal.at.gather_slot-r-requires c).After-slot_done-s).loop-k in
-    let told = at.invariant.1 in
-    (omega arith, told.few, told.small, len_by (deeds_of s.args.deeds.now) (view s.args.page.now) at.k (s.requires.2 at.k) (done (goal.at.gather_slot-r-requires c).After-slot_done-s))
+    let told = at.invariant.1 in (
+      omega arith,
+      told.few,
+      told.small,
+      len_by (deeds_of s.args.deeds.now) (view s.args.page.now) at.k (s.requires.2 at.k)
+          (done (goal.at.gather_slot-r-requires c).After-slot_done-s),
+    )
 
 pub overflow_add-k : goal.overflow_add-k
 overflow_add-k c = omega arith

@@ -1,7 +1,8 @@
 use Rattle.store.specs.Page.{view}
 use Rattle.page_repair.specs.Mended.{deeds_of}
 use Rattle.page_repair.proofs.MendLaws.{mended_same, mended_new}
-use Rattle.page_repair.proofs.mend.mend.Goals.{After-gather-r, After-header_after-h, After-same_header-same, After-set_header, After-shared_slice_known-1, After-write_slots, Else-same, Start}
+use Rattle.page_repair.proofs.mend.mend.Goals.{After-gather-r, After-header_after-h, After-same_header-same, After-set_header}
+use Rattle.page_repair.proofs.mend.mend.Goals.{After-write_slots, Else-same, Start}
 use Rattle.page_repair.proofs.mend.mend.Goals as goal
 
 -- ---- the places: the slots are written; before them the header is compared, worked out, and its numbers gathered

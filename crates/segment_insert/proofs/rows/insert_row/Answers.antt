@@ -22,7 +22,10 @@ row c =
 sound_here : (c : Else-not-known_sound) →
     SoundOn c.args.segment.now c.in-At.page
 sound_here c =
-    record { whole = (row (goal.at.Else-not-known_sound c).After-find_page-named).inside _ c.in-At.is; sound = sym c.known_sound.ensures.0 ∙ c.if-not-known_sound.false }
+    record {
+      whole = (row (goal.at.Else-not-known_sound c).After-find_page-named).inside _ c.in-At.is;
+      sound = sym c.known_sound.ensures.0 ∙ c.if-not-known_sound.false;
+    }
 
 pub returns-then-size-gt-LONGEST : goal.returns-then-size-gt-LONGEST
 returns-then-size-gt-LONGEST c =
@@ -37,8 +40,11 @@ find_page-named-requires c =
 
 pub returns-in_default : goal.returns-in_default
 returns-in_default c =
-    let b = c.args.bytes.now in
-    (on_none c.args.segment.now c.args.inventory.now b (length b) ∙ (row (goal.at.returns-in_default c).After-find_page-named).is Full c.in_default.is, c.requires.known_sound)
+    let b = c.args.bytes.now in (
+      on_none c.args.segment.now c.args.inventory.now b (length b)
+          ∙ (row (goal.at.returns-in_default c).After-find_page-named).is Full c.in_default.is,
+      c.requires.known_sound,
+    )
 
 pub known_sound-requires : goal.known_sound-requires
 known_sound-requires c =
@@ -54,7 +60,10 @@ returns-then-not-known_sound c =
 
 pub insert_sound_at-requires : goal.insert_sound_at-requires
 insert_sound_at-requires c =
-    record { sizes = sizes c.args.segment.now c.args.inventory.now c.requires.inventory_value; sound_on = (sound_here (goal.at.insert_sound_at-requires c).Else-not-known_sound, c.if-size-gt-LONGEST.false) }
+    record {
+      sizes = sizes c.args.segment.now c.args.inventory.now c.requires.inventory_value;
+      sound_on = (sound_here (goal.at.insert_sound_at-requires c).Else-not-known_sound, c.if-size-gt-LONGEST.false);
+    }
 
 pub returns : goal.returns
 returns c =

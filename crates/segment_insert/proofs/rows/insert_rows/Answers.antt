@@ -54,7 +54,8 @@ returns-in_default c =
     let a = c.args in
     let i = c.loop-k in
     left_stop a.segment.now a.inventory.now a.rows.now a.lengths.now a.ids.now i.segment i.inventory i.ids i.known
-    i.at i.k i.invariant c.loop-k-test.true _ _ c.insert_row-answer.result (is_step (goal.at.returns-in_default c).After-insert_row-answer) (not_done c.insert_row-answer.result c.in_default.not-Done)
+    i.at i.k i.invariant c.loop-k-test.true _ _ c.insert_row-answer.result (is_step (goal.at.returns-in_default c).After-insert_row-answer)
+    (not_done c.insert_row-answer.result c.in_default.not-Done)
 
 pub bounds-ids-k : goal.bounds-ids-k
 bounds-ids-k c = omega (arith, c.loop-k.invariant.places)

@@ -44,7 +44,8 @@ loop-k-preserved c =
     let same = turn_same a.deeds.now c.requires.0 a.p c.loop-k.k a.at c.loop-k.next a.entries.now c.loop-k.entries i.1 i.2 in
     let more = turn_told a.deeds.now c.requires.0 a.p c.loop-k.k a.at c.loop-k.next a.entries.now c.loop-k.entries i.1 i.2 in
     elim c.if-d-ne0.branch [
-      | then-d-ne0 w ↦ let m = more w.if-d-ne0.true _ w.tell.ensures in (omega arith, w.next-is ∙ m.0, w.entries-is ∙ m.1, ap length w.entries-is ∙ w.tell.auto.entries ∙ i.3)
+      | then-d-ne0 w ↦ let m = more w.if-d-ne0.true _ w.tell.ensures in
+          (omega arith, w.next-is ∙ m.0, w.entries-is ∙ m.1, ap length w.entries-is ∙ w.tell.auto.entries ∙ i.3)
       | else-d-ne0 w ↦ let m = same w.if-d-ne0.false in (omega arith, w.next-is ∙ m.0, w.entries-is ∙ m.1, ap length w.entries-is ∙ i.3)
     ]
 

@@ -25,7 +25,8 @@ tell_slots-next-requires c =
     let a = c.args in (
       own_deeds a.segment.now a.p a.n c.requires.known.1 (row (goal.at.tell_slots-next-requires c).After-judge_page) c.judge_page.ensures,
       c.requires.known.1.few,
-      room_slots a.segment.now a.p a.n c.requires.known.1 (row (goal.at.tell_slots-next-requires c).After-judge_page) c.judge_page.ensures a.at (length a.entries.now) c.requires.p_in_bounds,
+      room_slots a.segment.now a.p a.n c.requires.known.1 (row (goal.at.tell_slots-next-requires c).After-judge_page) c.judge_page.ensures a.at
+          (length a.entries.now) c.requires.p_in_bounds,
     )
 
 pub mend-requires : goal.mend-requires

@@ -8,7 +8,8 @@ use Rattle.segment_repair.proofs.write.write_pages.Given as goal
 abbrev pub invariant-loop-p : goal.invariant-loop-p
 invariant-loop-p l =
     (l.p ≤ l.n) × (l.n ≡ length l.initial.segment / 16384) × (l.segment ≡ seg_bytes (standing l.initial.segment) l.p l.initial.segment)
-    × (l.entries ≡ put l.initial.entries 0 (words (seg_entries (standing l.initial.segment) l.p))) × (l.at ≡ length (seg_entries (standing l.initial.segment) l.p))
+    × (l.entries ≡ put l.initial.entries 0 (words (seg_entries (standing l.initial.segment) l.p)))
+    × (l.at ≡ length (seg_entries (standing l.initial.segment) l.p))
     × (length l.entries ≡ length l.initial.entries)
 
 abbrev pub decreases-loop-p : goal.decreases-loop-p

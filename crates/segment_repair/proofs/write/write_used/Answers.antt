@@ -18,5 +18,6 @@ pub returns-then-all_stay : goal.returns-then-all_stay
 returns-then-all_stay c =
     let a = c.args in
     let used = c.requires.known.1 in
-    written_quiet a.segment.now a.p used.within a.n used (in_order_lem (goal.at.returns-then-all_stay c).Then-is_marked) (sym c.all_stay.ensures ∙ c.if-all_stay.true)
+    written_quiet a.segment.now a.p used.within a.n used (in_order_lem (goal.at.returns-then-all_stay c).Then-is_marked)
+    (sym c.all_stay.ensures ∙ c.if-all_stay.true)
     a.entries.now a.at

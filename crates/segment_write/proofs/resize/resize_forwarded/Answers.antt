@@ -67,7 +67,11 @@ fits_home-requires c =
 pub resize_home-requires : goal.resize_home-requires
 resize_home-requires c =
     let a = c.args in
-    let free = ((seg_view a.segment.now).page (page_no a.id)).free_space in record { sizes = c.requires.sizes; follows = follows (goal.at.resize_home-requires c).After-fits_home; size_bound = leb-true a.size free (sym c.fits_home.ensures ∙ c.if-fits_home.true) }
+    let free = ((seg_view a.segment.now).page (page_no a.id)).free_space in record {
+      sizes = c.requires.sizes;
+      follows = follows (goal.at.resize_home-requires c).After-fits_home;
+      size_bound = leb-true a.size free (sym c.fits_home.ensures ∙ c.if-fits_home.true);
+    }
 
 pub returns-then-fits_home : goal.returns-then-fits_home
 returns-then-fits_home c =
@@ -77,22 +81,35 @@ returns-then-fits_home c =
 
 pub resize_target_on-requires : goal.resize_target_on-requires
 resize_target_on-requires c =
-    record { taken_on = back_taken c.args.segment.now c.args.id c.args.t (follows (goal.at.resize_target_on-requires c).After-fits_home).back; size_bound = c.requires.size_bound }
+    record {
+      taken_on = back_taken c.args.segment.now c.args.id c.args.t (follows (goal.at.resize_target_on-requires c).After-fits_home).back;
+      size_bound = c.requires.size_bound;
+    }
 
 pub update_on-requires : goal.update_on-requires
-update_on-requires c = let q = told_asks c.args.segment.now _ _ _ _ _ (moved_there (goal.at.update_on-requires c).Then-resize_target_on) c.args.inventory.now c.requires.sizes in record { room = q.0; within = q.1 }
+update_on-requires c = let q = told_asks c.args.segment.now _ _ _ _ _ (moved_there (goal.at.update_on-requires c).Then-resize_target_on)
+    c.args.inventory.now c.requires.sizes in record {
+      room = q.0;
+      within = q.1;
+    }
 
 pub returns-then-resize_target_on : goal.returns-then-resize_target_on
 returns-then-resize_target_on c =
     let a = c.args in
     let s = a.segment.now in
-    by_stay s a.inventory.now a.id a.size (fit a.size) a.t (follows (goal.at.returns-then-resize_target_on c).After-fits_home) (far (goal.at.returns-then-resize_target_on c).Else-fits_home)
+    by_stay s a.inventory.now a.id a.size (fit a.size) a.t (follows (goal.at.returns-then-resize_target_on c).After-fits_home)
+    (far (goal.at.returns-then-resize_target_on c).Else-fits_home)
     c.resize_target_on.new.segment _ (moved_there (goal.at.returns-then-resize_target_on c).Then-resize_target_on) c.update_on.ensures
 
 pub resize_again-requires : goal.resize_again-requires
 resize_again-requires c =
-    let a = c.args in let q = subst (λ (l : List ℕ). Sizes l a.inventory.now × (Follows l a.id a.t × (a.size ≤ 16364))) (sym (same_there (goal.at.resize_again-requires c).Else-resize_target_on))
-    (c.requires.sizes, (follows (goal.at.resize_again-requires c).After-fits_home, c.requires.size_bound)) in record { sizes = q.0; follows = q.1.0; size_bound = q.1.1 }
+    let a = c.args in let q = subst (λ (l : List ℕ). Sizes l a.inventory.now × (Follows l a.id a.t × (a.size ≤ 16364)))
+    (sym (same_there (goal.at.resize_again-requires c).Else-resize_target_on))
+    (c.requires.sizes, (follows (goal.at.resize_again-requires c).After-fits_home, c.requires.size_bound)) in record {
+      sizes = q.0;
+      follows = q.1.0;
+      size_bound = q.1.1;
+    }
 
 pub returns : goal.returns
 returns c =

@@ -58,7 +58,8 @@ kept c =
     let a = c.args in
     let s = a.segment.now in
     let at = page_no a.id * 16384 + a.offset in
-    let inside : at + a.n ≤ length c.resize_on.new.segment = omega (arith, (in_page (goal.at.After-save c).Start).1, ap length (same_here (goal.at.After-save c).Else-resize_on)) in
+    let inside : at + a.n ≤ length c.resize_on.new.segment = omega
+    (arith, (in_page (goal.at.After-save c).Start).1, ap length (same_here (goal.at.After-save c).Else-resize_on)) in
     saved c.resize_on.new.segment (replicate 16384 0) at a.n inside (rw length-replicate (omega (arith, (in_page (goal.at.After-save c).Start).0)))
     c.save.new.to c.save.ensures
     ∙ ap (λ (t : List ℕ). cut t at a.n) (same_here (goal.at.After-save c).Else-resize_on)
@@ -69,7 +70,11 @@ resize_on-requires c =
     root_taken c.args.segment.now c.args.id (Ordinary c.args.offset c.args.n) c.requires.root_is refl
 
 pub update_on-requires : goal.update_on-requires
-update_on-requires c = let q = told_asks c.args.segment.now _ _ _ _ _ (moved_here (goal.at.update_on-requires c).Then-resize_on) c.args.inventory.now c.requires.sizes in record { room = q.0; within = q.1 }
+update_on-requires c = let q = told_asks c.args.segment.now _ _ _ _ _ (moved_here (goal.at.update_on-requires c).Then-resize_on) c.args.inventory.now
+    c.requires.sizes in record {
+      room = q.0;
+      within = q.1;
+    }
 
 pub returns-then-resize_on : goal.returns-then-resize_on
 returns-then-resize_on c =
@@ -81,8 +86,11 @@ pub overflow_add-id : goal.overflow_add-id
 overflow_add-id c = omega (arith, (in_page (goal.at.overflow_add-id c).Start).1)
 
 pub save-requires : goal.save-requires
-save-requires c =
-    (omega (arith, (in_page (goal.at.save-requires c).Start).1, ap length (same_here (goal.at.save-requires c).Else-resize_on)), rw length-replicate (omega (arith, (in_page (goal.at.save-requires c).Start).0)))
+save-requires c = (
+  omega (arith, (in_page (goal.at.save-requires c).Start).1, ap length (same_here (goal.at.save-requires c).Else-resize_on)),
+  rw length-replicate
+      (omega (arith, (in_page (goal.at.save-requires c).Start).0)),
+)
 
 pub slice_bounds-old-end : goal.slice_bounds-old-end
 slice_bounds-old-end c =
@@ -95,8 +103,13 @@ slice_bounds-forward-end c =
 pub forward-requires : goal.forward-requires
 forward-requires c =
     let a = c.args in
-    let taken = root_taken a.segment.now a.id (Ordinary a.offset a.n) c.requires.root_is refl in let q = subst (λ (l : List ℕ). Sizes l a.inventory.now × (TakenOn l (page_no a.id) (slot_no a.id) × (a.size ≤ 16364)))
-    (sym (same_here (goal.at.forward-requires c).Else-resize_on)) (c.requires.sizes, (taken, c.requires.size_bound)) in record { sizes = q.0; taken_on = q.1.0; size_bound = q.1.1 }
+    let taken = root_taken a.segment.now a.id (Ordinary a.offset a.n) c.requires.root_is refl in
+    let q = subst (λ (l : List ℕ). Sizes l a.inventory.now × (TakenOn l (page_no a.id) (slot_no a.id) × (a.size ≤ 16364)))
+    (sym (same_here (goal.at.forward-requires c).Else-resize_on)) (c.requires.sizes, (taken, c.requires.size_bound)) in record {
+      sizes = q.0;
+      taken_on = q.1.0;
+      size_bound = q.1.1;
+    }
 
 pub returns : goal.returns
 returns c =

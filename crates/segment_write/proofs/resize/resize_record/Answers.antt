@@ -33,19 +33,25 @@ returns-then-size-gt-LONGEST c =
     let a = c.args in
     let s = a.segment.now in
     let v = a.inventory.now in
-    step_long s v a.id a.size (fit a.size) (sizes_here (goal.at.returns-then-size-gt-LONGEST c).Else-not-sizes_ok) (omega (arith, c.if-size-gt-LONGEST.true)) ∙ resize_is s v a.id a.size
+    step_long s v a.id a.size (fit a.size) (sizes_here (goal.at.returns-then-size-gt-LONGEST c).Else-not-sizes_ok)
+    (omega (arith, c.if-size-gt-LONGEST.true)) ∙ resize_is s v a.id a.size
 
 pub resize_slot-requires : goal.resize_slot-requires
 resize_slot-requires c =
     let a = c.args in
-    let s = a.segment.now in record { sizes = sizes s a.inventory.now (sizes_here (goal.at.resize_slot-requires c).Else-not-sizes_ok); root_is = root_is s a.id _ (root_here (goal.at.resize_slot-requires c).After-root_of-root _ c.in-Entry.is); size_bound = short (goal.at.resize_slot-requires c).After-root_of-root }
+    let s = a.segment.now in record {
+      sizes = sizes s a.inventory.now (sizes_here (goal.at.resize_slot-requires c).Else-not-sizes_ok);
+      root_is = root_is s a.id _ (root_here (goal.at.resize_slot-requires c).After-root_of-root _ c.in-Entry.is);
+      size_bound = short (goal.at.resize_slot-requires c).After-root_of-root;
+    }
 
 pub returns-in-NoPage : goal.returns-in-NoPage
 returns-in-NoPage c =
     let a = c.args in
     let s = a.segment.now in
     let v = a.inventory.now in
-    step_past s v a.id a.size (fit a.size) (sizes_here (goal.at.returns-in-NoPage c).Else-not-sizes_ok) (short (goal.at.returns-in-NoPage c).After-root_of-root) (root_here (goal.at.returns-in-NoPage c).After-root_of-root _ c.in-NoPage.is)
+    step_past s v a.id a.size (fit a.size) (sizes_here (goal.at.returns-in-NoPage c).Else-not-sizes_ok)
+    (short (goal.at.returns-in-NoPage c).After-root_of-root) (root_here (goal.at.returns-in-NoPage c).After-root_of-root _ c.in-NoPage.is)
     ∙ resize_is s v a.id a.size
 
 pub returns-in-Damaged : goal.returns-in-Damaged
@@ -53,7 +59,8 @@ returns-in-Damaged c =
     let a = c.args in
     let s = a.segment.now in
     let v = a.inventory.now in
-    step_damaged s v a.id a.size (fit a.size) (sizes_here (goal.at.returns-in-Damaged c).Else-not-sizes_ok) (short (goal.at.returns-in-Damaged c).After-root_of-root) (root_here (goal.at.returns-in-Damaged c).After-root_of-root _ c.in-Damaged.is)
+    step_damaged s v a.id a.size (fit a.size) (sizes_here (goal.at.returns-in-Damaged c).Else-not-sizes_ok)
+    (short (goal.at.returns-in-Damaged c).After-root_of-root) (root_here (goal.at.returns-in-Damaged c).After-root_of-root _ c.in-Damaged.is)
     ∙ resize_is s v a.id a.size
 
 pub returns-in-Entry : goal.returns-in-Entry
@@ -62,5 +69,6 @@ returns-in-Entry c =
     let s = a.segment.now in
     let v = a.inventory.now in
     c.resize_slot.ensures
-    ∙ step_by s v a.id a.size (fit a.size) (sizes_here (goal.at.returns-in-Entry c).Else-not-sizes_ok) (short (goal.at.returns-in-Entry c).After-root_of-root) _ (root_here (goal.at.returns-in-Entry c).After-root_of-root _ c.in-Entry.is)
+    ∙ step_by s v a.id a.size (fit a.size) (sizes_here (goal.at.returns-in-Entry c).Else-not-sizes_ok)
+    (short (goal.at.returns-in-Entry c).After-root_of-root) _ (root_here (goal.at.returns-in-Entry c).After-root_of-root _ c.in-Entry.is)
     ∙ resize_is s v a.id a.size

@@ -5,10 +5,18 @@ use Rattle.segment_write.proofs.Stored.{by_entry, by_free, by_target}
 use Rattle.segment_write.proofs.resize.resize_slot.Goals as goal
 
 pub resize_ordinary-requires : goal.resize_ordinary-requires
-resize_ordinary-requires c = record { sizes = c.requires.sizes; root_is = subst (RootIs c.args.segment.now c.args.id) c.in-Ordinary.is c.requires.root_is; size_bound = c.requires.size_bound }
+resize_ordinary-requires c = record {
+  sizes = c.requires.sizes;
+  root_is = subst (RootIs c.args.segment.now c.args.id) c.in-Ordinary.is c.requires.root_is;
+  size_bound = c.requires.size_bound;
+}
 
 pub resize_forwarded-requires : goal.resize_forwarded-requires
-resize_forwarded-requires c = record { sizes = c.requires.sizes; root_is = subst (RootIs c.args.segment.now c.args.id) c.in-Redirect.is c.requires.root_is; size_bound = c.requires.size_bound }
+resize_forwarded-requires c = record {
+  sizes = c.requires.sizes;
+  root_is = subst (RootIs c.args.segment.now c.args.id) c.in-Redirect.is c.requires.root_is;
+  size_bound = c.requires.size_bound;
+}
 
 pub returns-in-Ordinary : goal.returns-in-Ordinary
 returns-in-Ordinary c =

@@ -32,11 +32,24 @@ overflow_add-at c =
 
 pub overflow_add-at-2 : goal.overflow_add-at-2
 overflow_add-at-2 c =
-    omega (arith, c.off_of.ensures, (inside (goal.at.overflow_add-at-2 c).After-slot_on-s).0, (inside (goal.at.overflow_add-at-2 c).After-slot_on-s).1, c.requires.sound_on.whole)
+    omega (
+      arith,
+      c.off_of.ensures,
+      (inside (goal.at.overflow_add-at-2 c).After-slot_on-s).0,
+      (inside (goal.at.overflow_add-at-2 c).After-slot_on-s).1,
+      c.requires.sound_on.whole,
+    )
 
 pub save-requires : goal.save-requires
 save-requires c = (
-  omega (arith, c.off_of.ensures, c.len_of-n.ensures, (inside (goal.at.save-requires c).After-slot_on-s).0, (inside (goal.at.save-requires c).After-slot_on-s).1, c.requires.sound_on.whole),
+  omega (
+    arith,
+    c.off_of.ensures,
+    c.len_of-n.ensures,
+    (inside (goal.at.save-requires c).After-slot_on-s).0,
+    (inside (goal.at.save-requires c).After-slot_on-s).1,
+    c.requires.sound_on.whole,
+  ),
   omega (arith, c.len_of-n.ensures, (inside (goal.at.save-requires c).After-slot_on-s).1, c.requires.t_value.1),
 )
 
@@ -48,7 +61,14 @@ returns c =
     let at : ℕ = p * 16384 + c.off_of.result + 8 in
     let here = c.slot_on-s.result in (
       omega (arith, c.len_of-n.ensures, (inside (goal.at.returns c).After-slot_on-s).1),
-      saved s c.args.old.now at n (omega (arith, c.off_of.ensures, c.len_of-n.ensures, (inside (goal.at.returns c).After-slot_on-s).0, (inside (goal.at.returns c).After-slot_on-s).1, c.requires.sound_on.whole))
+      saved s c.args.old.now at n (omega (
+        arith,
+        c.off_of.ensures,
+        c.len_of-n.ensures,
+        (inside (goal.at.returns c).After-slot_on-s).0,
+        (inside (goal.at.returns c).After-slot_on-s).1,
+        c.requires.sound_on.whole,
+      ))
           (omega (arith, c.len_of-n.ensures, (inside (goal.at.returns c).After-slot_on-s).1, c.requires.t_value.1)) c.save.new.to c.save.ensures
           ∙ ap (λ (m : ℕ). cut s (p * 16384 + m + 8) n) c.off_of.ensures
           ∙ ap (λ (m : ℕ). cut s (p * 16384 + off here + 8) (m - 8)) c.len_of-n.ensures

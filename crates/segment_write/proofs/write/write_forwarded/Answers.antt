@@ -69,7 +69,11 @@ pub at_home-requires : goal.at_home-requires
 at_home-requires c =
     let a = c.args in
     let bs = a.bytes.now in
-    let free = ((seg_view a.segment.now).page (page_no a.id)).free_space in record { sizes = c.requires.sizes; follows = follows (goal.at.at_home-requires c).After-fits_home; size_bound = leb-true (length bs) free (sym c.fits_home.ensures ∙ c.if-fits_home.true) }
+    let free = ((seg_view a.segment.now).page (page_no a.id)).free_space in record {
+      sizes = c.requires.sizes;
+      follows = follows (goal.at.at_home-requires c).After-fits_home;
+      size_bound = leb-true (length bs) free (sym c.fits_home.ensures ∙ c.if-fits_home.true);
+    }
 
 pub returns-then-fits_home : goal.returns-then-fits_home
 returns-then-fits_home c =
@@ -84,23 +88,36 @@ returns-then-fits_home c =
 
 pub rewrite_target_on-requires : goal.rewrite_target_on-requires
 rewrite_target_on-requires c =
-    record { taken_on = back_taken c.args.segment.now c.args.id c.args.t (follows (goal.at.rewrite_target_on-requires c).After-fits_home).back; bytes_len_bound = c.requires.bytes_len_bound }
+    record {
+      taken_on = back_taken c.args.segment.now c.args.id c.args.t (follows (goal.at.rewrite_target_on-requires c).After-fits_home).back;
+      bytes_len_bound = c.requires.bytes_len_bound;
+    }
 
 pub update_on-requires : goal.update_on-requires
-update_on-requires c = let q = told_asks c.args.segment.now _ _ _ _ _ (moved_there (goal.at.update_on-requires c).Then-rewrite_target_on) c.args.inventory.now c.requires.sizes in record { room = q.0; within = q.1 }
+update_on-requires c = let q = told_asks c.args.segment.now _ _ _ _ _ (moved_there (goal.at.update_on-requires c).Then-rewrite_target_on)
+    c.args.inventory.now c.requires.sizes in record {
+      room = q.0;
+      within = q.1;
+    }
 
 pub returns-then-rewrite_target_on : goal.returns-then-rewrite_target_on
 returns-then-rewrite_target_on c =
     let a = c.args in
     let s = a.segment.now in
     let bs = a.bytes.now in
-    by_stay s a.inventory.now a.id (length bs) (λ old. bs) a.t (follows (goal.at.returns-then-rewrite_target_on c).After-fits_home) (far (goal.at.returns-then-rewrite_target_on c).Else-fits_home)
+    by_stay s a.inventory.now a.id (length bs) (λ old. bs) a.t (follows (goal.at.returns-then-rewrite_target_on c).After-fits_home)
+    (far (goal.at.returns-then-rewrite_target_on c).Else-fits_home)
     c.rewrite_target_on.new.segment _ (moved_there (goal.at.returns-then-rewrite_target_on c).Then-rewrite_target_on) c.update_on.ensures
 
 pub forward_again-requires : goal.forward_again-requires
 forward_again-requires c =
-    let a = c.args in let q = subst (λ (l : List ℕ). Sizes l a.inventory.now × (Follows l a.id a.t × (length a.bytes.now ≤ 16364))) (sym (same_there (goal.at.forward_again-requires c).Else-rewrite_target_on))
-    (c.requires.sizes, (follows (goal.at.forward_again-requires c).After-fits_home, c.requires.bytes_len_bound)) in record { sizes = q.0; follows = q.1.0; size_bound = q.1.1 }
+    let a = c.args in let q = subst (λ (l : List ℕ). Sizes l a.inventory.now × (Follows l a.id a.t × (length a.bytes.now ≤ 16364)))
+    (sym (same_there (goal.at.forward_again-requires c).Else-rewrite_target_on))
+    (c.requires.sizes, (follows (goal.at.forward_again-requires c).After-fits_home, c.requires.bytes_len_bound)) in record {
+      sizes = q.0;
+      follows = q.1.0;
+      size_bound = q.1.1;
+    }
 
 pub returns : goal.returns
 returns c =

@@ -39,7 +39,11 @@ same_here c =
     step.new.segment step.ensures.0 step.result step.ensures.1 c.if-rewrite_on.false
 
 pub update_on-requires : goal.update_on-requires
-update_on-requires c = let q = told_asks c.args.segment.now _ _ _ _ _ (moved_here (goal.at.update_on-requires c).Then-rewrite_on) c.args.inventory.now c.requires.sizes in record { room = q.0; within = q.1 }
+update_on-requires c = let q = told_asks c.args.segment.now _ _ _ _ _ (moved_here (goal.at.update_on-requires c).Then-rewrite_on) c.args.inventory.now
+    c.requires.sizes in record {
+      room = q.0;
+      within = q.1;
+    }
 
 pub returns-then-rewrite_on : goal.returns-then-rewrite_on
 returns-then-rewrite_on c =
@@ -51,7 +55,11 @@ returns-then-rewrite_on c =
 pub forward-requires : goal.forward-requires
 forward-requires c =
     let a = c.args in let q = subst (λ (l : List ℕ). Sizes l a.inventory.now × (TakenOn l (page_no a.id) (slot_no a.id) × (length a.bytes.now ≤ 16364)))
-    (sym (same_here (goal.at.forward-requires c).Else-rewrite_on)) (c.requires.sizes, (c.requires.taken_on, c.requires.id_value.1)) in record { sizes = q.0; taken_on = q.1.0; size_bound = q.1.1 }
+    (sym (same_here (goal.at.forward-requires c).Else-rewrite_on)) (c.requires.sizes, (c.requires.taken_on, c.requires.id_value.1)) in record {
+      sizes = q.0;
+      taken_on = q.1.0;
+      size_bound = q.1.1;
+    }
 
 pub returns : goal.returns
 returns c =

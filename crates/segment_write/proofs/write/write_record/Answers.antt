@@ -35,12 +35,17 @@ returns-then-bytes-gt-LONGEST c =
     let s = a.segment.now in
     let v = a.inventory.now in
     let bs = a.bytes.now in
-    step_long s v a.id (length bs) (λ old. bs) (sizes_here (goal.at.returns-then-bytes-gt-LONGEST c).Else-not-sizes_ok) (omega (arith, c.if-bytes-gt-LONGEST.true)) ∙ write_is s v a.id bs
+    step_long s v a.id (length bs) (λ old. bs) (sizes_here (goal.at.returns-then-bytes-gt-LONGEST c).Else-not-sizes_ok)
+    (omega (arith, c.if-bytes-gt-LONGEST.true)) ∙ write_is s v a.id bs
 
 pub write_slot-requires : goal.write_slot-requires
 write_slot-requires c =
     let a = c.args in
-    let s = a.segment.now in record { sizes = sizes s a.inventory.now (sizes_here (goal.at.write_slot-requires c).Else-not-sizes_ok); root_is = root_is s a.id _ (root_here (goal.at.write_slot-requires c).After-root_of-root _ c.in-Entry.is); bytes_len_bound = short (goal.at.write_slot-requires c).After-root_of-root }
+    let s = a.segment.now in record {
+      sizes = sizes s a.inventory.now (sizes_here (goal.at.write_slot-requires c).Else-not-sizes_ok);
+      root_is = root_is s a.id _ (root_here (goal.at.write_slot-requires c).After-root_of-root _ c.in-Entry.is);
+      bytes_len_bound = short (goal.at.write_slot-requires c).After-root_of-root;
+    }
 
 pub returns-in-NoPage : goal.returns-in-NoPage
 returns-in-NoPage c =
@@ -48,7 +53,8 @@ returns-in-NoPage c =
     let s = a.segment.now in
     let v = a.inventory.now in
     let bs = a.bytes.now in
-    step_past s v a.id (length bs) (λ old. bs) (sizes_here (goal.at.returns-in-NoPage c).Else-not-sizes_ok) (short (goal.at.returns-in-NoPage c).After-root_of-root) (root_here (goal.at.returns-in-NoPage c).After-root_of-root _ c.in-NoPage.is)
+    step_past s v a.id (length bs) (λ old. bs) (sizes_here (goal.at.returns-in-NoPage c).Else-not-sizes_ok)
+    (short (goal.at.returns-in-NoPage c).After-root_of-root) (root_here (goal.at.returns-in-NoPage c).After-root_of-root _ c.in-NoPage.is)
     ∙ write_is s v a.id bs
 
 pub returns-in-Damaged : goal.returns-in-Damaged
@@ -57,7 +63,8 @@ returns-in-Damaged c =
     let s = a.segment.now in
     let v = a.inventory.now in
     let bs = a.bytes.now in
-    step_damaged s v a.id (length bs) (λ old. bs) (sizes_here (goal.at.returns-in-Damaged c).Else-not-sizes_ok) (short (goal.at.returns-in-Damaged c).After-root_of-root) (root_here (goal.at.returns-in-Damaged c).After-root_of-root _ c.in-Damaged.is)
+    step_damaged s v a.id (length bs) (λ old. bs) (sizes_here (goal.at.returns-in-Damaged c).Else-not-sizes_ok)
+    (short (goal.at.returns-in-Damaged c).After-root_of-root) (root_here (goal.at.returns-in-Damaged c).After-root_of-root _ c.in-Damaged.is)
     ∙ write_is s v a.id bs
 
 pub returns-in-Entry : goal.returns-in-Entry
@@ -67,5 +74,6 @@ returns-in-Entry c =
     let v = a.inventory.now in
     let bs = a.bytes.now in
     c.write_slot.ensures
-    ∙ step_by s v a.id (length bs) (λ old. bs) (sizes_here (goal.at.returns-in-Entry c).Else-not-sizes_ok) (short (goal.at.returns-in-Entry c).After-root_of-root) _ (root_here (goal.at.returns-in-Entry c).After-root_of-root _ c.in-Entry.is)
+    ∙ step_by s v a.id (length bs) (λ old. bs) (sizes_here (goal.at.returns-in-Entry c).Else-not-sizes_ok)
+    (short (goal.at.returns-in-Entry c).After-root_of-root) _ (root_here (goal.at.returns-in-Entry c).After-root_of-root _ c.in-Entry.is)
     ∙ write_is s v a.id bs

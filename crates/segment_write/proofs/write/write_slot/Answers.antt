@@ -9,10 +9,18 @@ use Rattle.segment_write.proofs.write.write_slot.Goals as goal
 pub write_ordinary-requires : goal.write_ordinary-requires
 write_ordinary-requires c =
     let a = c.args in
-    let e = c.in-Ordinary.is in record { sizes = c.requires.sizes; taken_on = root_taken a.segment.now a.id a.slot c.requires.root_is (ap is_free e); id_value = (ap is_target (c.requires.root_is.entry ∙ e), c.requires.bytes_len_bound) }
+    let e = c.in-Ordinary.is in record {
+      sizes = c.requires.sizes;
+      taken_on = root_taken a.segment.now a.id a.slot c.requires.root_is (ap is_free e);
+      id_value = (ap is_target (c.requires.root_is.entry ∙ e), c.requires.bytes_len_bound);
+    }
 
 pub write_forwarded-requires : goal.write_forwarded-requires
-write_forwarded-requires c = record { sizes = c.requires.sizes; root_is = subst (RootIs c.args.segment.now c.args.id) c.in-Redirect.is c.requires.root_is; bytes_len_bound = c.requires.bytes_len_bound }
+write_forwarded-requires c = record {
+  sizes = c.requires.sizes;
+  root_is = subst (RootIs c.args.segment.now c.args.id) c.in-Redirect.is c.requires.root_is;
+  bytes_len_bound = c.requires.bytes_len_bound;
+}
 
 pub returns-in-Ordinary : goal.returns-in-Ordinary
 returns-in-Ordinary c =
