@@ -5,17 +5,8 @@ use Rattle.page_check.specs.Map.{Clear}
 use Rattle.page_check.proofs.SlotLaws.{tells_no}
 use Rattle.page_check.proofs.MapLaws.{mask_of, mask_and}
 use Rattle.page_repair.proofs.BitLaws.{clear_more, not_clear, clear_word}
-use Rattle.page_repair.proofs.marks.is_clear.Goals.{After-loop-i, After-shared_slice_known-in-loop-i-1, At-loop-i, Start}
 use Rattle.page_repair.proofs.marks.is_clear.Goals as goal
 
--- ---- the places: a turn begins, its word is read
-abbrev entry : At-loop-i → Start
-entry c = (goal.at.At-loop-i c).Start
-
-abbrev turn : After-shared_slice_known-in-loop-i-1 → At-loop-i
-turn c = (goal.at.After-shared_slice_known-in-loop-i-1 c).At-loop-i
-
--- ---- the needs
 pub loop-i-init : goal.loop-i-init
 loop-i-init c =
     record {
@@ -30,16 +21,16 @@ loop-i-init c =
 
 pub returns-then-used-i-ne0 : goal.returns-then-used-i-ne0
 returns-then-used-i-ne0 c =
-    let at = (turn (goal.at.returns-then-used-i-ne0 c).After-shared_slice_known-in-loop-i-1).loop-i in
-    let a = (entry (turn (goal.at.returns-then-used-i-ne0 c).After-shared_slice_known-in-loop-i-1)).args in
+    let at = c.loop-i in
+    let a = c.args in
     let v = at.invariant in
     tells_no (not_clear a.used.now a.o at.i v.b 64 at.m v.mask (omega arith) (omega arith) v.begun a.end (omega arith)
     (λ e. c.if-used-i-ne0.true e))
 
 pub loop-i-preserved : goal.loop-i-preserved
 loop-i-preserved c =
-    let at = (turn (goal.at.loop-i-preserved c).After-shared_slice_known-in-loop-i-1).loop-i in
-    let a = (entry (turn (goal.at.loop-i-preserved c).After-shared_slice_known-in-loop-i-1)).args in
+    let at = c.loop-i in
+    let a = c.args in
     let v = at.invariant in
     let q : 64 * at.i + 64 ≡ 64 * (at.i + 1) + 0 = omega arith in
     record {
@@ -55,9 +46,8 @@ loop-i-preserved c =
 
 pub returns : goal.returns
 returns c =
-    let left = (goal.at.returns c).After-loop-i in
-    let at = left.loop-i in
-    let a = (entry (goal.at.After-loop-i left).At-loop-i).args in
+    let at = c.loop-i in
+    let a = c.args in
     let v = at.invariant in
     let last = (a.end - 1) / 64 in
     let b = (a.end - 1) % 64 + 1 in
