@@ -9,7 +9,7 @@ use lib.ListN.{length, drop, length-take}
 use Rattle.store.specs.Numbers.{cut, to_be}
 use Rattle.store.specs.Refusals.{DONE, LONG}
 use Rattle.store.specs.Segment.{size_ok, inv_ok, Result}
-use Rattle.store.specs.Segment.{inserted, insert_step}
+use Rattle.store.specs.Segment.{insert_step}
 use Rattle.store.specs.ManyRows.{Rows, no_row, and_row, insert_all}
 use Rattle.store.specs.Answers.{answer_no, outcome}
 use Rattle.store.specs.Calls.{insert}

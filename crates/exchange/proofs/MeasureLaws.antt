@@ -46,7 +46,7 @@ module _ (p : List ℕ) (whole : length p ≡ 16384) (ok : sound (view p) ≡ tr
         let x = part_of_slot ((view p).at k) in
         ap length (left.file_next p whole ok k counted) ∙ length-append (part_file p x) (left.file_from (view p) (k + 1))
         ∙ ap (λ (n : ℕ). n + length (left.file_from (view p) (k + 1)))
-        (left.part_length p x (part_lies p whole ok k counted) ∙ sym (ap part_length is))
+        (left.part_length_lem p x (part_lies p whole ok k counted) ∙ sym (ap part_length is))
 
     next_passed : left.passed_from (view p) k ≡ part_passed a + left.passed_from (view p) (k + 1)
     next_passed = left.passed_next p whole ok k counted ∙ ap (λ (x : Part). part_passed x + left.passed_from (view p) (k + 1)) (sym is)
