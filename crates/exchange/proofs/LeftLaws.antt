@@ -18,7 +18,8 @@ use Rattle.store.proofs.Laws.Writes.{length_cut}
 use Rattle.store.specs.declared.Slot.{Slot}
 use Rattle.store.specs.declared.Slot.TheVariants.{Ordinary, Free, Redirect, Target}
 use Rattle.exchange.specs.Exchange.{file_record, file_of, passed_over}
-use Rattle.exchange.specs.Words.{part_at, part_of_slot, part_length, part_file, part_passed, part_rows, OnPage, page_readings, page_file, page_passed, segment_file}
+use Rattle.exchange.specs.Words.{part_at, part_of_slot, part_length, part_file, part_passed, part_rows, OnPage, page_readings, page_file, page_passed}
+use Rattle.exchange.specs.Words.{segment_file}
 use Rattle.exchange.specs.Laws.Files.{file_append, passed_append}
 use Rattle.exchange.specs.Laws.Left as left
 use Rattle.exchange.specs.Laws.Room.{record_length}

@@ -17,7 +17,8 @@ right c = sym c.is_segment.ensures ∙ c.if-not-is_segment.false
 
 pub returns-then-not-m : goal.returns-then-not-m
 returns-then-not-m c =
-    sym (on_damage c.args.segment.now c.args.file.now (right (goal.at.returns-then-not-m c).Else-not-is_segment) (sym c.measure_segment-m.ensures.sound ∙ not-true _ c.if-not-m.true))
+    sym (on_damage c.args.segment.now c.args.file.now (right (goal.at.returns-then-not-m c).Else-not-is_segment)
+    (sym c.measure_segment-m.ensures.sound ∙ not-true _ c.if-not-m.true))
 
 -- all pages are sound, and the numbers are right
 module _ (c : Else-not-m) where
@@ -33,11 +34,15 @@ returns-then-file-length c =
     let l = told.length (sounds (goal.at.returns-then-file-length c).Else-not-m) in
     let n = told.passed (sounds (goal.at.returns-then-file-length c).Else-not-m) in
     (λ i. record { answer = ROOM; length = l i; passed = n i; place = c.args.file.now })
-    ∙ sym (on_room c.args.segment.now c.args.file.now (right (goal.at.returns-then-file-length c).Else-not-is_segment) (all_sound_lem (goal.at.returns-then-file-length c).Else-not-m) (omega arith))
+    ∙ sym (on_room c.args.segment.now c.args.file.now (right (goal.at.returns-then-file-length c).Else-not-is_segment)
+    (all_sound_lem (goal.at.returns-then-file-length c).Else-not-m) (omega arith))
 
 pub write_file-requires : goal.write_file-requires
 write_file-requires c =
-    record { segment_value = (right (goal.at.write_file-requires c).Else-not-is_segment, all_sound_lem (goal.at.write_file-requires c).Else-not-m); segment_in_bounds = omega (arith, c.measure_segment-m.ensures.length (sounds (goal.at.write_file-requires c).Else-not-m)) }
+    record {
+      segment_value = (right (goal.at.write_file-requires c).Else-not-is_segment, all_sound_lem (goal.at.write_file-requires c).Else-not-m);
+      segment_in_bounds = omega (arith, c.measure_segment-m.ensures.length (sounds (goal.at.write_file-requires c).Else-not-m));
+    }
 
 pub shape_of-file : goal.shape_of-file
 shape_of-file c = c.write_file.auto.file
@@ -48,7 +53,8 @@ returns c =
     let l = told.length (sounds (goal.at.returns c).Else-not-m) in
     let n = told.passed (sounds (goal.at.returns c).Else-not-m) in
     (λ i. record { answer = DONE; length = l i; passed = n i; place = c.write_file.ensures i })
-    ∙ sym (on_done c.args.segment.now c.args.file.now (right (goal.at.returns c).Else-not-is_segment) (all_sound_lem (goal.at.returns c).Else-not-m) (omega arith))
+    ∙ sym (on_done c.args.segment.now c.args.file.now (right (goal.at.returns c).Else-not-is_segment) (all_sound_lem (goal.at.returns c).Else-not-m)
+    (omega arith))
 
 pub measure_segment-m-requires : goal.measure_segment-m-requires
 measure_segment-m-requires c = right (goal.at.measure_segment-m-requires c).Else-not-is_segment

@@ -36,7 +36,10 @@ returns-then-not-sizes_ok c =
 
 pub insert_file-requires : goal.insert_file-requires
 insert_file-requires c =
-    record { inventory_value = sizes_here (goal.at.insert_file-requires c).After-read_through; file_value = sym (fault_here (goal.at.insert_file-requires c).After-read_through Whole c.in-Whole.is) }
+    record {
+      inventory_value = sizes_here (goal.at.insert_file-requires c).After-read_through;
+      file_value = sym (fault_here (goal.at.insert_file-requires c).After-read_through Whole c.in-Whole.is);
+    }
 
 pub returns-in-Whole : goal.returns-in-Whole
 returns-in-Whole c =

@@ -53,14 +53,19 @@ insert_headed-answer-requires c =
     let i = c.loop-head.invariant in
     record {
       inventory_value = i.sizes;
-      bytes_len_bound = omega (arith, length-take (c.in-Record.end - c.in-Record.data) (drop c.in-Record.data c.args.file.now), (inside (goal.at.insert_headed-answer-requires c).In-Record).short);
+      bytes_len_bound = omega (
+        arith,
+        length-take (c.in-Record.end - c.in-Record.data) (drop c.in-Record.data c.args.file.now),
+        (inside (goal.at.insert_headed-answer-requires c).In-Record).short,
+      );
       known_sound = i.known;
     }
 
 -- the record's answer is what the definition gives for it
 is_step : (c : After-insert_headed-answer) →
     outcome c.insert_headed-answer.result c.insert_headed-answer.new.segment c.insert_headed-answer.new.inventory
-    ≡ insert_step c.loop-head.segment c.loop-head.inventory (to_be 8 c.in-Record.head ++ cut c.args.file.now c.in-Record.data (c.in-Record.end - c.in-Record.data))
+    ≡ insert_step c.loop-head.segment c.loop-head.inventory (to_be 8 c.in-Record.head ++ cut c.args.file.now c.in-Record.data
+    (c.in-Record.end - c.in-Record.data))
 is_step c = c.insert_headed-answer.ensures.0
 
 pub returns-in_default-answer : goal.returns-in_default-answer
@@ -68,7 +73,8 @@ returns-in_default-answer c =
     let i = c.loop-head in
     let a = c.args in
     left_stop a.segment.now a.inventory.now c.args.file.now i.segment i.inventory i.known i.at i.k i.invariant c.in-Record.head c.in-Record.data c.in-Record.end
-    (stands (goal.at.returns-in_default-answer c).In-Record) (inside (goal.at.returns-in_default-answer c).In-Record) _ _ c.insert_headed-answer.result (is_step (goal.at.returns-in_default-answer c).After-insert_headed-answer) (not_done c.insert_headed-answer.result c.in_default-answer.not-Done)
+    (stands (goal.at.returns-in_default-answer c).In-Record) (inside (goal.at.returns-in_default-answer c).In-Record) _ _ c.insert_headed-answer.result
+    (is_step (goal.at.returns-in_default-answer c).After-insert_headed-answer) (not_done c.insert_headed-answer.result c.in_default-answer.not-Done)
 
 pub loop-head-smaller : goal.loop-head-smaller
 loop-head-smaller c = let i = inside (goal.at.loop-head-smaller c).In-Record in omega arith
@@ -80,7 +86,9 @@ loop-head-preserved c =
     let s = c.insert_headed-answer.new.segment in
     let v = c.insert_headed-answer.new.inventory in
     left_next a.segment.now a.inventory.now c.args.file.now i.segment i.inventory i.known i.at i.k i.invariant c.in-Record.head c.in-Record.data c.in-Record.end
-    (stands (goal.at.loop-head-preserved c).In-Record) (inside (goal.at.loop-head-preserved c).In-Record) s v _ (ap (λ (r : Answer). outcome r s v) (sym c.in-Done.is) ∙ is_step (goal.at.loop-head-preserved c).After-insert_headed-answer) _ c.insert_headed-answer.ensures.1
+    (stands (goal.at.loop-head-preserved c).In-Record) (inside (goal.at.loop-head-preserved c).In-Record) s v _
+    (ap (λ (r : Answer). outcome r s v) (sym c.in-Done.is) ∙ is_step (goal.at.loop-head-preserved c).After-insert_headed-answer) _
+    c.insert_headed-answer.ensures.1
 
 pub shape_of-segment-in_default-answer : goal.shape_of-segment-in_default-answer
 shape_of-segment-in_default-answer c = c.insert_headed-answer.auto.segment ∙ c.loop-head.invariant.seg_long

@@ -1,6 +1,7 @@
 -- What stands first in a file, in the promises' words; and what is written of a record is read. For all lists of numbers, bytes or not.
 use Rattle.std.specs.Prelude.{ℕ, ◌+◌, ◌-◌, ◌≡◌, refl, List, [], ◌∷◌, ◌++◌, length, take, drop}
-use Rattle.std.proofs.Common.{sym, ap, ◌∙◌, append_assoc, inl, inr, arith, length-append, length-drop, take-append-drop, length-take-le, drop-drop, take_at, drop_at}
+use Rattle.std.proofs.Common.{sym, ap, ◌∙◌, append_assoc, inl, inr, arith, length-append, length-drop, take-append-drop, length-take-le, drop-drop, take_at}
+use Rattle.std.proofs.Common.{drop_at}
 use Rattle.store.specs.Numbers.{cut, be, to_be}
 use Rattle.store.proofs.Laws.Numbers.{be_to_be}
 use Rattle.exchange.specs.Exchange.{wrong, holds, and_record, data_length, first_record, behind}

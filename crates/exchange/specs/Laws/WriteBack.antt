@@ -1,7 +1,8 @@
 -- Every file, taken apart: the records that are read, and behind them its end or the record that is refused. A file of bytes is what is written of
 -- its records.
 use Rattle.std.specs.Prelude.{ℕ, zero, suc, ◌+◌, ◌-◌, ◌≤◌, ◌<◌, ◌≡◌, refl, Bool, true, false, List, [], ◌∷◌, ◌++◌, ◌⊎◌, length, drop, get_or, eqb}
-use Rattle.std.proofs.Common.{sym, ap, ◌∙◌, subst, append_assoc, inl, inr, ⊎_elim, arith, length-append, length-drop, take-append-drop, length-take-le, drop-drop, drop-cons, take_at, drop_at}
+use Rattle.std.proofs.Common.{sym, ap, ◌∙◌, subst, append_assoc, inl, inr, ⊎_elim, arith, length-append, length-drop, take-append-drop, length-take-le}
+use Rattle.std.proofs.Common.{drop-drop, drop-cons, take_at, drop_at}
 use Rattle.store.specs.Numbers.{Bytes, cut, to_be}
 use Rattle.store.specs.Refusals.{LONG}
 use Rattle.store.proofs.Laws.Cases.{lt_or_le, tests}

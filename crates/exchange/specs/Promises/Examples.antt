@@ -125,7 +125,8 @@ pub imports : List (List ℕ)
 imports = told (in_one (record7 3 16356 (zeros 16356))) ∷ told (in_one (A ++ (record7 3 12263 (zeros 12263) ++ A))) ∷ []
 
 pub example_8_9 : imports ≡ (0 ∷ 1 ∷ 1 ∷ 1 ∷ 20 ∷ 0 ∷ []) ∷ (7 ∷ 1 ∷ 1 ∷ 1 ∷ 0x3FF5 ∷ 0x3FE1 ∷ []) ∷ []
-unfolding imports in_one told parse fresh_pages all_seen sound compactify allocate class_of nibble_at set_nibble entry_at set_entry first_from next_page run_end set_from
+unfolding imports in_one told parse fresh_pages all_seen sound compactify allocate class_of nibble_at set_nibble entry_at set_entry first_from next_page
+    run_end set_from
     pulled_back moved_on updated update found_in find insert_plan
 example_8_9 = refl
 
@@ -136,7 +137,8 @@ on_ten u = export_seen u (replicate 30 0xEE) ∷ export_seen u (replicate 26 0xE
 pub example_10_11 : on_ten (all_seen (fresh_pages 2) (zeros 16384) (first_record A ∷ zeros 7 ∷ first_record B ∷ [])).seen
     ≡ record { answer = 0; length = 27; passed = 1; place = A ++ (B ++ replicate 3 0xEE) }
     ∷ record { answer = 11; length = 27; passed = 1; place = replicate 26 0xEE } ∷ []
-unfolding on_ten export_seen fresh_pages all_seen sound compactify allocate class_of nibble_at set_nibble entry_at set_entry first_from next_page run_end set_from
+unfolding on_ten export_seen fresh_pages all_seen sound compactify allocate class_of nibble_at set_nibble entry_at set_entry first_from next_page run_end
+    set_from
     pulled_back moved_on updated update found_in find insert_plan
 example_10_11 = refl
 
@@ -159,7 +161,8 @@ begins r = r.answer ∷ r.length ∷ r.passed ∷ cut r.place 0 12 ++ (cut r.pla
 pub example_13 : begins (export_seen moved (zeros 33012))
     ≡ 0 ∷ 33012 ∷ 0 ∷ (0x52 ∷ 0x54 ∷ replicate 8 0x11 ++ to_be 2 15992)
     ++ ((0x52 ∷ 0x54 ∷ replicate 8 0x11 ++ to_be 2 11992) ++ (0x52 ∷ 0x54 ∷ replicate 8 0x22 ++ (0x13 ∷ 0x80 ∷ [])))
-unfolding begins moved stored written export_seen start did then sound compactify allocate erase_for_redirect relocate class_of nibble_at set_nibble entry_at set_entry
+unfolding begins moved stored written export_seen start did then sound compactify allocate erase_for_redirect relocate class_of nibble_at set_nibble
+    entry_at set_entry
     first_from next_page run_end set_from pulled_back moved_on updated update found_in find insert_plan store_plan root_of
 example_13 = refl
 
@@ -172,6 +175,8 @@ pub again : Export → List ℕ
 again r = r.answer ∷ r.length ∷ r.passed ∷ told (in_one (file_written r))
 
 pub example_14_15 : again (export_seen grown (zeros 12290)) ≡ 0 ∷ 12290 ∷ 0 ∷ 7 ∷ 1 ∷ 1 ∷ 1 ∷ 0x3FF5 ∷ 0x3FE1 ∷ []
-unfolding again grown stored written in_one told export_seen parse start did then fresh_pages all_seen sound compactify allocate erase_for_redirect relocate class_of
-    nibble_at set_nibble entry_at set_entry first_from next_page run_end set_from pulled_back moved_on updated update found_in find insert_plan store_plan root_of
+unfolding again grown stored written in_one told export_seen parse start did then fresh_pages all_seen sound compactify allocate erase_for_redirect
+    relocate class_of
+    nibble_at set_nibble entry_at set_entry first_from next_page run_end set_from pulled_back moved_on updated update found_in find insert_plan store_plan
+    root_of
 example_14_15 = refl

@@ -145,7 +145,8 @@ cases =
 
 -- all of their records went in
 all_seen_lem : map (λ (c : Case). (seen_on c.records).answer) cases ≡ map (λ (c : Case). DONE) cases
-unfolding cases seen_on fresh_pages all_seen sound compactify allocate class_of nibble_at set_nibble entry_at set_entry first_from next_page run_end set_from pulled_back
+unfolding cases seen_on fresh_pages all_seen sound compactify allocate class_of nibble_at set_nibble entry_at set_entry first_from next_page run_end
+    set_from pulled_back
     moved_on updated update found_in find insert_plan
 all_seen_lem = refl
 
@@ -154,7 +155,8 @@ all_inserted = (λ i. map (λ (c : Case). (inserted_seen c.records i).answer) ca
 
 -- and each is answered so
 cases_seen : map (λ (c : Case). cleared_seen (seen_on c.records).seen c.mirror c.rows c.edition) cases ≡ map (λ (c : Case). c.want) cases
-unfolding cases cleared_seen seen_on whole fresh_pages all_seen sound compactify allocate class_of nibble_at set_nibble entry_at set_entry first_from next_page run_end
+unfolding cases cleared_seen seen_on whole fresh_pages all_seen sound compactify allocate class_of nibble_at set_nibble entry_at set_entry first_from
+    next_page run_end
     set_from pulled_back moved_on updated update found_in find insert_plan
 cases_seen = refl
 
@@ -164,7 +166,8 @@ worked = (λ i. map (λ (c : Case). page_cleared c.records i c.mirror c.rows c.e
 -- ---- "1: 0 1; 2: 0 1 1, then (0,4) erased"
 
 -- an erase, as far as it is seen
-erase_seen : (s v : List ℕ) (i : ℕ) → (size_ok s && inv_ok v) ≡ true → seg_view (erase_step s v i).seg ≡ settled (erase_plan (seg_view s) v i).steps (seg_view s)
+erase_seen : (s v : List ℕ) (i : ℕ) → (size_ok s && inv_ok v) ≡ true
+    → seg_view (erase_step s v i).seg ≡ settled (erase_plan (seg_view s) v i).steps (seg_view s)
 unfolding erase_step result
 erase_seen s v i h = rw h (carried_seen (erase_plan (seg_view s) v i).steps s (erase_call_exact s v i))
 
@@ -175,7 +178,8 @@ abbrev pub five : List (List ℕ)
 five = reading7 1 (0 ∷ 1 ∷ []) ++ reading7 2 (0 ∷ 1 ∷ 1 ∷ [])
 
 seven_seen : cleared_seen (seen_on five).seen 7 2 1 ∷ cleared_seen (without_four (seen_on five)) 7 2 1 ∷ [] ≡ No ∷ Yes ∷ []
-unfolding without_four cleared_seen seen_on whole fresh_pages all_seen sound compactify allocate erase class_of nibble_at set_nibble entry_at set_entry first_from next_page
+unfolding without_four cleared_seen seen_on whole fresh_pages all_seen sound compactify allocate erase class_of nibble_at set_nibble entry_at set_entry
+    first_from next_page
     run_end set_from pulled_back moved_on updated update found_in find insert_plan erase_plan root_of
 seven_seen = refl
 

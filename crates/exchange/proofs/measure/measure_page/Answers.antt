@@ -33,13 +33,15 @@ is c = c.part_of.ensures ∙ ap part_of_slot c.get_slot.ensures.0
 pub with_part-m-requires : goal.with_part-m-requires
 with_part-m-requires c =
     let pre = c.requires in
-    measured_room _ pre.0 pre.1 c.loop-k.k c.loop-k.m c.loop-k.invariant.1 (counted (goal.at.with_part-m-requires c).In-loop-k) _ (is (goal.at.with_part-m-requires c).After-part_of)
+    measured_room _ pre.0 pre.1 c.loop-k.k c.loop-k.m c.loop-k.invariant.1 (counted (goal.at.with_part-m-requires c).In-loop-k) _
+    (is (goal.at.with_part-m-requires c).After-part_of)
 
 pub loop-k-preserved : goal.loop-k-preserved
 loop-k-preserved c =
     let pre = c.requires in (
       omega arith,
-      measured_next _ pre.0 pre.1 c.loop-k.k c.loop-k.m c.loop-k.invariant.1 (counted (goal.at.loop-k-preserved c).In-loop-k) _ (is (goal.at.loop-k-preserved c).After-part_of) _
+      measured_next _ pre.0 pre.1 c.loop-k.k c.loop-k.m c.loop-k.invariant.1 (counted (goal.at.loop-k-preserved c).In-loop-k) _
+          (is (goal.at.loop-k-preserved c).After-part_of) _
           c.with_part-m.ensures,
     )
 

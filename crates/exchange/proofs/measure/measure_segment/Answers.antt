@@ -25,7 +25,8 @@ told c = c.is_sound.ensures ∙ ap (λ (q : List ℕ). sound (view q)) c.page_of
 
 pub returns-then-not-is_sound : goal.returns-then-not-is_sound
 returns-then-not-is_sound c =
-    pages_stop (segment (goal.at.returns-then-not-is_sound c).At-loop-p) c.loop-p.p _ _ (omega arith) (sym (told (goal.at.returns-then-not-is_sound c).After-is_sound) ∙ c.if-not-is_sound.true)
+    pages_stop (segment (goal.at.returns-then-not-is_sound c).At-loop-p) c.loop-p.p _ _ (omega arith)
+    (sym (told (goal.at.returns-then-not-is_sound c).After-is_sound) ∙ c.if-not-is_sound.true)
 
 pub measure_page-m-requires : goal.measure_page-m-requires
 measure_page-m-requires c = (long (goal.at.measure_page-m-requires c).After-page_of-page, sym c.is_sound.ensures ∙ c.if-not-is_sound.false)
@@ -42,7 +43,8 @@ overflow_add-passed c =
 pub loop-p-preserved : goal.loop-p-preserved
 loop-p-preserved c = (
   omega arith,
-  pages_next (segment (goal.at.loop-p-preserved c).At-loop-p) c.loop-p.p _ _ c.loop-p.invariant.1 (omega arith) (sym (told (goal.at.loop-p-preserved c).After-is_sound) ∙ c.if-not-is_sound.false) _
+  pages_next (segment (goal.at.loop-p-preserved c).At-loop-p) c.loop-p.p _ _ c.loop-p.invariant.1 (omega arith)
+      (sym (told (goal.at.loop-p-preserved c).After-is_sound) ∙ c.if-not-is_sound.false) _
       (subst (λ (q : List ℕ). PageSums (opened (view q)) c.measure_page-m.result) c.page_of-page.ensures
       c.measure_page-m.ensures),
 )

@@ -43,12 +43,20 @@ module _ (c : After-page_of) where
 pub write_page-at-requires : goal.write_page-at-requires
 write_page-at-requires c =
     let h = c.loop-p.invariant.1 in
-    let a = ap length (next (goal.at.write_page-at-requires c).After-page_of) ∙ length-append (page_file (opened (view (page (goal.at.write_page-at-requires c).After-page_of)))) (pages_file (seg_view c.args.segment.now) (c.loop-p.p + 1)) in
-    record { page_len = (long (goal.at.write_page-at-requires c).After-page_of, ok (goal.at.write_page-at-requires c).After-page_of); page_in_bounds = omega (arith, h.room, h.long, c.requires.segment_in_bounds) }
+    let a = ap length (next (goal.at.write_page-at-requires c).After-page_of)
+    ∙ length-append (page_file (opened (view (page (goal.at.write_page-at-requires c).After-page_of))))
+    (pages_file (seg_view c.args.segment.now) (c.loop-p.p + 1)) in
+    record {
+      page_len = (long (goal.at.write_page-at-requires c).After-page_of, ok (goal.at.write_page-at-requires c).After-page_of);
+      page_in_bounds = omega (arith, h.room, h.long, c.requires.segment_in_bounds);
+    }
 
 pub loop-p-preserved : goal.loop-p-preserved
-loop-p-preserved c =
-    (omega arith, left_next _ _ _ _ _ _ c.loop-p.invariant.1 _ _ (next (goal.at.loop-p-preserved c).After-page_of) _ refl _ c.write_page-at.ensures.0 _ c.write_page-at.ensures.1)
+loop-p-preserved c = (
+  omega arith,
+  left_next _ _ _ _ _ _ c.loop-p.invariant.1 _ _ (next (goal.at.loop-p-preserved c).After-page_of) _ refl _ c.write_page-at.ensures.0 _
+      c.write_page-at.ensures.1,
+)
 
 pub returns : goal.returns
 returns c =

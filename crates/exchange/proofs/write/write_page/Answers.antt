@@ -52,12 +52,19 @@ module _ (c : After-part_of-part) where
 pub write_part-to-requires : goal.write_part-to-requires
 write_part-to-requires c =
     let h = c.loop-k.invariant.1 in
-    let a = ap length (next (goal.at.write_part-to-requires c).After-part_of-part) ∙ length-append (part_file c.args.page.now c.part_of-part.result) (file_from (view c.args.page.now) (c.loop-k.k + 1)) in
-    record { on_page = lies (goal.at.write_part-to-requires c).After-part_of-part; part_in_bounds = omega (arith, as_long (goal.at.write_part-to-requires c).After-part_of-part, h.room, h.long, c.requires.page_in_bounds) }
+    let a = ap length (next (goal.at.write_part-to-requires c).After-part_of-part)
+    ∙ length-append (part_file c.args.page.now c.part_of-part.result) (file_from (view c.args.page.now) (c.loop-k.k + 1)) in
+    record {
+      on_page = lies (goal.at.write_part-to-requires c).After-part_of-part;
+      part_in_bounds = omega (arith, as_long (goal.at.write_part-to-requires c).After-part_of-part, h.room, h.long, c.requires.page_in_bounds);
+    }
 
 pub loop-k-preserved : goal.loop-k-preserved
-loop-k-preserved c =
-    (omega arith, left_next _ _ _ _ _ _ c.loop-k.invariant.1 _ _ (next (goal.at.loop-k-preserved c).After-part_of-part) _ (as_long (goal.at.loop-k-preserved c).After-part_of-part) _ c.write_part-to.ensures.0 _ c.write_part-to.ensures.1)
+loop-k-preserved c = (
+  omega arith,
+  left_next _ _ _ _ _ _ c.loop-k.invariant.1 _ _ (next (goal.at.loop-k-preserved c).After-part_of-part) _
+      (as_long (goal.at.loop-k-preserved c).After-part_of-part) _ c.write_part-to.ensures.0 _ c.write_part-to.ensures.1,
+)
 
 pub returns : goal.returns
 returns c =
