@@ -23,8 +23,8 @@ use Rattle.exchange.specs.Exchange.{Parsed, holds, and_record, parse, Import, wi
 use Rattle.exchange.specs.Told.{imported}
 use Rattle.exchange.specs.Words.{follows, Inside, fault_of}
 use Rattle.exchange.specs.FileTold.{of_insert}
-use Rattle.exchange.specs.Laws.Import.{by_file, insert_short}
-use Rattle.exchange.specs.Laws.Parse.{fault_behind, fault_is, held, parse_holds}
+use Rattle.exchange.proofs.Laws.Import.{by_file, insert_short}
+use Rattle.exchange.proofs.Laws.Parse.{fault_behind, fault_is, held, parse_holds}
 use Rattle.exchange.specs.declared.Imported.TheVariants as import
 use Rattle.exchange.specs.declared.format.Next.TheVariants.{Record}
 

@@ -20,9 +20,9 @@ use Rattle.store.specs.declared.Slot.TheVariants.{Ordinary, Free, Redirect, Targ
 use Rattle.exchange.specs.Exchange.{file_record, file_of, passed_over}
 use Rattle.exchange.specs.Words.{part_at, part_of_slot, part_length, part_file, part_passed, part_rows, OnPage, page_readings, page_file, page_passed}
 use Rattle.exchange.specs.Words.{segment_file}
-use Rattle.exchange.specs.Laws.Files.{file_append, passed_append}
-use Rattle.exchange.specs.Laws.Left as left
-use Rattle.exchange.specs.Laws.Room.{record_length}
+use Rattle.exchange.proofs.Laws.Files.{file_append, passed_append}
+use Rattle.exchange.proofs.Laws.Left as left
+use Rattle.exchange.proofs.Laws.Room.{record_length}
 use Rattle.exchange.specs.declared.parts.Part.{Part}
 use Rattle.exchange.specs.declared.parts.Part.TheVariants as part
 

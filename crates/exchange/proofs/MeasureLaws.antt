@@ -16,8 +16,8 @@ use Rattle.store.proofs.Laws.SoundPage.{sound_opened}
 use Rattle.store.proofs.Laws.SoundSegment.{seen_pages, seen_page}
 use Rattle.exchange.specs.Exchange.{passed_over}
 use Rattle.exchange.specs.Words.{part_of_slot, part_length, part_file, part_passed, page_file, page_passed, segment_file, PageSums, Measured}
-use Rattle.exchange.specs.Laws.Left.{part_lies}
-use Rattle.exchange.specs.Laws.Room.{page_short, passed_few}
+use Rattle.exchange.proofs.Laws.Left.{part_lies}
+use Rattle.exchange.proofs.Laws.Room.{page_short, passed_few}
 use Rattle.exchange.specs.declared.measure.Sums.{Sums}
 use Rattle.exchange.specs.declared.parts.Part.{Part}
 use Rattle.exchange.proofs.LeftLaws as left

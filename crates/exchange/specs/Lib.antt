@@ -2,5 +2,3 @@ pub mod Exchange
 pub mod Told
 pub mod Words
 pub mod FileTold
-pub mod Laws
-pub mod Promises

@@ -1,3 +1,5 @@
 pub mod HeadLaws
 pub mod PassLaws
 pub mod WindowPassLaws
+pub mod Laws
+pub mod Promises

@@ -11,7 +11,7 @@ use Rattle.store.specs.Segment.{seg_view, page_of}
 use Rattle.store.proofs.Laws.SoundSegment.{seen_pages, seen_page}
 use Rattle.exchange.specs.Exchange.{readings}
 use Rattle.exchange.specs.Words.{part_of_slot, part_rows, page_readings}
-use Rattle.exchange.specs.Laws.Left as left
+use Rattle.exchange.proofs.Laws.Left as left
 use Rattle.exchange.specs.declared.parts.Part.{Part}
 use Rattle.exchange.specs.declared.parts.Part.TheVariants as part
 use Rattle.polishing.specs.Words.{SoundPage, head_of, part_head}

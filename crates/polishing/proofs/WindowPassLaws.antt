@@ -14,7 +14,7 @@ use Rattle.store.specs.Segment.{seg_view, page_of}
 use Rattle.store.proofs.Laws.Report.{sound_each}
 use Rattle.exchange.specs.Exchange.{readings}
 use Rattle.exchange.specs.Words.{page_readings}
-use Rattle.exchange.specs.Laws.Left.{pages_readings}
+use Rattle.exchange.proofs.Laws.Left.{pages_readings}
 use Rattle.polishing.specs.Words.{with_mark, windows_over}
 use Rattle.polishing.proofs.PassLaws.{over_pages_all, over_pages_next, over_pages_none}
 

@@ -1,5 +1,3 @@
 pub mod Polishing
 pub mod Told
 pub mod Words
-pub mod Laws
-pub mod Promises

@@ -5,7 +5,7 @@ use borrow.Author.Tests.{not-true, not-false}
 use Rattle.store.specs.Refusals.{DONE, ROOM}
 use Rattle.store.specs.Segment.{seg_view, size_ok}
 use Rattle.store.specs.Report.{all_sound}
-use Rattle.exchange.specs.Laws.Export.{on_size, on_damage, on_room, on_done}
+use Rattle.exchange.proofs.Laws.Export.{on_size, on_damage, on_room, on_done}
 use Rattle.exchange.proofs.export.Goals.{Else-not-is_segment, Else-not-m}
 use Rattle.exchange.proofs.export.Goals as goal
 

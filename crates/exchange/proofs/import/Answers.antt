@@ -8,7 +8,7 @@ use Rattle.exchange.specs.Exchange.{parse, without_ids, import_step}
 use Rattle.exchange.specs.Words.{fault_of, format_no}
 use Rattle.exchange.specs.declared.format.Format.{Format}
 use Rattle.exchange.specs.declared.format.Format.TheVariants.{Whole, Short, Mark, Long}
-use Rattle.exchange.specs.Laws.Import.{by_sizes, by_file}
+use Rattle.exchange.proofs.Laws.Import.{by_sizes, by_file}
 use Rattle.exchange.proofs.ImportLaws.{import_wrong}
 use Rattle.exchange.proofs.import.Goals.{After-read_through}
 use Rattle.exchange.proofs.import.Goals as goal

@@ -9,8 +9,8 @@ use Rattle.store.specs.Numbers.{one}
 use Rattle.store.specs.Refusals.{DONE}
 use Rattle.store.specs.Segment.{size_ok}
 use Rattle.polishing.specs.Polishing.{named, cleared_step}
-use Rattle.polishing.specs.Laws.Judged.{Judged, on_size, on_rule, on_damage, on_judged}
-use Rattle.polishing.specs.Laws.Whole.{rows_named_lem}
+use Rattle.polishing.proofs.Laws.Judged.{Judged, on_size, on_rule, on_damage, on_judged}
+use Rattle.polishing.proofs.Laws.Whole.{rows_named_lem}
 use Rattle.polishing.proofs.cleared.Statement.{statement}
 use Rattle.polishing.proofs.cleared.Tie as tie
 

@@ -5,7 +5,7 @@ use mathlib.Core.Bool.{Bool}
 use native.Mathlib.Omega.{arith}
 use borrow.Author.Rules.{rules}
 use Rattle.polishing.specs.Polishing.{whole_in}
-use Rattle.polishing.specs.Laws.Counted.{CountsTo, counts_none, counts_few, counts_next, counts_met, counts_all}
+use Rattle.polishing.proofs.Laws.Counted.{CountsTo, counts_none, counts_few, counts_next, counts_met, counts_all}
 use Rattle.polishing.proofs.is_cleared.Statement.{statement}
 use Rattle.polishing.proofs.is_cleared.Tie as tie
 

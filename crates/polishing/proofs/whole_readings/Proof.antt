@@ -10,7 +10,7 @@ use Rattle.store.specs.Refusals.{DONE}
 use Rattle.store.specs.Segment.{seg_view, size_ok}
 use Rattle.store.specs.Report.{all_sound}
 use Rattle.polishing.specs.Polishing.{rows_named}
-use Rattle.polishing.specs.Laws.Listed.{on_size, on_rule, on_damage, on_room, on_done}
+use Rattle.polishing.proofs.Laws.Listed.{on_size, on_rule, on_damage, on_room, on_done}
 use Rattle.polishing.proofs.whole_readings.Statement.{statement}
 use Rattle.polishing.proofs.whole_readings.Tie as tie
 

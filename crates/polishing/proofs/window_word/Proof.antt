@@ -8,8 +8,8 @@ use borrow.Author.Rules.{rules}
 use Rattle.store.specs.Segment.{seg_view}
 use Rattle.store.specs.Records.{records}
 use Rattle.exchange.specs.Exchange.{readings}
-use Rattle.polishing.specs.Laws.Whole.{rows_within}
-use Rattle.polishing.specs.Laws.Windows.{marks_length, word_none}
+use Rattle.polishing.proofs.Laws.Whole.{rows_within}
+use Rattle.polishing.proofs.Laws.Windows.{marks_length, word_none}
 use Rattle.polishing.proofs.window_word.Statement.{statement}
 use Rattle.polishing.proofs.window_word.Tie as tie
 

@@ -10,7 +10,7 @@ use lib.ListN.{length, drop, set, length-set, drop_of_length-le}
 use Rattle.store.specs.Numbers.{put}
 use Rattle.store.proofs.Laws.Numbers.{put_nil, put_set}
 use Rattle.polishing.specs.Polishing.{whole_in, words, word}
-use Rattle.polishing.specs.Laws.Listed.{length_words, words_next}
+use Rattle.polishing.proofs.Laws.Listed.{length_words, words_next}
 use Rattle.polishing.proofs.write_words.Statement.{statement}
 use Rattle.polishing.proofs.write_words.Tie as tie
 

@@ -6,7 +6,7 @@ use lib.ListN.{drop}
 use Rattle.store.specs.Numbers.{cut, to_be}
 use Rattle.exchange.specs.Exchange.{parse}
 use Rattle.exchange.specs.Words.{follows, Inside, Lies, fault_of}
-use Rattle.exchange.specs.Laws.Parse.{fault_behind}
+use Rattle.exchange.proofs.Laws.Parse.{fault_behind}
 use Rattle.exchange.specs.declared.format.Next.{Next}
 use Rattle.exchange.specs.declared.format.Next.TheVariants.{Record, End, Short, Mark, Long}
 use Rattle.exchange.proofs.format.read_through.Goals.{After-record_at}

@@ -6,8 +6,8 @@ use native.Mathlib.Omega.{arith}
 use lib.ListN.{length, drop, length-drop}
 use Rattle.exchange.specs.Exchange.{marked, data_length}
 use Rattle.store.proofs.Laws.Numbers.{bytes_all}
-use Rattle.exchange.specs.Laws.Parse.{parse_end, parse_few, parse_mark, parse_long, parse_cut, parse_record}
-use Rattle.exchange.specs.Laws.Parse.{other_first, other_second, marked_at, told_at, record_at_lem}
+use Rattle.exchange.proofs.Laws.Parse.{parse_end, parse_few, parse_mark, parse_long, parse_cut, parse_record}
+use Rattle.exchange.proofs.Laws.Parse.{other_first, other_second, marked_at, told_at, record_at_lem}
 use Rattle.exchange.proofs.format.record_at.Goals.{After-get_u16-length, After-shared_slice_known-2-1, Else-file-at-ne84, Start}
 use Rattle.exchange.proofs.format.record_at.Goals as goal
 

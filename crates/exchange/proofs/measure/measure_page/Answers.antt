@@ -4,7 +4,7 @@ use mathlib.Core.List.{List}
 use native.Mathlib.Omega.{arith}
 use Rattle.store.specs.Page.{view}
 use Rattle.exchange.specs.Words.{part_of_slot}
-use Rattle.exchange.specs.Laws.Left.{slot_few, slot_target}
+use Rattle.exchange.proofs.Laws.Left.{slot_few, slot_target}
 use Rattle.exchange.proofs.MeasureLaws.{measured_none, measured_room, measured_next, measured_all}
 use Rattle.exchange.proofs.measure.measure_page.Goals.{After-part_of, At-loop-k, In-loop-k}
 use Rattle.exchange.proofs.measure.measure_page.Goals as goal

@@ -5,7 +5,7 @@ use native.Mathlib.Omega.{arith}
 use lib.ListN.{length, length-append}
 use Rattle.store.specs.Page.{view}
 use Rattle.exchange.specs.Words.{OnPage, part_of_slot, part_file, part_length}
-use Rattle.exchange.specs.Laws.Left.{slot_few, slot_target, part_lies}
+use Rattle.exchange.proofs.Laws.Left.{slot_few, slot_target, part_lies}
 use Rattle.exchange.proofs.LeftLaws.{file_from, part_length_lem, file_all, file_next, file_none}
 use Rattle.exchange.proofs.WriteLaws.{left_all, left_next, left_none}
 use Rattle.exchange.specs.declared.parts.Part.{Part}

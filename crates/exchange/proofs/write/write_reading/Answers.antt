@@ -6,7 +6,7 @@ use lib.ListN.{length, length-set}
 use Rattle.store.specs.Numbers.{cut, put, to_be}
 use Rattle.store.proofs.Laws.Writes.{length_cut}
 use Rattle.store.proofs.Laws.Numbers.{bytes_all}
-use Rattle.exchange.specs.Laws.Parse.{number_back}
+use Rattle.exchange.proofs.Laws.Parse.{number_back}
 use Rattle.exchange.proofs.WriteLaws.{reading_written}
 use Rattle.exchange.proofs.write.write_reading.Goals.{After-put_u16, After-put_u64}
 use Rattle.exchange.proofs.write.write_reading.Goals as goal

@@ -2,7 +2,7 @@
 use mathlib.Core.Path.{◌≡◌, sym, ap, subst, ◌∙◌}
 use Rattle.store.specs.Page.{view}
 use Rattle.exchange.specs.Words.{OnPage, part_of_slot}
-use Rattle.exchange.specs.Laws.Left.{slot_few, slot_target, part_lies}
+use Rattle.exchange.proofs.Laws.Left.{slot_few, slot_target, part_lies}
 use Rattle.polishing.specs.Words.{part_head}
 use Rattle.polishing.proofs.heads.head_at.Statement.{statement}
 use Rattle.polishing.proofs.heads.head_at.Tie as tie

@@ -8,7 +8,7 @@ use lib.ListN.{length}
 use Rattle.store.specs.Page.{view}
 use Rattle.store.specs.PageSteps.{opened}
 use Rattle.exchange.specs.Words.{page_readings}
-use Rattle.exchange.specs.Laws.Left.{readings_from}
+use Rattle.exchange.proofs.Laws.Left.{readings_from}
 use Rattle.polishing.specs.Words.{Marks, with_head, marks_over}
 use Rattle.polishing.specs.declared.rows.Wanted.{Wanted}
 use Rattle.polishing.proofs.PassLaws.{over_all, over_next, over_none}

@@ -13,7 +13,7 @@ use Rattle.store.proofs.Laws.Report.{each_sound}
 use Rattle.store.proofs.Laws.Segments.{length_page}
 use Rattle.exchange.specs.Exchange.{readings}
 use Rattle.exchange.specs.Words.{page_readings}
-use Rattle.exchange.specs.Laws.Left.{pages_readings}
+use Rattle.exchange.proofs.Laws.Left.{pages_readings}
 use Rattle.polishing.specs.Words.{Marks, SoundPage, with_head, marks_over}
 use Rattle.polishing.specs.declared.rows.Wanted.{Wanted}
 use Rattle.polishing.proofs.PassLaws.{over_pages_all, over_pages_next, over_pages_none}

@@ -5,8 +5,8 @@ use Rattle.store.specs.Records.{records}
 use Rattle.store.specs.Segment.{seg_view}
 use Rattle.exchange.specs.Exchange.{readings}
 use Rattle.polishing.specs.Words.{Marks, in_rows}
-use Rattle.polishing.specs.Laws.Bits.{others}
-use Rattle.polishing.specs.Laws.Marks.{marks_whole}
+use Rattle.polishing.proofs.Laws.Bits.{others}
+use Rattle.polishing.proofs.Laws.Marks.{marks_whole}
 use Rattle.polishing.proofs.rows.whole_in.Statement.{statement}
 use Rattle.polishing.proofs.rows.whole_in.Tie as tie
 

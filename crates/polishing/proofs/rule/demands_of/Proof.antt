@@ -7,8 +7,8 @@ use native.Mathlib.Omega.{arith}
 use lib.Dec.{leb, leb-zero}
 use Rattle.polishing.specs.Polishing.{Demand, met, edition1, edition2}
 use Rattle.polishing.specs.Words.{mounted, turned, met_by}
-use Rattle.polishing.specs.Laws.Counted.{counted_sides}
-use Rattle.polishing.specs.Laws.Rule.{by_edition}
+use Rattle.polishing.proofs.Laws.Counted.{counted_sides}
+use Rattle.polishing.proofs.Laws.Rule.{by_edition}
 use Rattle.polishing.specs.declared.rule.Demands.{Demands}
 use Rattle.polishing.proofs.rule.demands_of.Statement.{statement}
 use Rattle.polishing.proofs.rule.demands_of.Tie as tie

@@ -8,7 +8,7 @@ use borrow.Author.Rules.{rules}
 use Rattle.store.specs.Page.{view}
 use Rattle.store.specs.PageSteps.{opened}
 use Rattle.exchange.specs.Words.{page_readings}
-use Rattle.exchange.specs.Laws.Left.{readings_from}
+use Rattle.exchange.proofs.Laws.Left.{readings_from}
 use Rattle.polishing.specs.Words.{windows_over, with_mark}
 use Rattle.polishing.proofs.PassLaws.{over_all, over_next, over_none}
 use Rattle.polishing.proofs.windows.mark_page.Statement.{statement}

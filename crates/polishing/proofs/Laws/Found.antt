@@ -12,7 +12,7 @@ use Rattle.store.specs.Records.{count_if}
 use Rattle.store.proofs.Laws.Cases.{lt_or_le, by_test, false_by, tests}
 use Rattle.store.proofs.Laws.SoundPage.{and_both}
 use Rattle.polishing.specs.Polishing.{mirror_of, reading_of, row_of, is_of, whole, Demand, counted, met}
-use Rattle.polishing.specs.Laws.Whole.{whole_first}
+use Rattle.polishing.proofs.Laws.Whole.{whole_first}
 
 -- ---- counts over a list
 

@@ -5,8 +5,8 @@ use Rattle.std.proofs.Common.{sym, ◌∙◌}
 use Rattle.store.specs.Alike.{Alike, AlikeByKind}
 use Rattle.store.proofs.Laws.Alike.{by_size}
 use Rattle.polishing.specs.Polishing.{cleared_step, whole_step}
-use Rattle.polishing.specs.Laws.Judged as judged
-use Rattle.polishing.specs.Laws.Listed as listed
+use Rattle.polishing.proofs.Laws.Judged as judged
+use Rattle.polishing.proofs.Laws.Listed as listed
 
 -- ---- by kind and values
 

@@ -18,8 +18,8 @@ use Rattle.store.proofs.Promises.ManyRowsSound.{rows_sound}
 use Rattle.store.proofs.Promises.Counts.{insert_all_adds, insert_all_answers}
 use Rattle.exchange.specs.Exchange.{MARK, SHORT, wrong, holds, parse, file_of, Import, without_ids, import_step}
 use Rattle.exchange.specs.FileTold.{no_import, then_import, of_insert}
-use Rattle.exchange.specs.Laws.Import.{by_sizes, by_file, by_import, rows_short}
-use Rattle.exchange.specs.Promises.Format.{reads_back, parsed_good, empty_file, files_read, refused_by}
+use Rattle.exchange.proofs.Laws.Import.{by_sizes, by_file, by_import, rows_short}
+use Rattle.exchange.proofs.Promises.Format.{reads_back, parsed_good, empty_file, files_read, refused_by}
 
 -- a file's refusals are 3, 12 and 13
 at_least : (f : List ℕ) (a : ℕ) → parse f ≡ wrong a → LONG ≤ a

@@ -26,13 +26,13 @@ use Rattle.store.proofs.Promises.ManyRows.{rows_done}
 use Rattle.store.proofs.Promises.ManyRowsSound.{rows_sound}
 use Rattle.exchange.specs.Exchange.{readings, import_step, export_step}
 use Rattle.exchange.specs.FileTold.{file_written}
-use Rattle.exchange.specs.Promises.Export.{done_exactly}
-use Rattle.exchange.specs.Promises.Import.{import_sound}
-use Rattle.exchange.specs.Promises.RoundTrip.{round_trip}
+use Rattle.exchange.proofs.Promises.Export.{done_exactly}
+use Rattle.exchange.proofs.Promises.Import.{import_sound}
+use Rattle.exchange.proofs.Promises.RoundTrip.{round_trip}
 use Rattle.polishing.specs.Polishing.{demands_of, met, rows_named, named, whole_in, cleared_step, words, whole_step}
-use Rattle.polishing.specs.Laws.Same.{readings_same, whole_same}
-use Rattle.polishing.specs.Laws.Judged as judged
-use Rattle.polishing.specs.Laws.Listed as listed
+use Rattle.polishing.proofs.Laws.Same.{readings_same, whole_same}
+use Rattle.polishing.proofs.Laws.Judged as judged
+use Rattle.polishing.proofs.Laws.Listed as listed
 
 -- "the same readings, each as often" (Ask 7): records of 8 bytes or more
 abbrev pub SameReadings : List ℕ → List ℕ → Type 0

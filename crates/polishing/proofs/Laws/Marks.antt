@@ -14,8 +14,8 @@ use Rattle.page_check.specs.Map.{bit}
 use Rattle.page_check.specs.Bits.{bit_zero, bit_one, bit_and_lem, bit_or_lem}
 use Rattle.polishing.specs.Polishing.{mirror_of, reading_of, row_of, is_of, row_times, other_rows, whole, word}
 use Rattle.polishing.specs.Words.{head_of, Marks, with_row, with_head, marks_over, in_rows}
-use Rattle.polishing.specs.Laws.Bits.{others, word_lt, bit_word, bit_pow, bit_others, same_bits}
-use Rattle.polishing.specs.Laws.Whole.{whole_parts}
+use Rattle.polishing.proofs.Laws.Bits.{others, word_lt, bit_word, bit_pow, bit_others, same_bits}
+use Rattle.polishing.proofs.Laws.Whole.{whole_parts}
 use Rattle.polishing.specs.declared.heads.Head.TheVariants as head
 use Rattle.polishing.specs.declared.rows.Wanted.{Wanted}
 

@@ -17,8 +17,8 @@ use Rattle.store.proofs.Laws.Numbers.{be_less, bytes_take, bytes_drop, bytes_cut
 use Rattle.store.proofs.Laws.Views.{sum_zero}
 use Rattle.exchange.specs.Exchange.{is_short, readings}
 use Rattle.polishing.specs.Polishing.{mirror_of, is_of, row_of, row_times, whole_in, rows_named, Demand, counted, met, demands_of}
-use Rattle.polishing.specs.Laws.Rule.{by_edition}
-use Rattle.polishing.specs.Laws.Whole.{rows_within, whole_first}
+use Rattle.polishing.proofs.Laws.Rule.{by_edition}
+use Rattle.polishing.proofs.Laws.Whole.{rows_within, whole_first}
 
 -- ---- nothing is whole: no demand is met
 

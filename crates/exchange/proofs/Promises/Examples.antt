@@ -21,9 +21,9 @@ use Rattle.store.proofs.Promises.Examples.{State, start, did, then}
 use Rattle.store.proofs.Promises.ManyRowsExamples.{Seen, all_seen, fresh_pages, blank_rows}
 use Rattle.exchange.specs.Exchange.{MARK, SHORT, holds, first_record, parse, Import, import_step, Export, no_export, export_of, export_step}
 use Rattle.exchange.specs.FileTold.{no_import, file_written}
-use Rattle.exchange.specs.Laws.Parse.{held}
-use Rattle.exchange.specs.Laws.Export.{at_damage}
-use Rattle.exchange.specs.Promises.Import.{file_refused, import_fold, import_empty}
+use Rattle.exchange.proofs.Laws.Parse.{held}
+use Rattle.exchange.proofs.Laws.Export.{at_damage}
+use Rattle.exchange.proofs.Promises.Import.{file_refused, import_fold, import_empty}
 
 -- a record of mirror 7 and reading 1: its row, the length told, and data
 abbrev pub record7 : ℕ → ℕ → List ℕ → List ℕ

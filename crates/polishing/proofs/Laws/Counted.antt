@@ -10,7 +10,7 @@ use Rattle.store.proofs.Laws.SoundPage.{and_both, and_in}
 use Rattle.store.proofs.Laws.Views.{sum_ext, sum_few, sum_join}
 use Rattle.polishing.specs.Polishing.{counted, met, demands_of, word}
 use Rattle.polishing.specs.Words.{mounted, turned, met_by, Says, WithWindow}
-use Rattle.polishing.specs.Laws.Bits.{ones_word}
+use Rattle.polishing.proofs.Laws.Bits.{ones_word}
 use Rattle.polishing.specs.declared.rule.Demands.{Demands}
 use Rattle.polishing.specs.declared.rule.Counts.{Counts}
 

@@ -3,8 +3,8 @@
 use Rattle.std.specs.Prelude.{ℕ, ◌≡◌, true, List}
 use Rattle.store.specs.Refusals.{DONE}
 use Rattle.polishing.specs.Polishing.{demands_of, whole_in, cleared_step}
-use Rattle.polishing.specs.Laws.Rule as rule
-use Rattle.polishing.specs.Laws.Judged.{done_judged, yes_judged, judged_yes}
+use Rattle.polishing.proofs.Laws.Rule as rule
+use Rattle.polishing.proofs.Laws.Judged.{done_judged, yes_judged, judged_yes}
 
 -- every reading that is whole in s is whole in t, s is cleared, and t is judged by the same edition: t is cleared. Mirror and rows may differ
 pub more : (s t : List ℕ) (m n rows rows' e : ℕ) → ((r : ℕ) → whole_in s m rows r ≡ true → whole_in t n rows' r ≡ true)

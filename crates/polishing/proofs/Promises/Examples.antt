@@ -23,9 +23,9 @@ use Rattle.store.proofs.Promises.ManyRows.{rows_sized}
 use Rattle.store.proofs.Promises.ManyRowsExamples.{Seen, seen_of, all_seen, fresh_pages, blank_rows}
 use Rattle.exchange.specs.Exchange.{readings}
 use Rattle.polishing.specs.Polishing.{RULE, whole, demands_of, met, Cleared, not_cleared, named, cleared_step}
-use Rattle.polishing.specs.Laws.Judged.{answered, by_answer, on_size, on_rule, on_damage}
-use Rattle.polishing.specs.Laws.Whole.{rows_within, rows_named_lem}
-use Rattle.polishing.specs.Laws.Found.{found_met, numbers, rule_found}
+use Rattle.polishing.proofs.Laws.Judged.{answered, by_answer, on_size, on_rule, on_damage}
+use Rattle.polishing.proofs.Laws.Whole.{rows_within, rows_named_lem}
+use Rattle.polishing.proofs.Laws.Found.{found_met, numbers, rule_found}
 
 -- cleared, and not
 abbrev pub Yes : Cleared

@@ -19,7 +19,7 @@ use Rattle.store.specs.declared.Slot.{Slot}
 use Rattle.store.specs.declared.Slot.TheVariants.{Ordinary, Free, Redirect, Target}
 use Rattle.exchange.specs.Exchange.{readings}
 use Rattle.exchange.specs.Words.{part_at, part_of_slot, part_rows, OnPage, page_readings}
-use Rattle.exchange.specs.Laws.Files.{rows_pages, readings_append}
+use Rattle.exchange.proofs.Laws.Files.{rows_pages, readings_append}
 use Rattle.exchange.specs.declared.parts.Part.TheVariants as part
 
 -- ---- the part that a slot is

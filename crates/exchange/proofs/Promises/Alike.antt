@@ -13,7 +13,7 @@ use Rattle.store.proofs.Promises.Alike.{read_alike}
 use Rattle.store.proofs.Promises.ManyRowsAlike.{rows_demand_3, rows_demand_3_by_kind}
 use Rattle.exchange.specs.Exchange.{Parsed, wrong, holds, parse, import_step, export_step}
 use Rattle.exchange.specs.FileTold.{SameImports}
-use Rattle.exchange.specs.Promises.Import.{size_refused, file_refused, import_fold}
+use Rattle.exchange.proofs.Promises.Import.{size_refused, file_refused, import_fold}
 
 -- ---- export: the answer's number, both numbers told, and every byte of the place
 

@@ -10,9 +10,9 @@ use Rattle.store.specs.SoundSegment.{SoundSegment}
 use Rattle.store.proofs.Promises.Blank.{blank_sound, blank_list}
 use Rattle.exchange.specs.Exchange.{import_step, export_step}
 use Rattle.exchange.specs.FileTold.{readings_in, file_written}
-use Rattle.exchange.specs.Laws.Readings.{readings_times}
-use Rattle.exchange.specs.Promises.Export.{export_read}
-use Rattle.exchange.specs.Promises.Import.{done_tells, read_done, import_fits, import_adds}
+use Rattle.exchange.proofs.Laws.Readings.{readings_times}
+use Rattle.exchange.proofs.Promises.Export.{export_read}
+use Rattle.exchange.proofs.Promises.Import.{done_tells, read_done, import_fits, import_adds}
 
 module _ (s p : List ℕ) (done : (export_step s p).answer ≡ DONE) where
   -- into a sound segment in use: "the records join those there"

@@ -4,7 +4,7 @@ use Rattle.std.proofs.Common.{ap, arith, leb-true, eqb-true, le-leb, eq-eqb}
 use Rattle.store.specs.Numbers.{one}
 use Rattle.store.proofs.Laws.SoundPage.{and_in}
 use Rattle.polishing.specs.Polishing.{row_of, is_of, row_times, other_rows, whole}
-use Rattle.polishing.specs.Laws.Whole.{whole_parts}
+use Rattle.polishing.proofs.Laws.Whole.{whole_parts}
 
 module _ (m rows r : ℕ) where
   -- no row from `rows` on is there

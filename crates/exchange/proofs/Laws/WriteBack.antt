@@ -10,7 +10,7 @@ use Rattle.store.proofs.Laws.Numbers.{be_to_be, be_same, bytes_take, bytes_drop,
 use Rattle.store.proofs.Laws.SoundPage.{and_both}
 use Rattle.exchange.specs.Exchange.{MARK, SHORT, wrong, holds, and_record, marked, data_length, first_record, parse, file_record, file_of}
 use Rattle.exchange.specs.FileTold.{Reading, Readings, and_all, Whole, Faulty, few, unmarked, long, off}
-use Rattle.exchange.specs.Laws.ReadBack.{faulty, whole_read, all_read}
+use Rattle.exchange.proofs.Laws.ReadBack.{faulty, whole_read, all_read}
 
 -- ---- the first record, if it can be read
 

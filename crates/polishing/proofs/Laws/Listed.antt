@@ -13,8 +13,8 @@ use Rattle.store.proofs.Laws.Cases.{lt_or_le}
 use Rattle.store.proofs.Laws.Numbers.{put_parts}
 use Rattle.store.proofs.Laws.Views.{sum_ext}
 use Rattle.page_check.specs.Map.{bit}
-use Rattle.polishing.specs.Laws.Bits.{bit_word}
-use Rattle.polishing.specs.Laws.Rule.{by_edition}
+use Rattle.polishing.proofs.Laws.Bits.{bit_word}
+use Rattle.polishing.proofs.Laws.Rule.{by_edition}
 use Rattle.polishing.specs.Polishing.{Demand, counted, met, demands_of}
 use Rattle.polishing.specs.Polishing.{RULE, word, words_from, words, rows_named, whole_in, Listed, not_listed, whole_step}
 

@@ -7,7 +7,7 @@ use Rattle.store.proofs.Laws.Cases.{false_by}
 use Rattle.store.proofs.Laws.Views.{sum_zero}
 use Rattle.polishing.specs.Polishing.{mirror_of, reading_of, row_of, row_times, whole, rows_named, word}
 use Rattle.polishing.specs.Words.{head_of, with_mark, windows_over}
-use Rattle.polishing.specs.Laws.Whole.{rows_within, whole_first}
+use Rattle.polishing.proofs.Laws.Whole.{rows_within, whole_first}
 use Rattle.polishing.specs.declared.heads.Head.{Head}
 use Rattle.polishing.specs.declared.heads.Head.TheVariants as head
 

@@ -6,7 +6,7 @@ use Rattle.store.specs.Numbers.{cut, be, to_be}
 use Rattle.store.proofs.Laws.Numbers.{be_to_be}
 use Rattle.exchange.specs.Exchange.{wrong, holds, and_record, data_length, first_record, behind}
 use Rattle.exchange.specs.Exchange.{parse, file_record, file_of}
-use Rattle.exchange.specs.Laws.Parse.{parse_end, parse_few, parse_mark, parse_long, parse_cut, parse_record}
+use Rattle.exchange.proofs.Laws.Parse.{parse_end, parse_few, parse_mark, parse_long, parse_cut, parse_record}
 use Rattle.exchange.specs.FileTold.{Reading, Readings, and_all, Whole, Faulty, few, unmarked, long, off}
 
 -- ---- what stands first

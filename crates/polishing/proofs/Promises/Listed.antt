@@ -11,8 +11,8 @@ use Rattle.store.proofs.Laws.Numbers.{length_put, drop_put}
 use Rattle.store.proofs.Laws.Report.{each_sound, sound_each, damage, damaged}
 use Rattle.page_check.specs.Map.{bit}
 use Rattle.polishing.specs.Polishing.{RULE, Cleared, Listed, rows_named, whole_in, words, met, demands_of, cleared_step, whole_step}
-use Rattle.polishing.specs.Laws.Judged.{done_judged, on_judged}
-use Rattle.polishing.specs.Laws.Listed.{length_words, words_bit, met_same, on_size, on_rule, on_damage, on_room, on_done, by_listed}
+use Rattle.polishing.proofs.Laws.Judged.{done_judged, on_judged}
+use Rattle.polishing.proofs.Laws.Listed.{length_words, words_bit, met_same, on_size, on_rule, on_damage, on_room, on_done, by_listed}
 
 -- bit r % 64 of word r / 64 is set
 abbrev pub in_list : List ℕ → ℕ → Bool

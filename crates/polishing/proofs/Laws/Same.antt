@@ -7,7 +7,7 @@ use Rattle.store.proofs.Laws.Cases.{lt_or_le}
 use Rattle.store.proofs.Laws.Counts.{less, less_count}
 use Rattle.store.proofs.Laws.RepairInventory.{same_is, same_own}
 use Rattle.exchange.specs.Exchange.{readings}
-use Rattle.exchange.specs.Laws.Readings.{readings_times, short_none}
+use Rattle.exchange.proofs.Laws.Readings.{readings_times, short_none}
 use Rattle.polishing.specs.Polishing.{row_of, is_of, whole}
 
 -- ---- every count

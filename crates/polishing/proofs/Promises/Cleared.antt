@@ -12,9 +12,9 @@ use Rattle.store.proofs.Laws.Cases.{eq_or_ne, false_by, tests}
 use Rattle.store.proofs.Laws.Report.{each_sound, sound_each, damage, damaged}
 use Rattle.store.proofs.Laws.SoundPage.{and_both, and_in}
 use Rattle.polishing.specs.Polishing.{RULE, Cleared, mirror_of, rows_named, named, whole_in, met, demands_of, cleared_step}
-use Rattle.polishing.specs.Laws.Judged.{on_size, on_rule, on_damage, on_judged, by_cleared, done_judged, yes_judged, judged_yes}
-use Rattle.polishing.specs.Laws.Whole.{rows_within, rows_named_lem}
-use Rattle.polishing.specs.Laws.NoRecord.{none_met, none_whole, wide_none}
+use Rattle.polishing.proofs.Laws.Judged.{on_size, on_rule, on_damage, on_judged, by_cleared, done_judged, yes_judged, judged_yes}
+use Rattle.polishing.proofs.Laws.Whole.{rows_within, rows_named_lem}
+use Rattle.polishing.proofs.Laws.NoRecord.{none_met, none_whole, wide_none}
 
 -- ---- the numbers that are named: "another edition or rows outside 1 to 2,048"
 

@@ -6,10 +6,10 @@ use Rattle.store.specs.Numbers.{Bytes, zeros}
 use Rattle.store.specs.Refusals.{LONG}
 use Rattle.exchange.specs.Exchange.{MARK, SHORT, wrong, holds, and_record, parse, file_of}
 use Rattle.exchange.specs.FileTold.{Readings, and_all, Faulty, few, unmarked, long, off, RefusedAt}
-use Rattle.exchange.specs.Laws.Parse.{parse_end}
-use Rattle.exchange.specs.Laws.Files.{file_append}
-use Rattle.exchange.specs.Laws.ReadBack.{faulty, records_read, all_read}
-use Rattle.exchange.specs.Laws.WriteBack.{split, all_wrong, read_whole, read_part}
+use Rattle.exchange.proofs.Laws.Parse.{parse_end}
+use Rattle.exchange.proofs.Laws.Files.{file_append}
+use Rattle.exchange.proofs.Laws.ReadBack.{faulty, records_read, all_read}
+use Rattle.exchange.proofs.Laws.WriteBack.{split, all_wrong, read_whole, read_part}
 
 -- ---- "One format, both ways"
 

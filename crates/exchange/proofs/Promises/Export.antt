@@ -15,11 +15,11 @@ use Rattle.store.proofs.Laws.Numbers.{length_put, cut_same, put_parts}
 use Rattle.store.proofs.Laws.Report.{sound_each, damaged}
 use Rattle.exchange.specs.Exchange.{holds, parse, without_ids, import_step, Export, no_export, export_step}
 use Rattle.exchange.specs.FileTold.{readings_in, passed_in, file_in, with_numbers, file_written, of_insert}
-use Rattle.exchange.specs.Laws.Export.{on_size, at_damage, at_room, at_done, by_export}
-use Rattle.exchange.specs.Laws.Room.{file_fits}
-use Rattle.exchange.specs.Laws.Readings.{scan_read, passed_sum}
-use Rattle.exchange.specs.Promises.Format.{reads_back}
-use Rattle.exchange.specs.Promises.Import.{import_fold, read_answers}
+use Rattle.exchange.proofs.Laws.Export.{on_size, at_damage, at_room, at_done, by_export}
+use Rattle.exchange.proofs.Laws.Room.{file_fits}
+use Rattle.exchange.proofs.Laws.Readings.{scan_read, passed_sum}
+use Rattle.exchange.proofs.Promises.Format.{reads_back}
+use Rattle.exchange.proofs.Promises.Import.{import_fold, read_answers}
 
 module _ (s p : List ℕ) where
   -- ---- "1, then 4 for a page that is not sound, then 11 when the lent place is too short"
