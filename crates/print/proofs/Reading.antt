@@ -14,13 +14,8 @@ slice_range-put_mid : (a k n : ℕ) (xs ys : List ℕ) → a ≤ length xs → n
 slice_range-put_mid a k n xs ys within fits =
     let same : (a + n) - a ≡ n = omega arith in
     let after = post_of a k xs in
-<<<<<<< HEAD
-    ap (take ((a + n) - a)) (drop_at (take a xs) (ys ++ after) a (length-take-le a xs within)) ∙ ap (λ m. take m (ys ++ after)) same
-        ∙ take-append-le n ys after fits
-=======
     ap (take ((a + n) - a)) (drop_at (take a xs) (ys ++ after) a (length-take-le a xs within))
     ∙ ap (λ m. take m (ys ++ after)) same ∙ take-append-le n ys after fits
->>>>>>> 6a0f423c8e67889a2970940904c7de2990793c94
 
 -- `n` bytes of `ys`, put at `a`, follow the first `a`
 pub filled_to : (a k n : ℕ) (xs ys : List ℕ) → a ≤ length xs → n ≤ length ys → take a xs ++ take n ys ≡ take (a + n) (put_mid a k xs ys)

@@ -1,4 +1,3 @@
--- `polishing::rule::demands_of` meets its contract.
 use Prim.Native.Nat.{ℕ, ◌+◌}
 use mathlib.Core.Path.{◌≡◌, ap}
 use mathlib.Core.Bool.{Bool, ◌&&◌, and-true}
@@ -10,8 +9,7 @@ use Rattle.polishing.specs.Words.{mounted, turned, met_by}
 use Rattle.polishing.proofs.Laws.Counted.{counted_sides}
 use Rattle.polishing.proofs.Laws.Rule.{by_edition}
 use Rattle.polishing.specs.declared.rule.Demands.{Demands}
-use Rattle.polishing.proofs.rule.demands_of.Statement.{statement}
-use Rattle.polishing.proofs.rule.demands_of.Tie as tie
+use Rattle.polishing.proofs.rule.demands_of.Goals as goal
 
 abbrev sheet1 : Demands
 sheet1 = record { all = 2; mounted = 0; turned = 0 }
@@ -30,11 +28,8 @@ module _ (w : ℕ → Bool) where
   second : By sheet2 edition2
   second = rw (counted_sides w) (ap (λ (b : Bool). leb 3 (mounted w + turned w) && (leb 1 (mounted w) && b)) (and-true (leb 1 (turned w))))
 
-returns : tie.Need-returns
-returns c w = by_edition (By w sheet2) c.before.args.edition (λ n. absurd (omega arith)) (λ _. second w)
+pub returns-then-edition-eq2 : goal.returns-then-edition-eq2
+returns-then-edition-eq2 c = by_edition (By w sheet2) c.args.edition (λ n. absurd (omega arith)) (λ _. second w)
 
-returns_2 : tie.Need-returns-2
-returns_2 c w = by_edition (By w sheet1) c.before.args.edition (λ _. first w) (λ q. absurd (omega arith))
-
-pub demands_of_spec : {M : Type 1} → statement M
-demands_of_spec = tie.close (tie.spec returns returns_2)
+pub returns : goal.returns
+returns c = by_edition (By w sheet1) c.args.edition (λ _. first w) (λ q. absurd (omega arith))
