@@ -1,18 +1,15 @@
 -- The head of a reading on a page: the page's own bytes tell its mirror, reading and row.
 use Prim.Native.Nat.{ℕ, ◌+◌, ◌≤◌}
 use mathlib.Core.Path.{◌≡◌, refl, sym, ap, ◌∙◌}
-use mathlib.Core.List.{List, [], ◌∷◌}
+use mathlib.Core.List.{List}
 use native.Mathlib.Omega.{arith}
 use lib.Seq.{take-take}
 use lib.ListN.{drop}
-use denote.Enum.Declared.{tag_of}
-use types.Run.{OneOf, miss}
 use borrow.Author.Tests.{eq-eqb, ne_eqb}
 use Rattle.store.specs.Numbers.{cut, be}
 use Rattle.store.proofs.Laws.Numbers.{cut_cut}
 use Rattle.exchange.specs.declared.parts.Part.{Part}
 use Rattle.exchange.specs.declared.parts.Part.TheVariants as part
-use Rattle.exchange.specs.contracts.parts.Part.{the_type}
 use Rattle.polishing.specs.Polishing.{mirror_of, reading_of, row_of}
 use Rattle.polishing.specs.Words.{head_of, part_head}
 use Rattle.polishing.specs.declared.heads.Head.TheVariants as head
@@ -38,7 +35,7 @@ module _ (p : List ℕ) (o n : ℕ) (headed : 8 ≤ n) where
         rw (eq-eqb (mirror_of (cut p o n)) m (mirror_at ∙ sym is ∙ e)) (λ i. head.Row ((er ∙ sym reading_at) i) ((ek ∙ sym row_at) i))
 
 -- what is no reading has none
-pub no_head : (m : ℕ) (p : List ℕ) (a : Part) → OneOf (1 ∷ 2 ∷ []) (tag_of the_type a) → head.Other ≡ part_head m p a
-no_head m p (part.Reading o n) k = absurd (miss (1 ∷ 2 ∷ []) 0 tt k)
+pub no_head : (m : ℕ) (p : List ℕ) (a : Part) → ((o n : ℕ) → a ≡ part.Reading o n → ⊥) → head.Other ≡ part_head m p a
+no_head m p (part.Reading o n) k = absurd (k o n refl)
 no_head m p part.Passed k = refl
 no_head m p part.Nothing k = refl

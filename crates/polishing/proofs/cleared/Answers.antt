@@ -15,7 +15,8 @@ abbrev segment : After-is_segment → List ℕ
 segment c = c.args.segment.now
 
 pub returns-then-not-is_segment : goal.returns-then-not-is_segment
-returns-then-not-is_segment c = sym (on_size (segment (goal.at.returns-then-not-is_segment c).After-is_segment) _ _ _ (sym c.is_segment.ensures ∙ c.if-not-is_segment.true))
+returns-then-not-is_segment c = sym (on_size (segment (goal.at.returns-then-not-is_segment c).After-is_segment) _ _ _
+    (sym c.is_segment.ensures ∙ c.if-not-is_segment.true))
 
 right : (c : Else-not-is_segment) → size_ok (segment (goal.at.Else-not-is_segment c).After-is_segment) ≡ true
 right c = sym c.is_segment.ensures ∙ c.if-not-is_segment.false
@@ -32,7 +33,8 @@ mark_segment-requires c = (refl, right (goal.at.mark_segment-requires c).Else-no
 
 pub returns-then-not-mark_segment : goal.returns-then-not-mark_segment
 returns-then-not-mark_segment c =
-    sym (on_damage _ _ _ _ (right (goal.at.returns-then-not-mark_segment c).Else-not-is_segment) (rule (goal.at.returns-then-not-mark_segment c).Else-not-is_named) (sym c.mark_segment.ensures.0 ∙ c.if-not-mark_segment.true))
+    sym (on_damage _ _ _ _ (right (goal.at.returns-then-not-mark_segment c).Else-not-is_segment)
+    (rule (goal.at.returns-then-not-mark_segment c).Else-not-is_named) (sym c.mark_segment.ensures.0 ∙ c.if-not-mark_segment.true))
 
 -- every test is passed
 module _ (c : Else-not-mark_segment) where
@@ -41,13 +43,20 @@ module _ (c : Else-not-mark_segment) where
 
   judged : Judged c.args.segment.now c.args.rows c.args.edition
   judged =
-      record { size = right (goal.at.Else-not-mark_segment c).Else-not-is_segment; names = rule (goal.at.Else-not-mark_segment c).Else-not-is_named; pages = sym c.mark_segment.ensures.0 ∙ marked }
+      record {
+        size = right (goal.at.Else-not-mark_segment c).Else-not-is_segment;
+        names = rule (goal.at.Else-not-mark_segment c).Else-not-is_named;
+        pages = sym c.mark_segment.ensures.0 ∙ marked;
+      }
 
 pub is_cleared-requires : goal.is_cleared-requires
 is_cleared-requires c =
     let j = judged (goal.at.is_cleared-requires c).Else-not-mark_segment in
     let a = c.args in
-    record { segment_value = (j.size, j.pages); marked_value = (c.mark_segment.ensures.1 (marked (goal.at.is_cleared-requires c).Else-not-mark_segment), rows_named_lem a.rows a.edition j.names) }
+    record {
+      segment_value = (j.size, j.pages);
+      marked_value = (c.mark_segment.ensures.1 (marked (goal.at.is_cleared-requires c).Else-not-mark_segment), rows_named_lem a.rows a.edition j.names);
+    }
 
 -- by the rule
 told : (c : After-is_cleared) → let a = c.args in

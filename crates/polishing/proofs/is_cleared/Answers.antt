@@ -22,16 +22,18 @@ returns-then-is_met c =
     (sym c.is_met.ensures ∙ c.if-is_met.true))
 
 pub window_word-requires : goal.window_word-requires
-window_word-requires c =
-    let pre = c.requires in
-    record { segment_value = pre.0; marked_value = (pre.1.0, pre.1.1, omega arith) }
+window_word-requires c = record {
+  segment_value = c.requires.segment_value;
+  marked_value = (c.requires.marked_value.0, c.requires.marked_value.1, omega arith);
+}
 
 pub with_window-c-requires : goal.with_window-c-requires
 with_window-c-requires c = omega (arith, few (goal.at.with_window-c-requires c).At-loop-w)
 
 pub loop-w-preserved : goal.loop-w-preserved
 loop-w-preserved c =
-    counts_next (whole (goal.at.loop-w-preserved c).At-loop-w) c.loop-w.w c.loop-w.c c.loop-w.invariant (omega arith) _ c.window_word.ensures _ c.with_window-c.ensures
+    counts_next (whole (goal.at.loop-w-preserved c).At-loop-w) c.loop-w.w c.loop-w.c c.loop-w.invariant (omega arith) _ c.window_word.ensures _
+    c.with_window-c.ensures
 
 pub is_met-requires-2 : goal.is_met-requires-2
 is_met-requires-2 c = omega (arith, few (goal.at.is_met-requires-2 c).At-loop-w)

@@ -15,7 +15,8 @@ abbrev segment : After-is_segment → List ℕ
 segment c = c.args.segment.now
 
 pub returns-then-not-is_segment : goal.returns-then-not-is_segment
-returns-then-not-is_segment c = sym (on_size (segment (goal.at.returns-then-not-is_segment c).After-is_segment) _ _ _ (sym c.is_segment.ensures ∙ c.if-not-is_segment.true))
+returns-then-not-is_segment c = sym (on_size (segment (goal.at.returns-then-not-is_segment c).After-is_segment) _ _ _
+    (sym c.is_segment.ensures ∙ c.if-not-is_segment.true))
 
 right : (c : Else-not-is_segment) → size_ok (segment (goal.at.Else-not-is_segment c).After-is_segment) ≡ true
 right c = sym c.is_segment.ensures ∙ c.if-not-is_segment.false
@@ -32,7 +33,8 @@ mark_segment-requires c = (refl, right (goal.at.mark_segment-requires c).Else-no
 
 pub returns-then-not-mark_segment : goal.returns-then-not-mark_segment
 returns-then-not-mark_segment c =
-    sym (on_damage _ _ _ _ (right (goal.at.returns-then-not-mark_segment c).Else-not-is_segment) (rule (goal.at.returns-then-not-mark_segment c).Else-not-rows_named) (sym c.mark_segment.ensures.0 ∙ c.if-not-mark_segment.true))
+    sym (on_damage _ _ _ _ (right (goal.at.returns-then-not-mark_segment c).Else-not-is_segment)
+    (rule (goal.at.returns-then-not-mark_segment c).Else-not-rows_named) (sym c.mark_segment.ensures.0 ∙ c.if-not-mark_segment.true))
 
 -- every page is sound
 module _ (c : Else-not-mark_segment) where
@@ -44,13 +46,24 @@ module _ (c : Else-not-mark_segment) where
 
 pub returns-then-place-lt-WINDOWS : goal.returns-then-place-lt-WINDOWS
 returns-then-place-lt-WINDOWS c =
-    sym (on_room _ _ _ _ (right (goal.at.returns-then-place-lt-WINDOWS c).Else-not-is_segment) (rule (goal.at.returns-then-place-lt-WINDOWS c).Else-not-rows_named) (all_sound_lem (goal.at.returns-then-place-lt-WINDOWS c).Else-not-mark_segment) (omega arith))
+    sym (on_room _ _ _ _ (right (goal.at.returns-then-place-lt-WINDOWS c).Else-not-is_segment)
+    (rule (goal.at.returns-then-place-lt-WINDOWS c).Else-not-rows_named)
+    (all_sound_lem (goal.at.returns-then-place-lt-WINDOWS c).Else-not-mark_segment) (omega arith))
 
 pub write_words-requires : goal.write_words-requires
 write_words-requires c =
-    record { segment_value = (right (goal.at.write_words-requires c).Else-not-is_segment, all_sound_lem (goal.at.write_words-requires c).Else-not-mark_segment); marked_value = (c.mark_segment.ensures.1 (marked (goal.at.write_words-requires c).Else-not-mark_segment), rule (goal.at.write_words-requires c).Else-not-rows_named, omega arith) }
+    record {
+      segment_value = (right (goal.at.write_words-requires c).Else-not-is_segment, all_sound_lem (goal.at.write_words-requires c).Else-not-mark_segment);
+      marked_value = (
+        c.mark_segment.ensures.1 (marked (goal.at.write_words-requires c).Else-not-mark_segment),
+        rule
+            (goal.at.write_words-requires c).Else-not-rows_named,
+        omega arith,
+      );
+    }
 
 pub returns : goal.returns
 returns c =
     (λ i. record { answer = DONE; place = c.write_words.ensures i })
-    ∙ sym (on_done _ _ _ _ (right (goal.at.returns c).Else-not-is_segment) (rule (goal.at.returns c).Else-not-rows_named) (all_sound_lem (goal.at.returns c).Else-not-mark_segment) (omega arith))
+    ∙ sym (on_done _ _ _ _ (right (goal.at.returns c).Else-not-is_segment) (rule (goal.at.returns c).Else-not-rows_named)
+    (all_sound_lem (goal.at.returns c).Else-not-mark_segment) (omega arith))

@@ -35,8 +35,13 @@ of_part : (c : In-Reading) (h : Head) → h ≡ head_of c.args.mirror (cut (page
 of_part c h e = e ∙ sym (ap (part_head c.args.mirror (page c)) c.in-Reading.is)
 
 pub returns-then-get_u32-mirror : goal.returns-then-get_u32-mirror
-returns-then-get_u32-mirror c =
-    (of_part (goal.at.returns-then-get_u32-mirror c).In-Reading _ (head_other (page (goal.at.returns-then-get_u32-mirror c).In-Reading) (off (goal.at.returns-then-get_u32-mirror c).In-Reading) (len (goal.at.returns-then-get_u32-mirror c).In-Reading) (lies (goal.at.returns-then-get_u32-mirror c).In-Reading).headed _ _ c.get_u32.ensures.is c.if-get_u32-mirror.true), tt)
+returns-then-get_u32-mirror c = (
+  of_part (goal.at.returns-then-get_u32-mirror c).In-Reading _
+      (head_other (page (goal.at.returns-then-get_u32-mirror c).In-Reading) (off (goal.at.returns-then-get_u32-mirror c).In-Reading)
+      (len (goal.at.returns-then-get_u32-mirror c).In-Reading) (lies (goal.at.returns-then-get_u32-mirror c).In-Reading).headed _ _
+      c.get_u32.ensures.is c.if-get_u32-mirror.true),
+  tt,
+)
 
 pub overflow_add-offset : goal.overflow_add-offset
 overflow_add-offset c = let h = lies (goal.at.overflow_add-offset c).In-Reading in omega arith
@@ -54,6 +59,7 @@ pub returns : goal.returns
 returns c =
     let r = c.get_u16.ensures in
     let k = c.get_u16-2.ensures in (
-      of_part (goal.at.returns c).In-Reading _ (head_row (page (goal.at.returns c).In-Reading) (off (goal.at.returns c).In-Reading) (len (goal.at.returns c).In-Reading) (lies (goal.at.returns c).In-Reading).headed _ _ c.get_u32.ensures.is c.if-get_u32-mirror.false _ _ r.is k.is),
+      of_part (goal.at.returns c).In-Reading _ (head_row (page (goal.at.returns c).In-Reading) (off (goal.at.returns c).In-Reading)
+          (len (goal.at.returns c).In-Reading) (lies (goal.at.returns c).In-Reading).headed _ _ c.get_u32.ensures.is c.if-get_u32-mirror.false _ _ r.is k.is),
       (r.small, k.small),
     )

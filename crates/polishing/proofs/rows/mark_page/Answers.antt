@@ -35,7 +35,8 @@ loop-k-preserved c =
       omega arith,
       search rules,
       ap (λ (x : Marks). marks_over w x (readings_from (view (page (goal.at.loop-k-preserved c).At-loop-k)) (c.loop-k.k + 1))) c.mark_head-s.ensures
-          ∙ sym (over_next (with_head w) (λ s. refl) w.mirror (page (goal.at.loop-k-preserved c).At-loop-k) c.requires.2 c.loop-k.k (counted (goal.at.loop-k-preserved c).In-loop-k) _ _ head)
+          ∙ sym (over_next (with_head w) (λ s. refl) w.mirror (page (goal.at.loop-k-preserved c).At-loop-k) c.requires.2 c.loop-k.k
+          (counted (goal.at.loop-k-preserved c).In-loop-k) _ _ head)
           ∙ c.loop-k.invariant.2,
     )
 

@@ -11,8 +11,8 @@ use Rattle.polishing.proofs.rows.mark_page.Given as goal
 abbrev pub invariant-loop-k : goal.invariant-loop-k
 invariant-loop-k l =
     (l.k ≤ l.n) × (length l.map ≡ 2048)
-    × (marks_over l.w record { l.map = l.map; l.spoiled = l.s } (readings_from (view l.page) l.k)
-    ≡ marks_over l.w record { l.map = l.initial.map; l.spoiled = l.spoiled } (page_readings (opened (view l.page))))
+    × (marks_over l.w record { map = l.map; spoiled = l.s } (readings_from (view l.page) l.k)
+    ≡ marks_over l.w record { map = l.initial.map; spoiled = l.spoiled } (page_readings (opened (view l.page))))
 
 abbrev pub decreases-loop-k : goal.decreases-loop-k
 decreases-loop-k l = l.n - l.k

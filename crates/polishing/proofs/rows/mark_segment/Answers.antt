@@ -31,7 +31,7 @@ loop-p-init c =
 -- page p: it is sound, and its readings come first of what is left
 module _ (c : After-page_of) where
   abbrev here : At-loop-p
-  here = c.before.before.before
+  here = (goal.at.After-page_of c).At-loop-p
 
   abbrev page : List ℕ
   page = c.page_of.result.now
@@ -39,11 +39,12 @@ module _ (c : After-page_of) where
   ok : SoundPage page
   ok = (
     ap length c.page_of.ensures ∙ length_page (segment here) here.loop-p.p (omega arith),
-    ap (λ (q : List ℕ). sound (view q)) c.page_of.ensures ∙ each_sound (segment here) (start here).requires.segment_value.1 here.loop-p.p (omega arith),
+    ap (λ (q : List ℕ). sound (view q)) c.page_of.ensures ∙ each_sound (segment here) c.requires.segment_value.1 here.loop-p.p (omega arith),
   )
 
   next : (x : Marks) → marks_over (wanted here) x (pages_readings (seg_view (segment here)) here.loop-p.p)
-      ≡ marks_over (wanted here) (marks_over (wanted here) x (page_readings (opened (view page)))) (pages_readings (seg_view (segment here)) (here.loop-p.p + 1))
+      ≡ marks_over (wanted here) (marks_over (wanted here) x (page_readings (opened (view page))))
+      (pages_readings (seg_view (segment here)) (here.loop-p.p + 1))
   next x =
       let w = wanted here in
       over_pages_next (with_head w) (λ s. refl) w.mirror (segment here) here.loop-p.p (omega arith) x
@@ -51,7 +52,7 @@ module _ (c : After-page_of) where
       (sym c.page_of.ensures)
 
 pub mark_page-s-requires : goal.mark_page-s-requires
-mark_page-s-requires c = ((here (goal.at.mark_page-s-requires c).After-page_of).loop-p.invariant.1, (start (here (goal.at.mark_page-s-requires c).After-page_of)).requires.map_len.1, ok (goal.at.mark_page-s-requires c).After-page_of)
+mark_page-s-requires c = (c.loop-p.invariant.1, c.requires.map_len.1, ok (goal.at.mark_page-s-requires c).After-page_of)
 
 pub loop-p-preserved : goal.loop-p-preserved
 loop-p-preserved c =

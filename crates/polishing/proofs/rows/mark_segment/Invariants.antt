@@ -11,8 +11,8 @@ use Rattle.polishing.proofs.rows.mark_segment.Given as goal
 abbrev pub invariant-loop-p : goal.invariant-loop-p
 invariant-loop-p l =
     (l.p ≤ l.n) × (length l.map ≡ 2048)
-    × (marks_over l.w record { l.map = l.map; spoiled = l.s } (pages_readings (seg_view l.segment) l.p)
-    ≡ marks_over l.w record { l.map = l.initial.map; spoiled = 0 } (readings (records (seg_view l.segment))))
+    × (marks_over l.w record { map = l.map; spoiled = l.s } (pages_readings (seg_view l.segment) l.p)
+    ≡ marks_over l.w record { map = l.initial.map; spoiled = 0 } (readings (records (seg_view l.segment))))
 
 abbrev pub decreases-loop-p : goal.decreases-loop-p
 decreases-loop-p l = l.n - l.p

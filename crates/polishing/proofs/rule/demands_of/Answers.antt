@@ -29,7 +29,7 @@ module _ (w : ℕ → Bool) where
   second = rw (counted_sides w) (ap (λ (b : Bool). leb 3 (mounted w + turned w) && (leb 1 (mounted w) && b)) (and-true (leb 1 (turned w))))
 
 pub returns-then-edition-eq2 : goal.returns-then-edition-eq2
-returns-then-edition-eq2 c = by_edition (By w sheet2) c.args.edition (λ n. absurd (omega arith)) (λ _. second w)
+returns-then-edition-eq2 c w = by_edition (By w sheet2) c.args.edition (λ n. absurd (omega arith)) (λ _. second w)
 
 pub returns : goal.returns
-returns c = by_edition (By w sheet1) c.args.edition (λ _. first w) (λ q. absurd (omega arith))
+returns c w = by_edition (By w sheet1) c.args.edition (λ _. first w) (λ q. absurd (omega arith))

@@ -31,7 +31,8 @@ loop-k-preserved c = (
   omega arith,
   c.mark_head.auto.marked ∙ c.loop-k.invariant.1,
   ap (λ (v : List ℕ). windows_over c.args.mirror v (readings_from (view (page (goal.at.loop-k-preserved c).At-loop-k)) (c.loop-k.k + 1))) c.mark_head.ensures
-      ∙ sym (over_next with_mark (λ v. refl) _ _ c.requires.1 _ (counted (goal.at.loop-k-preserved c).In-loop-k) _ _ c.head_at.ensures.0) ∙ c.loop-k.invariant.2,
+      ∙ sym (over_next with_mark (λ v. refl) _ _ c.requires.1 _ (counted (goal.at.loop-k-preserved c).In-loop-k) _ _ c.head_at.ensures.0)
+      ∙ c.loop-k.invariant.2,
 )
 
 pub shape_of-marked : goal.shape_of-marked
