@@ -14,7 +14,7 @@ const LONGEST_DATA: usize = 16356;
 
 // What stands at a place of the file: a record, by mirror, reading and row as one number, and the part of the file that is its data; the
 // file's end; or what is wrong with it.
-#[derive(Drop)]
+#[derive(Clone, Copy)]
 pub enum Next {
     Record {
         head: usize,
@@ -28,7 +28,7 @@ pub enum Next {
 }
 
 // What is wrong with a file, if anything.
-#[derive(Drop)]
+#[derive(Clone, Copy)]
 pub enum Format {
     Whole,
     Short,

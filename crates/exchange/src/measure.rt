@@ -11,14 +11,14 @@ use segment_pages::page_of;
 use store::PAGE_SIZE;
 
 // The bytes that readings take in the file, and how many records are passed over.
-#[derive(Drop)]
+#[derive(Clone, Copy)]
 pub struct Sums {
     pub length: usize,
     pub passed: usize,
 }
 
 // The same of a segment, if its pages are sound.
-#[derive(Drop)]
+#[derive(Clone, Copy)]
 pub struct Measure {
     pub sound: bool,
     pub length: usize,

@@ -10,7 +10,7 @@ use store::{BACK, Slot};
 pub const HEAD: usize = 8;
 
 // A slot as export takes it: the part of the page that is a reading; a record that is none; or no record.
-#[derive(Drop)]
+#[derive(Clone, Copy)]
 pub enum Part {
     Reading { offset: usize, length: usize },
     Passed,

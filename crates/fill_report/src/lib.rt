@@ -15,14 +15,14 @@ use segment_pages::page_of;
 use store::{PAGE_SIZE, Reported, Tally};
 
 // The figures of a segment, if its pages are sound.
-#[derive(Drop)]
+#[derive(Clone, Copy)]
 struct Figures {
     sound: bool,
     tally: Tally,
 }
 
 // What a report answers, and the tally with it.
-#[derive(Drop)]
+#[derive(Clone, Copy)]
 pub struct Report {
     pub answer: Reported,
     pub tally: Tally,

@@ -8,7 +8,7 @@ ghost use Rattle.fill_report.specs.Words.{Room, WithSlot, SlotsTo, Fills};
 use store::{BACK, ROOM, Slot};
 
 // Of some slots: their records, the bytes of these without back ids, and how many are targets.
-#[derive(Drop)]
+#[derive(Clone, Copy)]
 struct Counts {
     records: u64,
     bytes: u64,
@@ -16,7 +16,7 @@ struct Counts {
 }
 
 // What a page counts for beside itself, and its class.
-#[derive(Drop)]
+#[derive(Clone, Copy)]
 pub struct Fill {
     pub fresh: u64,
     pub slots: u64,

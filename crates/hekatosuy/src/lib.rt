@@ -107,7 +107,7 @@ pub fn hk_get_record(segment: &[u8], id: u64, offset: &mut u64, length: &mut u64
 }
 
 // What a step of the scan hands to C.
-#[derive(Drop)]
+#[derive(Clone, Copy)]
 pub struct Stepped {
     pub answer: u64,
     pub position: u64,
@@ -227,7 +227,7 @@ pub fn hk_repair(
 }
 
 // What a report hands to C.
-#[derive(Drop)]
+#[derive(Clone, Copy)]
 pub struct Tallied {
     pub answer: u64,
     pub tally: Tally,

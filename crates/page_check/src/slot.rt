@@ -7,7 +7,7 @@ use layout::slots::{FREE, REDIRECT, TARGET};
 use store::BACK;
 
 // Whether a slot may stand where it is, and the bytes of its record. Where it may not, the other two say nothing.
-#[derive(Drop)]
+#[derive(Clone, Copy)]
 pub struct Run {
     pub fits: bool,
     pub start: usize,

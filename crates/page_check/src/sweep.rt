@@ -7,7 +7,7 @@ ghost use Rattle.page_check.specs.Fit.{RecordsFit, Total};
 use store::{ENTRY, HEADER, PAGE_SIZE};
 
 // What a pass over all slots found: whether the records fit, and the sum of their lengths.
-#[derive(Drop)]
+#[derive(Clone, Copy)]
 pub struct Pass {
     pub fits: bool,
     pub total: usize,

@@ -7,7 +7,7 @@ ghost use Rattle.polishing.specs.Words.{SoundPage, part_head, SmallHead};
 use exchange::parts::Part;
 
 // A record of the mirror that is asked for, or anything else.
-#[derive(Drop)]
+#[derive(Clone, Copy)]
 pub enum Head {
     Row { reading: usize, row: usize },
     Other,

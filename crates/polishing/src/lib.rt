@@ -31,7 +31,7 @@ pub enum Clearing {
 }
 
 // What a list of the whole readings answers.
-#[derive(Drop)]
+#[derive(Clone, Copy)]
 pub enum Listing {
     Done,
     Size,

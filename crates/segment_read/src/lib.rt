@@ -84,7 +84,7 @@ pub fn reading_no(r: Reading) -> usize
 
 // The record of this id: its number to `answer`, and its bytes where they lie in the segment, "an empty part" on refusal.
 pub fn get_record<'a>(segment: &'a [u8], id: usize, answer: &mut usize) -> &'a [u8]
-    ensures { record { answer = answer.exit.now; bytes = result.now } ≡ read_step segment.now id }
+    ensures { record { answer = answer.new; bytes = result.now } ≡ read_step segment.now id }
 {
     let found = find_record(segment, id);
     *answer = reading_no(found);

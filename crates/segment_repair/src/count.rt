@@ -11,7 +11,7 @@ use segment_pages::page_of;
 use store::{MOST_SLOTS, PAGE_SIZE};
 
 // Of a page: how many entries it gets, whether it is in use afterwards, and how much is free on it then.
-#[derive(Drop)]
+#[derive(Clone, Copy)]
 pub struct Counted {
     pub entries: usize,
     pub used: bool,

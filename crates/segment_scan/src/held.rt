@@ -7,7 +7,7 @@ ghost use Rattle.segment_scan.specs.Held.{page_after, slot_after, Goes, moved_to
 use crate::OVER_PAGE;
 use store::Step;
 
-#[derive(Drop)]
+#[derive(Clone, Copy)]
 pub struct Scan<'a> {
     pub segment: &'a [u8],
     pub page: usize,
@@ -15,7 +15,7 @@ pub struct Scan<'a> {
 }
 
 // A step's answer, and the position after it.
-#[derive(Drop)]
+#[derive(Clone, Copy)]
 struct Moved {
     step: Step,
     page: usize,
