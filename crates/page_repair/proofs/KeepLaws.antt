@@ -10,7 +10,7 @@ use lib.ListN.{length, get_or, set, replicate, length-replicate, length-set}
 use lib.Seq.{get_or-set_same, get_or-set_other}
 use lib.Dec.{eqb, leb}
 use borrow.Author.Count.{below_more}
-use borrow.Author.Tests.{leb-true, eq-eqb}
+use borrow.Author.Tests.{le-leb, lt-leb, leb-true, eq-eqb, ne_eqb}
 use Rattle.store.specs.Slots.{off, len, is_record, is_target}
 use Rattle.store.specs.Page.{View}
 use Rattle.store.specs.Repair.{lies_in, lies, kept_below, is_in, keeps}
@@ -28,6 +28,24 @@ use Rattle.page_repair.specs.Kept.{KeptIn, KeptMarks, judged_no, Judged}
 -- ---- how a record lies
 
 module _ (c : ℕ) (x : Slot) where
+  pub leaves : 16384 < off x + len x → false ≡ lies_in c x
+  leaves h = rw (lt-leb (off x + len x) 16384 h)
+
+  module _ (inside : off x + len x ≤ 16384) where
+    pub too_short : is_target x ≡ true → len x < 8 → false ≡ lies_in c x
+    too_short t h = rw (le-leb (off x + len x) 16384 inside, t, lt-leb 8 (len x) h)
+
+    pub long_by : (is_target x ≡ false) ⊎ (8 ≤ len x) → (not (is_target x) || leb 8 (len x)) ≡ true
+    long_by (inl e) = or_in (not (is_target x)) (leb 8 (len x)) (ap not e)
+    long_by (inr h) = or_out (not (is_target x)) (leb 8 (len x)) (le-leb 8 (len x) h)
+
+    module _ (long : (is_target x ≡ false) ⊎ (8 ≤ len x)) where
+      pub lies_nowhere : len x ≡ 0 → true ≡ lies_in c x
+      lies_nowhere e = rw (le-leb (off x + len x) 16384 inside, long_by long, eq-eqb (len x) 0 e)
+
+      pub lies_behind : (len x ≡ 0 → ⊥) → leb (12 + 8 * c) (off x) ≡ lies_in c x
+      lies_behind n = rw (le-leb (off x + len x) 16384 inside, long_by long, ne_eqb (len x) 0 n)
+
   pub lies_high : lies_in c x ≡ true → off x + len x ≤ 16384
   lies_high e = leb-true (off x + len x) 16384 (and_both (leb (off x + len x) 16384)
       ((not (is_target x) || leb 8 (len x)) && (eqb (len x) 0 || leb (12 + 8 * c) (off x))) e).0
@@ -117,3 +135,10 @@ judged_more v k d a b s h e = record {
       (get_or-set_same b k d 0 h ∙ e);
   rest = λ j l. get_or-set_other b k j d 0 (omega arith) ∙ s.rest j (omega arith);
 }
+
+pub kept_told : (v : View) (k d : ℕ) → is_record (v.at k) ≡ true → d ≡ judged_no v k → eqb d 0 ≡ keeps v k
+kept_told v k d r e = ap (λ (x : ℕ). eqb x 0) (e ∙ ap (λ (b : Bool). cond b (cond (keeps v k) 0 1) 0) r) ∙ go (keeps v k)
+  where
+    go : (b : Bool) → eqb (cond b 0 1) 0 ≡ b
+    go true = refl
+    go false = refl

@@ -27,11 +27,30 @@ use Rattle.page_repair.specs.declared.mend.Header.{Header}
 
 -- ---- what is done to a slot, by its number
 
+pub deed_frees : (d : ℕ) (x : Slot) → (d ≡ 0 → ⊥) → d < 3 → slot_done (deed_of d) x ≡ Free
+deed_frees zero x n h = absurd (n refl)
+deed_frees (suc zero) x n h = refl
+deed_frees (suc (suc zero)) x n h = refl
+deed_frees (suc (suc (suc d))) x n h = absurd (omega arith)
+
+pub deed_cuts : (d : ℕ) (x : Slot) → 3 ≤ d → slot_done (deed_of d) x ≡ Ordinary (off x + 8) (len x - 8)
+deed_cuts zero x h = absurd (omega arith)
+deed_cuts (suc zero) x h = absurd (omega arith)
+deed_cuts (suc (suc zero)) x h = absurd (omega arith)
+deed_cuts (suc (suc (suc d))) x h = refl
+
 deed_changes : (d : ℕ) → changes (deed_of d) ≡ not (eqb d 0)
 deed_changes zero = refl
 deed_changes (suc zero) = refl
 deed_changes (suc (suc zero)) = refl
 deed_changes (suc (suc (suc d))) = ap not (sym (ne_eqb (suc (suc (suc d))) 0 (λ e. omega arith)))
+
+-- what can be coded is small
+pub off_small : (x : Slot) → Codable x → off x < 2 ^ 30
+off_small (Ordinary o l) c = c.0
+off_small Free c = omega arith
+off_small (Redirect i) c = omega arith
+off_small (Target o l) c = c.0
 
 len_small : (x : Slot) → Codable x → len x < 2 ^ 32
 len_small (Ordinary o l) c = c.1
@@ -42,6 +61,35 @@ len_small (Target o l) c = c.1
 -- the slot afterwards, read and done
 pub slot_by_lem : (d : ℕ → Deed) (v : View) (k n : ℕ) {s x : Slot} → d k ≡ deed_of n → x ≡ v.at k → s ≡ slot_done (deed_of n) x → s ≡ slot_by d v k
 slot_by_lem d v k n e f g = g ∙ (λ i. slot_done (sym e i) (f i))
+
+-- ---- the lowest offset, with one slot more
+
+pub low_none : (l : ℕ) (x : Slot) → len x ≡ 0 → l ≡ cond (eqb (len x) 0) l (min (off x) l)
+low_none l x e = rw (eq-eqb (len x) 0 e)
+
+pub low_lower : (l : ℕ) (x : Slot) → (len x ≡ 0 → ⊥) → off x < l → off x ≡ cond (eqb (len x) 0) l (min (off x) l)
+low_lower l x n h = rw (ne_eqb (len x) 0 n) (omega arith)
+
+pub low_same : (l : ℕ) (x : Slot) → l ≤ off x → l ≡ cond (eqb (len x) 0) l (min (off x) l)
+low_same l x h = by_test (λ (r : ℕ). l ≡ r) (eqb (len x) 0) l (min (off x) l) (λ _. refl) (λ _. omega arith)
+
+-- ---- whether a header says these numbers
+
+module _ (v : View) (h : Header) {f : ℕ} (first : f ≡ v.first_free) where
+  pub says_not_first : (f ≡ h.first → ⊥) → false ≡ says_head v h
+  says_not_first n = rw (ne_eqb v.first_free h.first (λ e. n (first ∙ e)))
+
+  module _ (same : f ≡ h.first) {d : ℕ} (start : d ≡ v.data_start) where
+    pub says_not_start : (d ≡ h.start → ⊥) → false ≡ says_head v h
+    says_not_start n = rw (eq-eqb v.first_free h.first (sym first ∙ same), ne_eqb v.data_start h.start (λ e. n (start ∙ e)))
+
+    pub says_space : d ≡ h.start → {n : ℕ} → n ≡ v.free_space → eqb n h.space ≡ says_head v h
+    says_space e {n} space = rw (eq-eqb v.first_free h.first (sym first ∙ same), eq-eqb v.data_start h.start (sym start ∙ e), space)
+
+-- the header's numbers, each from its own
+pub head_is : (v : View) (n : ℕ) (r : Numbers) {d s l : ℕ} → n ≡ v.slot_count → d ≡ v.data_start → s ≡ cond (leb (12 + 8 * n) d && leb d r.low) d r.low
+    → l ≡ 16372 - (8 * n + r.total) → record { first = r.first; start = s; space = l } ≡ head_after v r
+head_is v n r count start from left = rw (from, left, count, start)
 
 -- ---- what is gathered of the slots, with one slot more
 

@@ -2,8 +2,10 @@
 use Prim.Native.Nat.{ℕ, ◌/◌, ◌≤◌, ◌<◌}
 use mathlib.Core.Path.{◌≡◌, refl, sym, ap, subst, ◌∙◌}
 use mathlib.Core.Bool.{Bool, true, false}
-use mathlib.Core.List.{List}
-use mathlib.Core.Logic.{◌≢◌}
+use mathlib.Core.List.{List, [], ◌∷◌}
+use mathlib.Core.Logic.{◌≢◌, ⊎_elim}
+use types.Run.{OneOf}
+use denote.Enum.Declared.{tag_of}
 use native.Mathlib.Omega.{arith}
 use native.Mathlib.Decide.{ℕ_discrete}
 use lib.ListN.{length}
@@ -17,9 +19,17 @@ use Rattle.store.proofs.Laws.RepairPage.{keeps_is}
 use Rattle.store.proofs.Laws.RepairPairs.{Holds, KeptRedirect, named_is, named_in}
 use Rattle.store.proofs.Laws.Repair.{standing_pages, standing_page}
 use Rattle.store.specs.declared.Slot.{Slot}
-use Rattle.store.specs.declared.Slot.TheVariants.{Free, Redirect}
+use Rattle.store.specs.declared.Slot.TheVariants.{Ordinary, Free, Redirect, Target}
+use Rattle.store.specs.contracts.Slot as slot
 use Rattle.segment_judge.specs.Words.{KeptTarget}
 use Rattle.segment_judge.proofs.HoldLaws.{not_lost, lost_few, counted, stands, stands_view}
+
+-- an entry that is told to be of another kind
+pub not_redirect : (x : Slot) → OneOf (0 ∷ 1 ∷ 3 ∷ []) (tag_of slot.the_type x) → (j : ℕ) → x ≢ Redirect j
+not_redirect (Ordinary o l) h j e = let z : ◌≡◌ {A = ℕ} 0 1 = cc in omega arith
+not_redirect Free h j e = let z : ◌≡◌ {A = ℕ} 0 1 = cc in omega arith
+not_redirect (Redirect i) h j e = ⊎_elim (λ e. omega arith) (⊎_elim (λ e. omega arith) (λ e. omega arith)) h
+not_redirect (Target o l) h j e = let z : ◌≡◌ {A = ℕ} 0 1 = cc in omega arith
 
 module _ (s : List ℕ) (t b : ℕ) (kt : KeptTarget s t b) where
   not_named : (KeptRedirect (standing s) b t → ⊥) → false ≡ named (standing s) t

@@ -1,5 +1,6 @@
 -- Many rows, one at a time: what the fold does with its next row, and what follows by going along the list. For all bytes, damaged ones too.
-use Rattle.std.specs.Prelude.{ℕ, zero, suc, ◌+◌, ◌-◌, ◌≤◌, ◌<◌, ◌≡◌, refl, Bool, true, false, not, ◌&&◌, List, [], ◌∷◌, ◌++◌, ◌⊎◌, ◌≢◌, length, get_or, take}
+use Rattle.std.specs.Prelude.{ℕ, zero, suc, ◌+◌, ◌-◌, ◌≤◌, ◌<◌, ◌≡◌, refl, Bool, true}
+use Rattle.std.specs.Prelude.{false, not, ◌&&◌, List, [], ◌∷◌, ◌++◌, ◌⊎◌, ◌≢◌, length, get_or, take}
 use Rattle.std.specs.Prelude.{drop, eqb, ltb, leb}
 use Rattle.std.proofs.Common.{sym, ap, ◌∙◌, subst, inl, inr, ⊎_elim, arith, zero-add, length-drop, take-take, drop-drop, eqb-true, eq-eqb, ne_eqb, le-leb}
 use Rattle.std.proofs.Math.Seq.{take-nil}

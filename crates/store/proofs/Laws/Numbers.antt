@@ -1,5 +1,6 @@
 -- Laws of `put` and `cut`, and of numbers as bytes. All that is known of a page after a write follows from these. And: what is one of a list.
-use Rattle.std.specs.Prelude.{ℕ, zero, suc, ◌+◌, ◌-◌, ◌*◌, ◌/◌, ◌%◌, ◌^◌, ◌≤◌, ◌<◌, ◌≡◌, refl, List, [], ◌∷◌, ◌++◌, length, take, drop, set, get_or, ◌⊎◌}
+use Rattle.std.specs.Prelude.{ℕ, zero, suc, ◌+◌, ◌-◌, ◌*◌, ◌/◌, ◌%◌, ◌^◌, ◌≤◌, ◌<◌}
+use Rattle.std.specs.Prelude.{◌≡◌, refl, List, [], ◌∷◌, ◌++◌, length, take, drop, set, get_or, ◌⊎◌}
 use Rattle.std.proofs.Common.{sym, ap, ◌∙◌, not-suc-le-zero, zero-add, suc-add, add-mul, mul_assoc, mul_comm, pow-suc, arith, length-drop, drop-drop}
 use Rattle.std.proofs.Common.{take-add, take_all, take-take, drop-cons, length-take-le, inl, inr, ⊎_elim}
 use Rattle.std.proofs.lemmas.List.{reverse-reverse, length-reverse, take-append-le, drop-append-le}

@@ -1,6 +1,7 @@
 -- Repair on one page: what is kept, the numbers worked out, and that a page in use is sound afterwards. Numbers and slots alone: no byte of a
 -- page occurs here.
-use Rattle.std.specs.Prelude.{ℕ, zero, suc, ◌+◌, ◌-◌, ◌*◌, ◌≤◌, ◌<◌, min, ◌≡◌, Bool, true, false, cond, not, ◌&&◌, ◌||◌, List, [], ◌∷◌, ◌⊎◌, ◌≢◌, length, eqb}
+use Rattle.std.specs.Prelude.{ℕ, zero, suc, ◌+◌, ◌-◌, ◌*◌, ◌≤◌, ◌<◌, min, ◌≡◌, Bool, true}
+use Rattle.std.specs.Prelude.{false, cond, not, ◌&&◌, ◌||◌, List, [], ◌∷◌, ◌⊎◌, ◌≢◌, length, eqb}
 use Rattle.std.specs.Prelude.{ltb, leb}
 use Rattle.std.proofs.Math.Path.{refl}
 use Rattle.std.proofs.Common.{sym, ap, ◌∙◌, inr, arith, not-suc-le-zero, length-drop, eq-eqb, ne_eqb, lt-ltb, le-ltb, leb-true, eqb-true, ltb-false}

@@ -1,6 +1,7 @@
 -- Many rows, one at a time (document 02, "Store a whole map in one call"): the fold `insert_all` over a list of rows, and the rows in their bytes. For
 -- all segments and inventories, damaged ones too. The call, which is this fold behind its two tests: ManyRowsCall.
-use Rattle.std.specs.Prelude.{ℕ, ◌/◌, ◌%◌, ◌≤◌, ◌<◌, ◌≡◌, refl, true, false, cond, ◌&&◌, List, [], ◌∷◌, ◌++◌, ◌↔◌, ◌≢◌, length, get_or, take, eqb, leb}
+use Rattle.std.specs.Prelude.{ℕ, ◌/◌, ◌%◌, ◌≤◌, ◌<◌, ◌≡◌, refl, true, false, cond, ◌&&◌}
+use Rattle.std.specs.Prelude.{List, [], ◌∷◌, ◌++◌, ◌↔◌, ◌≢◌, length, get_or, take, eqb, leb}
 use Rattle.std.proofs.Common.{sym, ap, ◌∙◌, ne_eqb}
 use Rattle.store.specs.Numbers.{cut}
 use Rattle.store.specs.Refusals.{DONE}
