@@ -2,9 +2,8 @@
 --
 -- Nothing here names a number of bytes or of pages: an inventory of any length that has `Room` will do.
 use Rattle.std.specs.Prelude.{ℕ, zero, suc, ◌+◌, ◌-◌, ◌*◌, ◌/◌, ◌%◌, ◌≤◌, ◌<◌, ◌≡◌, Bool, cond, List, [], ◌∷◌, length, get_or, set, eqb, ltb, leb}
+use Rattle.std.specs.Prelude.{Option, Some, None}
 use Rattle.store.specs.Numbers.{cut, put, le, to_le}
-use Rattle.store.specs.declared.Named.{Named}
-use Rattle.store.specs.declared.Named.TheVariants.{At, Full}
 
 -- ---- classes
 
@@ -58,8 +57,8 @@ abbrev pub entry_for : ℕ → ℕ
 entry_for need = class_of (16372 - need) - 1
 
 -- the page for a need, of n pages; "need above 16,372, or the inventory entry read is n or more": none
-unfoldable pub found_in : List ℕ → ℕ → ℕ → Named
-found_in s n need = cond (ltb 16372 need) Full (cond (ltb (entry_at s (entry_for need)) n) (At (entry_at s (entry_for need))) Full)
+unfoldable pub found_in : List ℕ → ℕ → ℕ → Option ℕ
+found_in s n need = cond (ltb 16372 need) None (cond (ltb (entry_at s (entry_for need)) n) (Some (entry_at s (entry_for need))) None)
 
 -- ---- updates
 

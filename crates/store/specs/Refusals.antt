@@ -2,6 +2,8 @@
 --
 -- "Order: 1, 3, 2, 4 (root), 5, 6, 4 (target), 7, 4 (new page), 8."
 use Rattle.std.specs.Prelude.{ℕ}
+use Rattle.store.specs.declared.Refusal.{Refusal}
+use Rattle.store.specs.declared.Refusal.TheVariants.{Size, NoPage, Long, Damaged, NoRecord, Forwarded, Full, Stale}
 
 -- "the call is carried out"
 abbrev pub DONE : ℕ
@@ -50,3 +52,14 @@ LIST = 10
 -- Document 02, Ask 4: "when the entry list is too short for all changes"; Ask 7: "when the lent place is too short"
 abbrev pub ROOM : ℕ
 ROOM = 11
+
+-- the number of each refusal of the code
+abbrev pub number_of : Refusal → ℕ
+number_of Size = SIZE
+number_of NoPage = NOPAGE
+number_of Long = LONG
+number_of Damaged = DAMAGED
+number_of NoRecord = NONE
+number_of Forwarded = FORWARDED
+number_of Full = FULL
+number_of Stale = STALE

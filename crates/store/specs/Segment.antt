@@ -6,14 +6,14 @@ use Rattle.std.specs.Prelude.{ℕ, ◌+◌, ◌-◌, ◌*◌, ◌/◌, ◌%◌, 
 use Rattle.store.specs.Numbers.{cut, put, be, to_be, zeros, fit, id_of, page_no, slot_no}
 use Rattle.store.specs.Slots.{off, len, is_target}
 use Rattle.store.specs.Page.{View, view, sound}
-use Rattle.store.specs.Refusals.{DONE, SIZE, NOPAGE, LONG, DAMAGED, NONE, FORWARDED, FULL, STALE}
+use Rattle.store.specs.Refusals.{DONE, SIZE, LONG, DAMAGED, NONE, FORWARDED, FULL, STALE, number_of}
 use Rattle.store.specs.Inventory.{update, found_in}
 use Rattle.store.specs.PageSteps.{opened, move, run, Plan, plan, and_then, with_slot, Alloc, no_room, got, allocate, erase, erase_for_redirect}
 use Rattle.store.specs.PageSteps.{Relocated, refused, moved, relocate, filled}
-use Rattle.store.specs.declared.Named.{Named}
-use Rattle.store.specs.declared.Named.TheVariants.{At, Full}
-use Rattle.store.specs.declared.Root.{Root}
-use Rattle.store.specs.declared.Root.TheVariants.{Entry, NoPage, Damaged}
+use Rattle.std.specs.Prelude.{Option, Some, None, Ok, Err}
+use Rattle.std.specs.Prelude.{Result as ResultOf}
+use Rattle.store.specs.declared.Refusal.{Refusal}
+use Rattle.store.specs.declared.Refusal.TheVariants.{NoPage, Damaged}
 use Rattle.store.specs.declared.Slot.{Slot}
 use Rattle.store.specs.declared.Slot.TheVariants.{Ordinary, Free, Redirect, Target}
 
@@ -92,9 +92,9 @@ taken p no_room = nowhere STALE
 taken p (got k a) = found p k a
 
 -- 7, then 4 (new page), then 8: "the page named is the root's or old target's, or allocate finds no room there"
-abbrev pub find_on : SegView → ℕ → (ℕ → Bool) → Named → Found
-find_on s m excluded Full = nowhere FULL
-find_on s m excluded (At p) =
+abbrev pub find_on : SegView → ℕ → (ℕ → Bool) → Option ℕ → Found
+find_on s m excluded None = nowhere FULL
+find_on s m excluded (Some p) =
     cond (not (sound (s.page p))) (nowhere DAMAGED)
     (cond (excluded p) (nowhere STALE)
     (taken p (allocate (s.page p) m)))
@@ -105,7 +105,7 @@ need_for m = m + 8
 
 -- which page the inventory's bytes name, of n pages, for a need
 abbrev pub Naming : Type 0
-Naming = List ℕ → ℕ → ℕ → Named
+Naming = List ℕ → ℕ → ℕ → Option ℕ
 
 unfoldable pub find : Naming → SegView → List ℕ → ℕ → (ℕ → Bool) → Found
 find names s v m excluded = find_on s m excluded (names v s.pages (need_for m))
@@ -127,16 +127,15 @@ allocate_plan names s v n = refuse_if (ltb 16364 n) v LONG (insert_plan names s 
 
 -- ---- the id's own page: 2, then 4 (root), and then as its slot says
 
-unfoldable pub root_of : SegView → ℕ → Root
+unfoldable pub root_of : SegView → ℕ → ResultOf Slot Refusal
 root_of s i =
-    cond (leb s.pages (page_no i)) NoPage
-    (cond (not (sound (s.page (page_no i)))) Damaged
-    (Entry ((s.page (page_no i)).at (slot_no i))))
+    cond (leb s.pages (page_no i)) (Err NoPage)
+    (cond (not (sound (s.page (page_no i)))) (Err Damaged)
+    (Ok ((s.page (page_no i)).at (slot_no i))))
 
-abbrev pub by_root : {A : Type 0} → (ℕ → A) → (Slot → A) → Root → A
-by_root f g (Entry x) = g x
-by_root f g NoPage = f NOPAGE
-by_root f g Damaged = f DAMAGED
+abbrev pub by_root : {A : Type 0} → (ℕ → A) → (Slot → A) → ResultOf Slot Refusal → A
+by_root f g (Ok x) = g x
+by_root f g (Err r) = f (number_of r)
 
 -- ---- redirects: "A target's record begins with 8 bytes, the big-endian id of its root, and its length counts them."
 

@@ -1,6 +1,9 @@
-// Document 01's sizes, the kinds of a slot's entry, and the answers of the calls: declarations alone. What they mean is defined in
-// specs/, and document 01's number of each answer stands in specs/Answers.antt.
+// Document 01's sizes, the kinds of a slot's entry, what the calls answer, and why they refuse. What it means is defined in specs/, and the
+// documents' number of each answer stands in specs/Answers.antt.
 #![tactic(auto)]
+
+mod entry;
+mod number;
 
 // "page 16,384 bytes"; "an id is page × 65,536 + slot"; "new size above 16,364"; "count at most 2,046"; "n from 0 to 32,527"
 pub const PAGE_SIZE: usize = 16384;
@@ -35,32 +38,9 @@ pub enum Slot {
     Target { offset: usize, length: usize },
 }
 
-// What the own page of an id answers: its slot's entry, or a refusal.
-#[derive(Clone, Copy)]
-pub enum Root {
-    Entry { slot: Slot },
-    NoPage,
-    Damaged,
-}
-
-// What allocate on a page finds.
-#[derive(Clone, Copy)]
-pub enum Place {
-    At { slot: usize, offset: usize },
-    NoRoom,
-}
-
-// What the inventory names for a request.
-#[derive(Clone, Copy)]
-pub enum Named {
-    At { page: usize },
-    Full,
-}
-
-// What a call that writes answers.
-#[derive(Clone, Copy)]
-pub enum Answer {
-    Done { id: usize },
+// Why a call that reads, writes or scans records is refused: the documents' numbers 1 to 8.
+#[derive(Clone, Copy, Debug, PartialEq, Eq)]
+pub enum Refusal {
     Size,
     NoPage,
     Long,
@@ -71,32 +51,34 @@ pub enum Answer {
     Stale,
 }
 
-// What a read answers: the part of the segment that is the record, or a refusal.
+// Where a new record goes on its page.
 #[derive(Clone, Copy)]
-pub enum Reading {
-    At { offset: usize, length: usize },
-    Size,
-    NoPage,
-    Damaged,
-    NoRecord,
+pub struct Place {
+    pub slot: usize,
+    pub offset: usize,
 }
 
-// What a step of the scan answers: a record and the next position, or none.
+// The part of a segment that is a record.
 #[derive(Clone, Copy)]
-pub enum Step {
-    Record {
-        id: usize,
-        offset: usize,
-        length: usize,
-        page: usize,
-        slot: usize,
-    },
-    End {
-        page: usize,
-        slot: usize,
-    },
-    Size,
-    Damaged,
+pub struct Part {
+    pub offset: usize,
+    pub length: usize,
+}
+
+// A record that the scan lists.
+#[derive(Clone, Copy)]
+pub struct Record {
+    pub id: usize,
+    pub offset: usize,
+    pub length: usize,
+}
+
+// A step of the scan: a record, or none where the scan is over, and the next position.
+#[derive(Clone, Copy)]
+pub struct Step {
+    pub found: Option<Record>,
+    pub page: usize,
+    pub slot: usize,
 }
 
 // What repair does to a slot.
@@ -108,21 +90,19 @@ pub enum Deed {
     MadeOrdinary,
 }
 
-// What repair answers: how many entries it wrote, or would need.
+// Why a repair is refused; with the entries that it would need.
 #[derive(Clone, Copy)]
-pub enum Repair {
-    Done { count: usize },
+pub enum RepairRefusal {
     Size,
     Room { count: usize },
 }
 
-// What an insert of many rows answers: how many went in, or a refusal of the whole list; or where it stopped, with that row's answer.
+// Why an insert of many rows is refused: the whole list, or a row, where it stopped after so many.
 #[derive(Clone, Copy)]
-pub enum Inserted {
-    Done { rows: usize },
+pub enum ListRefusal {
     Size,
     List,
-    Stopped { rows: usize, answer: Answer },
+    Stopped { rows: usize, refusal: Refusal },
 }
 
 // "One running tally": figures over any number of segments, in the order that C has them (include/hekatosuy.h).
@@ -139,10 +119,9 @@ pub struct Tally {
     pub classes: [u64; 16],
 }
 
-// What a fill report answers.
+// Why a fill report is refused.
 #[derive(Clone, Copy)]
-pub enum Reported {
-    Done,
+pub enum ReportRefusal {
     Size,
     Damaged,
     Tally,

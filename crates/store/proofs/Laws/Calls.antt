@@ -28,8 +28,7 @@ use Rattle.store.proofs.Laws.Exact.{Exact, erase_exact, exact_then}
 use Rattle.store.proofs.Laws.OneSlot.{same_cost, roomed, alloc_exact, redirect_exact}
 use Rattle.store.proofs.Laws.Relocate.{fill_exact, retype_exact, relocate_answer, Answered}
 use Rattle.store.proofs.Laws.SoundPage.{sound_page, sound_init, and_both, fresh_none}
-use Rattle.store.specs.declared.Named.{Named}
-use Rattle.store.specs.declared.Named.TheVariants.{At, Full}
+use Rattle.std.specs.Prelude.{Option, Some, None}
 use Rattle.store.proofs.Laws.Segments.{ExactOn, AllExact, length_page, two_exact, three_exact}
 use Rattle.store.specs.declared.Slot.{Slot}
 use Rattle.store.specs.declared.Slot.TheVariants.{Ordinary, Free, Redirect, Target}
@@ -98,41 +97,41 @@ pub record Tells (v : List ℕ) (n need p : ℕ) : Type 0 where
   pub below : p < n
   pub entry : entry_at v (entry_for need) ≡ p
 
-pub named_tells : (v : List ℕ) (n need p : ℕ) → found_in v n need ≡ At p → Tells v n need p
+pub named_tells : (v : List ℕ) (n need p : ℕ) → found_in v n need ≡ Some p → Tells v n need p
 unfolding found_in
 named_tells v n need p = go (ltb 16372 need) refl (ltb e n) refl
   where
     e : ℕ
     e = entry_at v (entry_for need)
 
-    go : (b : Bool) → ltb 16372 need ≡ b → (c : Bool) → ltb e n ≡ c → cond b Full (cond c (At e) Full) ≡ At p → Tells v n need p
+    go : (b : Bool) → ltb 16372 need ≡ b → (c : Bool) → ltb e n ≡ c → cond b None (cond c (Some e) None) ≡ Some p → Tells v n need p
     go true b c d h = let z : ◌≡◌ {A = ℕ} 0 1 = cc in absurd (omega arith)
     go false b false d h = let z : ◌≡◌ {A = ℕ} 0 1 = cc in absurd (omega arith)
     go false b true d h = let q : e ≡ p = cc in record { most = ltb-false 16372 need b; below = omega (arith, ltb-true e n d); entry = q }
 
 -- its bytes are there
-pub named_within : (s v : List ℕ) (need p : ℕ) → found_in v (length s / 16384) need ≡ At p → Within s p
+pub named_within : (s v : List ℕ) (need p : ℕ) → found_in v (length s / 16384) need ≡ Some p → Within s p
 named_within s v need p e = omega (arith, (named_tells v (length s / 16384) need p e).below)
 
 -- the page that the inventory names is one of the segment's
-abbrev pub NamedOk : ℕ → Named → Type 0
-NamedOk n (At p) = p < n
-NamedOk n Full = Unit {0}
+abbrev pub NamedOk : ℕ → Option ℕ → Type 0
+NamedOk n (Some p) = p < n
+NamedOk n None = Unit {0}
 
 pub named_ok : (v : List ℕ) (n need : ℕ) → NamedOk n (found_in v n need)
 named_ok v n need = go (found_in v n need) refl
   where
-    go : (m : Named) → found_in v n need ≡ m → NamedOk n m
-    go Full e = tt
-    go (At p) e = (named_tells v n need p e).below
+    go : (m : Option ℕ) → found_in v n need ≡ m → NamedOk n m
+    go None e = tt
+    go (Some p) e = (named_tells v n need p e).below
 
 pub find_ok : (s v : List ℕ) (n : ℕ) (excluded : ℕ → Bool) → FoundOk s n excluded (find found_in (seg_view s) v n excluded)
 unfolding find seg_view
 find_ok s v n excluded = go (found_in v (length s / 16384) (need_for n)) (named_ok v (length s / 16384) (need_for n))
   where
-    go : (m : Named) → NamedOk (length s / 16384) m → FoundOk s n excluded (find_on (seg_view s) n excluded m)
-    go Full h = tt
-    go (At p) h =
+    go : (m : Option ℕ) → NamedOk (length s / 16384) m → FoundOk s n excluded (find_on (seg_view s) n excluded m)
+    go None h = tt
+    go (Some p) h =
         let u : View = opened (view (page_of s p)) in
         by_test (FoundOk s n excluded) (not (sound u)) (nowhere 4) (cond (excluded p) (nowhere 8) (taken p (allocate u n))) (λ g. tt)
         (λ g. by_test (FoundOk s n excluded) (excluded p) (nowhere 8) (taken p (allocate u n)) (λ x. tt)

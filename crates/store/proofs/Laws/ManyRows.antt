@@ -18,8 +18,7 @@ use Rattle.store.specs.ManyRowsTold.{of_row, unchanged, given, carried_out, join
 use Rattle.store.proofs.Laws.Numbers.{cut_drop, cut_same, put_nil}
 use Rattle.store.proofs.Laws.SoundPage.{and_both, and_in}
 use Rattle.store.proofs.Laws.Cases.{by_test, tests, never, eq_or_ne}
-use Rattle.store.specs.declared.Named.{Named}
-use Rattle.store.specs.declared.Named.TheVariants.{At, Full}
+use Rattle.std.specs.Prelude.{Option, Some, None}
 
 -- ---- the next row
 
@@ -192,9 +191,9 @@ taken_own : (p : ℕ) (a : Alloc) → OfFound (taken p a)
 taken_own p no_room = (refl, λ e. omega arith)
 taken_own p (got k a) = tt
 
-found_own : (u : SegView) (m : ℕ) (n : Named) → OfFound (find_on u m (λ p. false) n)
-found_own u m Full = (refl, λ e. omega arith)
-found_own u m (At p) =
+found_own : (u : SegView) (m : ℕ) (n : Option ℕ) → OfFound (find_on u m (λ p. false) n)
+found_own u m None = (refl, λ e. omega arith)
+found_own u m (Some p) =
     by_test OfFound (not (sound (u.page p))) (nowhere DAMAGED) (taken p (allocate (u.page p) m)) (λ e. (refl, λ f. omega arith))
     (λ e. taken_own p (allocate (u.page p) m))
 

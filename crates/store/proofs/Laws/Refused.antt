@@ -20,8 +20,7 @@ use Rattle.store.proofs.Laws.Calls.{by_test}
 use Rattle.store.proofs.Laws.Segments.{planned}
 use Rattle.store.proofs.Laws.Plans.{plan_of}
 use Rattle.store.proofs.Laws.Settled.{length_update}
-use Rattle.store.specs.declared.Named.{Named}
-use Rattle.store.specs.declared.Named.TheVariants.{At, Full}
+use Rattle.std.specs.Prelude.{Option, Some, None}
 use Rattle.store.specs.declared.Slot.{Slot}
 use Rattle.store.specs.declared.Slot.TheVariants.{Ordinary, Free, Redirect, Target}
 
@@ -73,9 +72,9 @@ find_most : (u : SegView) (v : List ℕ) (m : ℕ) (ex : ℕ → Bool) → Numbe
 unfolding find
 find_most u v m ex = go (found_in v u.pages (m + 8))
   where
-    go : (n : Named) → NumberMost (find_on u m ex n)
-    go Full = refl
-    go (At p) =
+    go : (n : Option ℕ) → NumberMost (find_on u m ex n)
+    go None = refl
+    go (Some p) =
         by_test NumberMost (not (sound (u.page p))) (nowhere 4) (cond (ex p) (nowhere 8) (taken p (allocate (u.page p) m)))
         (λ e. refl)
         (λ e. by_test NumberMost (ex p) (nowhere 8) (taken p (allocate (u.page p) m)) (λ x. refl)

@@ -7,8 +7,9 @@ use Rattle.store.specs.Page.{sound}
 use Rattle.store.specs.Refusals.{NOPAGE, DAMAGED}
 use Rattle.store.specs.Segment.{SegView, root_of, by_root}
 use Rattle.store.proofs.Laws.Cases.{by_test}
-use Rattle.store.specs.declared.Root.{Root}
-use Rattle.store.specs.declared.Root.TheVariants.{Entry, NoPage, Damaged}
+use Rattle.std.specs.Prelude.{Result, Ok, Err}
+use Rattle.store.specs.declared.Refusal.{Refusal}
+use Rattle.store.specs.declared.Refusal.TheVariants.{NoPage, Damaged}
 use Rattle.store.specs.declared.Slot.{Slot}
 
 -- a property of what is done by the id's own page, from its three answers
@@ -18,14 +19,14 @@ pub by_root_lem : {A : Type 0} (P : A → Type 0) (s : SegView) (i : ℕ) (f : �
     → P (by_root f g (root_of s i))
 unfolding root_of
 by_root_lem P s i f g none damaged entry =
-    by_test (λ (r : Root). P (by_root f g r)) (leb s.pages (page_no i)) NoPage _ (λ e. none (leb-true s.pages (page_no i) e))
-    (λ e. by_test (λ (r : Root). P (by_root f g r)) (not (sound (s.page (page_no i)))) Damaged _
+    by_test (λ (r : Result Slot Refusal). P (by_root f g r)) (leb s.pages (page_no i)) (Err NoPage) _ (λ e. none (leb-true s.pages (page_no i) e))
+    (λ e. by_test (λ (r : Result Slot Refusal). P (by_root f g r)) (not (sound (s.page (page_no i)))) (Err Damaged) _
     (λ d. damaged (leb-false s.pages (page_no i) e) (not-true (sound (s.page (page_no i))) d))
     (λ d. entry (leb-false s.pages (page_no i) e) (not-false (sound (s.page (page_no i))) d)))
 
 -- a page that is there and sound answers the entry
 pub root_entry : (s : SegView) (i : ℕ) → page_no i < s.pages → sound (s.page (page_no i)) ≡ true
-    → root_of s i ≡ Entry ((s.page (page_no i)).at (slot_no i))
+    → root_of s i ≡ Ok ((s.page (page_no i)).at (slot_no i))
 unfolding root_of
 root_entry s i h e = rw (lt-leb s.pages (page_no i) h, e)
 

@@ -35,8 +35,7 @@ use Rattle.store.proofs.Laws.Pairs.{PairOk, Pairs, tag_on, tag_target, moves_by,
 use Rattle.store.proofs.Laws.Pairs.{pairs_home, pairs_again, pairs_forward}
 use Rattle.store.proofs.Laws.Settled.{page_else, tags_step, bytes_step, classes_step, classes_same, classes_bounded, changed_bounded}
 use Rattle.store.proofs.Laws.Settled.{changed_swap, update_true, length_update}
-use Rattle.store.specs.declared.Named.{Named}
-use Rattle.store.specs.declared.Named.TheVariants.{At, Full}
+use Rattle.std.specs.Prelude.{Option, Some, None}
 use Rattle.store.specs.declared.Slot.{Slot}
 use Rattle.store.specs.declared.Slot.TheVariants.{Ordinary, Free, Redirect, Target}
 
@@ -251,9 +250,9 @@ module _ (u : SegView) (v : List ℕ) (seen : Seen u v) where
 
   -- ---- the page that a true inventory names has room to spare
 
-  abbrev NamedRoomy : ℕ → Named → Type 0
-  NamedRoomy need Full = Unit {0}
-  NamedRoomy need (At p) = (p < u.pages) × (need ≤ (u.page p).free_space) × (0 < (u.page p).slot_count → need < (u.page p).free_space)
+  abbrev NamedRoomy : ℕ → Option ℕ → Type 0
+  NamedRoomy need None = Unit {0}
+  NamedRoomy need (Some p) = (p < u.pages) × (need ≤ (u.page p).free_space) × (0 < (u.page p).slot_count → need < (u.page p).free_space)
 
   roomy_page : (p need : ℕ) → need ≤ 16372 → p < u.pages → classes u p ≤ entry_for need
       → (need ≤ (u.page p).free_space) × (0 < (u.page p).slot_count → need < (u.page p).free_space)
@@ -275,9 +274,9 @@ module _ (u : SegView) (v : List ℕ) (seen : Seen u v) where
   named_roomy : (need : ℕ) → NamedRoomy need (found_in v u.pages need)
   named_roomy need = go (found_in v u.pages need) refl
     where
-      go : (m : Named) → found_in v u.pages need ≡ m → NamedRoomy need m
-      go Full e = tt
-      go (At p) e =
+      go : (m : Option ℕ) → found_in v u.pages need ≡ m → NamedRoomy need m
+      go None e = tt
+      go (Some p) e =
           let n = named_tells v u.pages need p e in
           let low = seen.truth.entries (entry_for need) (omega (arith, class_top (16372 - need), class_low (16372 - need))) in
           let y = roomy_page p need n.most n.below (subst (λ (q : ℕ). classes u q ≤ entry_for need) n.entry
@@ -299,9 +298,9 @@ module _ (u : SegView) (v : List ℕ) (seen : Seen u v) where
       placed_in p l x r no_room h = absurd (omega (arith, (cost_most (u.page p) m).0))
       placed_in p l x r (got k a) h = (l, x, h.0, h.1, h.2)
 
-      go : (n : Named) → NamedRoomy (need_for m) n → FoundFits m ex (find_on u m ex n)
-      go Full h = refl
-      go (At p) h =
+      go : (n : Option ℕ) → NamedRoomy (need_for m) n → FoundFits m ex (find_on u m ex n)
+      go None h = refl
+      go (Some p) h =
           by_test (FoundFits m ex) (not (sound (u.page p))) (nowhere 4) (cond (ex p) (nowhere 8) (taken p (allocate (u.page p) m)))
           (λ e. let y = sound_test (u.page p) (seen.sounds p) in let f : not (sound (u.page p)) ≡ false = ap not y in let z : ◌≡◌ {A = ℕ} 0 1 = cc in
           absurd (omega arith))

@@ -17,7 +17,7 @@ use Rattle.store.specs.SoundSegment.{slot_on, bytes_on}
 use Rattle.store.proofs.Laws.Cases.{never}
 use Rattle.store.proofs.Laws.Roots.{by_root_lem}
 use Rattle.store.proofs.Laws.SoundSegment.{open_sound, seen_pages, sized}
-use Rattle.store.specs.declared.Named.TheVariants.{At}
+use Rattle.std.specs.Prelude.{Option, Some, None}
 use Rattle.store.specs.declared.Slot.{Slot}
 use Rattle.store.specs.declared.Slot.TheVariants.{Redirect}
 
@@ -85,12 +85,12 @@ module _ (s v : List ℕ) (p : ℕ) (fits : size_ok s ≡ true) (one : inv_ok v 
 
   -- ---- "4 (new page)", after 7 and before 8: the page that the inventory names, for a record of insert and allocate and for a new target
 
-  pub new_damaged : (m : ℕ) (excluded : ℕ → Bool) → found_in v (length s / 16384) (need_for m) ≡ At p
+  pub new_damaged : (m : ℕ) (excluded : ℕ → Bool) → found_in v (length s / 16384) (need_for m) ≡ Some p
       → find found_in (seg_view s) v m excluded ≡ nowhere DAMAGED
   unfolding find
   new_damaged m excluded e = rw (seen_pages s, e, seen)
 
-  pub insert_damaged : (bs : List ℕ) → length bs ≤ 16364 → found_in v (length s / 16384) (need_for (length bs)) ≡ At p → (insert_step s v bs).answer ≡ DAMAGED
+  pub insert_damaged : (bs : List ℕ) → length bs ≤ 16364 → found_in v (length s / 16384) (need_for (length bs)) ≡ Some p → (insert_step s v bs).answer ≡ DAMAGED
   unfolding insert_step insert_plan
   insert_damaged bs h e =
       stepped (insert_plan found_in (seg_view s) v bs) (rw (le-ltb 16364 (length bs) h, new_damaged (length bs) (λ q. false) e))
