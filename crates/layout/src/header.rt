@@ -4,39 +4,34 @@ ghost use Rattle.store.specs.Numbers.{put};
 ghost use Rattle.store.specs.Page.{view, fresh};
 ghost use Rattle.layout.specs.Run.{head_of};
 
-use store::{PAGE_SIZE, ROOM};
+use store::{PAGE_SIZE, Page, ROOM};
 
-pub fn get_slot_count(page: &[u8]) -> usize
-    requires { length page.now ≡ 16384 }
+pub fn get_slot_count(page: &Page) -> usize
     ensures { (result ≡ (view page.now).slot_count) × (result < 65536) }
 {
     crate::get_u16(page, 0)
 }
 
-pub fn get_first_free_slot(page: &[u8]) -> usize
-    requires { length page.now ≡ 16384 }
+pub fn get_first_free_slot(page: &Page) -> usize
     ensures { (result ≡ (view page.now).first_free) × (result < 65536) }
 {
     crate::get_u16(page, 2)
 }
 
-pub fn get_data_start(page: &[u8]) -> usize
-    requires { length page.now ≡ 16384 }
+pub fn get_data_start(page: &Page) -> usize
     ensures { (result ≡ (view page.now).data_start) × (result < 4294967296) }
 {
     crate::get_u32(page, 4)
 }
 
-pub fn get_free_space(page: &[u8]) -> usize
-    requires { length page.now ≡ 16384 }
+pub fn get_free_space(page: &Page) -> usize
     ensures { (result ≡ (view page.now).free_space) × (result < 4294967296) }
 {
     crate::get_u32(page, 8)
 }
 
 // Whether the page is fresh: "its 12 header bytes are all zero or are exactly the initialised header." A page in use is told by its count.
-pub fn is_fresh(page: &[u8]) -> bool
-    requires { length page.now ≡ 16384 }
+pub fn is_fresh(page: &Page) -> bool
     ensures { result ≡ fresh (view page.now) }
 {
     if get_slot_count(page) != 0 {
@@ -57,8 +52,7 @@ pub fn is_fresh(page: &[u8]) -> bool
 }
 
 // The four numbers of the header.
-pub fn set_header(page: &mut [u8], c: usize, f: usize, d: usize, n: usize)
-    requires { 12 ≤ length page.old }
+pub fn set_header(page: &mut Page, c: usize, f: usize, d: usize, n: usize)
     ensures { page.new ≡ put page.old 0 (head_of c f d n) }
 {
     crate::put_u16(page, 0, c);

@@ -1,12 +1,12 @@
 // The slot codec, and a slot of the page as the view has it.
 ghost use Rattle.std.specs.Prelude.{◌≡◌, ◌+◌, ◌*◌, ◌^◌, ◌≤◌, ◌<◌, length};
 ghost use Rattle.store.specs.Numbers.{put};
-ghost use Rattle.store.specs.Slots.{slot_word, slot_bytes, slot_of, off, len, is_free, is_record, is_target};
+ghost use Rattle.store.specs.Slots.{slot_word, slot_bytes, slot_of};
 ghost use Rattle.store.specs.Page.{view};
 ghost use Rattle.store.specs.Laws.Slots.{Codable};
 
 use crate::HALF;
-use store::{ENTRY, HEADER, Slot};
+use store::{ENTRY, HEADER, Page, Slot};
 
 // "The top two bits of a slot tell its kind": from these on the high half of an entry is of the kind, and below the first of them the
 // entry is an ordinary record's.
@@ -60,91 +60,18 @@ fn slot_of(high: usize, low: usize) -> Slot
 }
 
 // The entry of slot k, which is counted.
-pub fn get_slot(page: &[u8], k: usize) -> Slot
-    requires { (length page.now ≡ 16384) × (k < (view page.now).slot_count) × (k < 2046) }
+pub fn get_slot(page: &Page, k: usize) -> Slot
+    requires { (k < (view page.now).slot_count) × (k < 2046) }
     ensures { (result ≡ (view page.now).at k) × Codable result }
 {
     let at = HEADER + ENTRY * k;
     slot_of(crate::get_u32(page, at), crate::get_u32(page, at + 4))
 }
 
-pub fn write_slot(page: &mut [u8], k: usize, s: Slot)
-    requires { (20 + 8 * k ≤ length page.old) × Codable s }
+pub fn write_slot(page: &mut Page, k: usize, s: Slot)
+    requires { (k < 2046) × Codable s }
     ensures { page.new ≡ put page.old (12 + 8 * k) (slot_bytes s) }
 {
     let e = slot_word(s);
     crate::put_u64(page, HEADER + ENTRY * k, e);
-}
-
-pub fn is_free(s: Slot) -> bool
-    ensures { result ≡ is_free s }
-{
-    match s {
-        Slot::Ordinary {
-            offset: _,
-            length: _,
-        } => false,
-        Slot::Free => true,
-        Slot::Redirect { id: _ } => false,
-        Slot::Target {
-            offset: _,
-            length: _,
-        } => false,
-    }
-}
-
-pub fn is_record(s: Slot) -> bool
-    ensures { result ≡ is_record s }
-{
-    match s {
-        Slot::Ordinary {
-            offset: _,
-            length: _,
-        } => true,
-        Slot::Free => false,
-        Slot::Redirect { id: _ } => false,
-        Slot::Target {
-            offset: _,
-            length: _,
-        } => true,
-    }
-}
-
-pub fn is_target(s: Slot) -> bool
-    ensures { result ≡ is_target s }
-{
-    match s {
-        Slot::Ordinary {
-            offset: _,
-            length: _,
-        } => false,
-        Slot::Free => false,
-        Slot::Redirect { id: _ } => false,
-        Slot::Target {
-            offset: _,
-            length: _,
-        } => true,
-    }
-}
-
-pub fn len_of(s: Slot) -> usize
-    ensures { result ≡ len s }
-{
-    match s {
-        Slot::Ordinary { offset: _, length } => length,
-        Slot::Free => 0,
-        Slot::Redirect { id: _ } => 0,
-        Slot::Target { offset: _, length } => length,
-    }
-}
-
-pub fn off_of(s: Slot) -> usize
-    ensures { result ≡ off s }
-{
-    match s {
-        Slot::Ordinary { offset, length: _ } => offset,
-        Slot::Free => 0,
-        Slot::Redirect { id: _ } => 0,
-        Slot::Target { offset, length: _ } => offset,
-    }
 }

@@ -25,6 +25,8 @@ pub const BACK: usize = 8;
 
 pub const ROOM: usize = PAGE_SIZE - HEADER;
 
+pub type Page = [u8; PAGE_SIZE];
+
 // The place of a repair's entry where it is not a slot.
 pub const AT_HEADER: u64 = 65535;
 
