@@ -12,24 +12,24 @@ ghost use Rattle.layout.specs.Run.{Counted};
 ghost use Rattle.store.specs.declared.Slot.TheVariants.{Free};
 ghost use Rattle.page_check.specs.Fit.{Tells, HeaderFits, Passed};
 
-use store::{ENTRY, HEADER, MOST_SLOTS, PAGE_SIZE, ROOM};
+use store::{ENTRY, HEADER, MOST_SLOTS, PAGE_SIZE, Page, ROOM};
 use sweep::Pass;
 
 // Whether the first free slot is free: it is the count if none is. That no slot below it is free is found with the records.
-fn first_is_free(page: &[u8], n: usize, f: usize) -> bool
-    requires { (length page.now ≡ 16384) × (n ≡ (view page.now).slot_count) × (n ≤ 2046) × (f ≤ n) }
+fn first_is_free(page: &Page, n: usize, f: usize) -> bool
+    requires { (n ≡ (view page.now).slot_count) × (n ≤ 2046) × (f ≤ n) }
     ensures { Tells result ((view page.now).at f ≡ Free) }
 {
     if f == n {
         return true;
     }
-    layout::slots::is_free(layout::slots::get_slot(page, f))
+    layout::slots::get_slot(page, f).is_free()
 }
 
 // "count at most 2,046", "12 + 8 × count ≤ data start ≤ 16,384", and the first free slot. It is asked for between the two bounds of data
 // start, which the compiler would make one longer test of.
-fn header_fits(page: &[u8], n: usize, f: usize, d: usize) -> bool
-    requires { (length page.now ≡ 16384) × (n ≡ (view page.now).slot_count) }
+fn header_fits(page: &Page, n: usize, f: usize, d: usize) -> bool
+    requires { n ≡ (view page.now).slot_count }
     ensures { Tells result (HeaderFits (view page.now) n f d) }
 {
     if MOST_SLOTS < n {
@@ -49,7 +49,7 @@ fn header_fits(page: &[u8], n: usize, f: usize, d: usize) -> bool
 
 // Whether the n records lie well and apart, and the sum of their lengths. Where they lie in the order of their slots, as inserts leave
 // them, no map is needed; where they do not, the map decides.
-fn records_fit(page: &[u8], n: usize, f: usize, d: usize) -> Pass
+fn records_fit(page: &Page, n: usize, f: usize, d: usize) -> Pass
     requires { Counted page.now n }
     ensures { Passed (view page.now) n f d result.fits result.total }
 {
@@ -63,8 +63,7 @@ fn records_fit(page: &[u8], n: usize, f: usize, d: usize) -> Pass
 
 // A page without slots is sound exactly if it is fresh: "Any other page with count 0 is not sound." Last comes "free space = 16,372 − 8 ×
 // count − the sum of all ordinary and target lengths".
-pub fn is_sound(page: &[u8]) -> bool
-    requires { length page.now ≡ 16384 }
+pub fn is_sound(page: &Page) -> bool
     ensures { result ≡ sound (view page.now) }
 {
     let n = layout::header::get_slot_count(page);
@@ -87,8 +86,8 @@ pub fn is_sound(page: &[u8]) -> bool
 pub fn is_sound_page(bytes: &[u8]) -> bool
     ensures { result ≡ (eqb (length bytes.now) 16384 && sound (view bytes.now)) }
 {
-    if bytes.len() != PAGE_SIZE {
-        return false;
+    match bytes.as_array() {
+        Some(page) => is_sound(page),
+        None => false,
     }
-    is_sound(bytes)
 }

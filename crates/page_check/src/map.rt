@@ -8,7 +8,7 @@ ghost use Rattle.page_check.specs.Fit.{Tells, Passed};
 ghost use Rattle.page_check.specs.Map.{Mask, Clear, Claims, Blank};
 
 use crate::sweep::Pass;
-use store::{ENTRY, HEADER, PAGE_SIZE};
+use store::{ENTRY, HEADER, PAGE_SIZE, Page};
 
 // One bit for each byte of a page.
 pub const WORDS: usize = PAGE_SIZE / 64;
@@ -80,7 +80,7 @@ fn claim_record(used: &mut [usize], d: usize, o: usize, l: usize) -> bool
 
 // "every record of positive length lies between data start and 16,384 and overlaps no other; a record of length 0 has an offset of at
 // most 16,384; a target has length 8 or more": every slot is looked at, so a no is as good as a yes.
-pub fn claim_all(page: &[u8], n: usize, f: usize, d: usize, used: &mut [usize]) -> Pass
+pub fn claim_all(page: &Page, n: usize, f: usize, d: usize, used: &mut [usize]) -> Pass
     requires { Counted page.now n × (length used.old ≡ 256) × Blank used.old }
     ensures { Passed (view page.now) n f d result.fits result.total }
 {

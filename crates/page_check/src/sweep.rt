@@ -4,7 +4,7 @@ ghost use Rattle.store.specs.Page.{view};
 ghost use Rattle.layout.specs.Run.{Counted};
 ghost use Rattle.page_check.specs.Fit.{RecordsFit, Total};
 
-use store::{ENTRY, HEADER, PAGE_SIZE};
+use store::{ENTRY, HEADER, PAGE_SIZE, Page};
 
 // What a pass over all slots found: whether the records fit, and the sum of their lengths.
 #[derive(Clone, Copy)]
@@ -15,7 +15,7 @@ pub struct Pass {
 
 // It may only say yes: records in another order can lie well too. `low` is where the last record begins, so what ends there overlaps
 // none before it. The first half of a slot is read before the loop turns: so it stays one load, whatever its bits are used for.
-pub fn sweep(page: &[u8], n: usize, f: usize, d: usize) -> Pass
+pub fn sweep(page: &Page, n: usize, f: usize, d: usize) -> Pass
     requires { Counted page.now n }
     ensures { result.fits ≡ true → RecordsFit (view page.now) n f d × Total (view page.now) n result.total }
 {

@@ -19,7 +19,7 @@ header : (c : After-get_data_start-d)
     → Header (entry (used c)).args.page.now (used c).get_slot_count-n.result (used c).get_first_free_slot-f.result
     c.get_data_start-d.result
 header c = record {
-  whole = (entry (used c)).requires;
+  whole = (entry (used c)).told-page;
   slots = (used c).get_slot_count-n.ensures.0;
   first = (used c).get_first_free_slot-f.ensures.0;
   start = c.get_data_start-d.ensures.0;
