@@ -7,7 +7,7 @@ ghost use Rattle.store.specs.Laws.Views.{Sound};
 ghost use Rattle.page_compactify.specs.Keys.{live, Movable, move_key, slots_of, Ready};
 
 use crate::table::{kind_in, len_in, offset_in, slot_in};
-use store::{PAGE_SIZE, Slot};
+use store::{PAGE_SIZE, Page, Slot};
 
 fn live_slot(kind: usize, d: usize, n: usize) -> Slot
     requires { (d < 1073741824) × (n < 4294967296) }
@@ -26,7 +26,7 @@ fn live_slot(kind: usize, d: usize, n: usize) -> Slot
 }
 
 // The entry of key e's record at d, then its bytes.
-fn place(page: &mut [u8], e: usize, d: usize)
+fn place(page: &mut Page, e: usize, d: usize)
     requires { Movable e d page.old }
     ensures { page.new ≡ move_key e d page.old }
 {
@@ -36,8 +36,8 @@ fn place(page: &mut [u8], e: usize, d: usize)
 }
 
 // The records of the first n keys, packed; the new data start.
-fn pack(page: &mut [u8], t: &[usize], n: usize) -> usize
-    requires { (length page.old ≡ 16384) × (n ≤ length t.now) × Ready (take n t.now) 16384 (view page.old) }
+fn pack(page: &mut Page, t: &[usize], n: usize) -> usize
+    requires { (n ≤ length t.now) × Ready (take n t.now) 16384 (view page.old) }
     ensures { (page.new ≡ run (pack (slots_of (take n t.now)) 16384 (view page.old)).edits page.old)
         × (result ≡ (pack (slots_of (take n t.now)) 16384 (view page.old)).after.data_start) }
 {
@@ -57,8 +57,8 @@ fn pack(page: &mut [u8], t: &[usize], n: usize) -> usize
 }
 
 // All records against the page's end; the new data start.
-pub fn compactify(page: &mut [u8]) -> usize
-    requires { (length page.old ≡ 16384) × Sound (view page.old) }
+pub fn compactify(page: &mut Page) -> usize
+    requires { Sound (view page.old) }
     ensures { (page.new ≡ run (compactify (view page.old)).edits page.old)
         × (result ≡ (compactify (view page.old)).after.data_start) }
 {

@@ -4,11 +4,11 @@ ghost use Rattle.store.specs.Page.{view};
 ghost use Rattle.store.specs.Laws.Views.{Sound};
 ghost use Rattle.page_compactify.specs.Room.{Roomed};
 
-use store::{ENTRY, HEADER};
+use store::{ENTRY, HEADER, Page};
 
 // A gap of n bytes, by compactify where it has to be made; the data start.
-pub fn make_room(page: &mut [u8], n: usize) -> usize
-    requires { (length page.old ≡ 16384) × Sound (view page.old) × (n ≤ (view page.old).free_space) }
+pub fn make_room(page: &mut Page, n: usize) -> usize
+    requires { Sound (view page.old) × (n ≤ (view page.old).free_space) }
     ensures { Roomed n page.old page.new result }
 {
     let c = layout::header::get_slot_count(page);

@@ -6,17 +6,17 @@ ghost use Rattle.store.specs.PageSteps.{next_free, allocate};
 ghost use Rattle.store.specs.Laws.Lent.{UsedPage};
 ghost use Rattle.page_places.specs.Words.{page_bare, Inside, PastEntry};
 
-use store::{Place, Slot};
+use store::{Place, Slot, Page};
 
 // The lowest free slot from k on, or the count.
-fn next_free(page: &[u8], k: usize, c: usize) -> usize
-    requires { (length page.now ≡ 16384) × (c ≡ (view page.now).slot_count) × (c ≤ 2046) × (k ≤ c + 1) }
+fn next_free(page: &Page, k: usize, c: usize) -> usize
+    requires { (c ≡ (view page.now).slot_count) × (c ≤ 2046) × (k ≤ c + 1) }
     ensures { result ≡ next_free (c - k) (view page.now).at k }
 {
     let mut i = k;
     while i < c {
         let s = layout::slots::get_slot(page, i);
-        if layout::slots::is_free(s) {
+        if s.is_free() {
             return i;
         }
         i += 1;
@@ -36,7 +36,7 @@ fn added_for(f: usize, c: usize) -> usize
 }
 
 // Allocate but for the record's bytes: room is made, and the header and the slot's entry are written.
-pub fn reserve(page: &mut [u8], size: usize) -> Place
+pub fn reserve(page: &mut Page, size: usize) -> Place
     requires used_page { UsedPage page.old }
     requires size_bound { size ≤ 16384 }
     ensures { (page.new ≡ page_bare (allocate (view page.old) size) page.old)

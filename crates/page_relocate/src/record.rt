@@ -6,10 +6,10 @@ ghost use Rattle.store.specs.PageSteps.{relocate};
 ghost use Rattle.store.specs.Laws.Lent.{UsedSlot};
 ghost use Rattle.page_relocate.specs.Words.{page_moved, was_moved, refilled};
 
-use store::Place;
+use store::{Place, Page};
 
 // Slot k's record becomes these bytes, cut off or filled up with zeros to `size`; from a redirect too.
-pub fn rewrite(page: &mut [u8], k: usize, bytes: &[u8], size: usize) -> bool
+pub fn rewrite(page: &mut Page, k: usize, bytes: &[u8], size: usize) -> bool
     requires { UsedSlot page.old k }
     ensures { (page.new ≡ page_moved (refilled (relocate (view page.old) k size) k (fit size bytes.now))
         page.old)
@@ -26,7 +26,7 @@ pub fn rewrite(page: &mut [u8], k: usize, bytes: &[u8], size: usize) -> bool
 }
 
 // Slot k's record keeps its bytes.
-pub fn resize(page: &mut [u8], k: usize, size: usize) -> bool
+pub fn resize(page: &mut Page, k: usize, size: usize) -> bool
     requires { UsedSlot page.old k }
     ensures { (page.new
         ≡ page_moved (refilled (relocate (view page.old) k size) k (fit size ((view page.old).bytes k))) page.old)
@@ -36,7 +36,7 @@ pub fn resize(page: &mut [u8], k: usize, size: usize) -> bool
 }
 
 // A target's record becomes the id of its root and these bytes.
-pub fn rewrite_target(page: &mut [u8], k: usize, id: usize, bytes: &[u8]) -> bool
+pub fn rewrite_target(page: &mut Page, k: usize, id: usize, bytes: &[u8]) -> bool
     requires used_slot { UsedSlot page.old k }
     requires bytes_len_bound { length bytes.now ≤ 16364 }
     ensures { (page.new
@@ -56,7 +56,7 @@ pub fn rewrite_target(page: &mut [u8], k: usize, id: usize, bytes: &[u8]) -> boo
 }
 
 // A target's record keeps its bytes behind the id of its root.
-pub fn resize_target(page: &mut [u8], k: usize, id: usize, size: usize) -> bool
+pub fn resize_target(page: &mut Page, k: usize, id: usize, size: usize) -> bool
     requires used_slot { UsedSlot page.old k }
     requires size_bound { size ≤ 16364 }
     ensures { (page.new
@@ -66,7 +66,7 @@ pub fn resize_target(page: &mut [u8], k: usize, id: usize, size: usize) -> bool
 {
     if crate::relocate::relocate(page, k, size + 8) {
         let s = layout::slots::get_slot(page, k);
-        layout::put_u64(page, layout::slots::off_of(s), id);
+        layout::put_u64(page, s.offset(), id);
         return true;
     }
     false

@@ -6,18 +6,18 @@ ghost use Rattle.store.specs.PageSteps.{gap, relocate};
 ghost use Rattle.store.specs.Laws.Lent.{UsedSlot};
 ghost use Rattle.page_relocate.specs.Words.{page_moved, was_moved};
 
-use store::{PAGE_SIZE, Place, Slot};
+use store::{PAGE_SIZE, Place, Slot, Page};
 
 // Relocate to a larger size, where the page is compactified: "the growing record's old bytes are saved by value".
-fn grow_packed(page: &mut [u8], k: usize, s: Slot, size: usize) -> bool
+fn grow_packed(page: &mut Page, k: usize, s: Slot, size: usize) -> bool
     requires used_slot { UsedSlot page.old k }
     requires s_value { s ≡ (view page.old).at k }
     ensures { (page.new ≡ page_moved (relocate (view page.old) k size) page.old)
         × (result ≡ was_moved (relocate (view page.old) k size)) }
 {
-    let n = layout::slots::len_of(s);
+    let n = s.len();
     let mut saved = [0u8; PAGE_SIZE];
-    layout_runs::save(page, layout::slots::off_of(s), n, &mut saved);
+    layout_runs::save(page, s.offset(), n, &mut saved);
     let place = crate::relocation::move_slot(page, k, size);
     match place {
         Place::At { slot: _, offset } => {
@@ -29,17 +29,17 @@ fn grow_packed(page: &mut [u8], k: usize, s: Slot, size: usize) -> bool
 }
 
 // Relocate to a larger size, where the gap holds it: the old bytes stand where they stood.
-fn grow(page: &mut [u8], k: usize, s: Slot, size: usize) -> bool
+fn grow(page: &mut Page, k: usize, s: Slot, size: usize) -> bool
     requires used_slot { UsedSlot page.old k }
     requires s_value { (s ≡ (view page.old).at k) × (len s ≤ size) × (size ≤ gap (view page.old)) }
     ensures { (page.new ≡ page_moved (relocate (view page.old) k size) page.old)
         × (result ≡ was_moved (relocate (view page.old) k size)) }
 {
-    let n = layout::slots::len_of(s);
+    let n = s.len();
     let place = crate::relocation::move_slot(page, k, size);
     match place {
         Place::At { slot: _, offset } => {
-            layout_runs::move_within(page, layout::slots::off_of(s), n, offset);
+            layout_runs::move_within(page, s.offset(), n, offset);
             layout_runs::zero_fill(page, offset + n, size - n);
             true
         }
@@ -48,7 +48,7 @@ fn grow(page: &mut [u8], k: usize, s: Slot, size: usize) -> bool
 }
 
 // Relocate to a size that is not larger: the old bytes stay where they stand.
-fn settle(page: &mut [u8], k: usize, size: usize) -> bool
+fn settle(page: &mut Page, k: usize, size: usize) -> bool
     requires used_slot { UsedSlot page.old k }
     requires size_bound { size ≤ len ((view page.old).at k) }
     ensures { (page.new ≡ page_moved (relocate (view page.old) k size) page.old)
@@ -62,13 +62,13 @@ fn settle(page: &mut [u8], k: usize, size: usize) -> bool
 }
 
 // "Larger: refused if growth exceeds free space": before any byte is saved.
-pub fn relocate(page: &mut [u8], k: usize, size: usize) -> bool
+pub fn relocate(page: &mut Page, k: usize, size: usize) -> bool
     requires { UsedSlot page.old k }
     ensures { (page.new ≡ page_moved (relocate (view page.old) k size) page.old)
         × (result ≡ was_moved (relocate (view page.old) k size)) }
 {
     let s = layout::slots::get_slot(page, k);
-    let n = layout::slots::len_of(s);
+    let n = s.len();
     if size <= n {
         return settle(page, k, size);
     }

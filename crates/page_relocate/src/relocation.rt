@@ -11,7 +11,7 @@ ghost use Rattle.layout.specs.Run.{head_of};
 ghost use Rattle.page_places.specs.Words.{unfilled, page_bare, Inside};
 ghost use Rattle.page_relocate.specs.Words.{under_page, shrink_plan, home_of, alloc_of};
 
-use store::{Place, Slot};
+use store::{Place, Slot, Page};
 
 // The record at another place, of the same kind.
 fn placed_slot(s: Slot, d: usize, n: usize) -> Slot
@@ -42,7 +42,7 @@ fn placed_slot(s: Slot, d: usize, n: usize) -> Slot
 }
 
 // The header and slot k's entry.
-fn commit(page: &mut [u8], k: usize, s: Slot, c: usize, f: usize, d: usize, n: usize)
+fn commit(page: &mut Page, k: usize, s: Slot, c: usize, f: usize, d: usize, n: usize)
     requires { (20 + 8 * k ≤ length page.old) × Codable s }
     ensures { page.new ≡ put (put page.old 0 (head_of c f d n)) (12 + 8 * k) (slot_bytes s) }
 {
@@ -51,7 +51,7 @@ fn commit(page: &mut [u8], k: usize, s: Slot, c: usize, f: usize, d: usize, n: u
 }
 
 // Room is made, and slot k is a record of kind s just under data start; its place. Its bytes are still to be written.
-fn put_under(page: &mut [u8], k: usize, s: Slot, size: usize) -> usize
+fn put_under(page: &mut Page, k: usize, s: Slot, size: usize) -> usize
     requires used_slot { UsedSlot page.old k }
     requires size_bound { size ≤ (view page.old).free_space }
     ensures { (page.new ≡ under_page (view page.old) k s size page.old)
@@ -66,7 +66,7 @@ fn put_under(page: &mut [u8], k: usize, s: Slot, size: usize) -> usize
 }
 
 // "Smaller: the length only, and the offset stays."
-fn shrink(page: &mut [u8], k: usize, s: Slot, size: usize)
+fn shrink(page: &mut Page, k: usize, s: Slot, size: usize)
     requires used_slot { UsedSlot page.old k }
     requires s_value { (s ≡ (view page.old).at k) × (is_record s ≡ true) × (size < len s) }
     ensures { page.new ≡ run (unfilled (shrink_plan (view page.old) k size).edits) page.old }
@@ -75,13 +75,13 @@ fn shrink(page: &mut [u8], k: usize, s: Slot, size: usize)
     let f = layout::header::get_first_free_slot(page);
     let d = layout::header::get_data_start(page);
     let n = layout::header::get_free_space(page);
-    let len = layout::slots::len_of(s);
-    let t = placed_slot(s, layout::slots::off_of(s), size);
+    let len = s.len();
+    let t = placed_slot(s, s.offset(), size);
     commit(page, k, t, c, f, d, n + (len - size));
 }
 
 // Slot k is a redirect to 0 while its record of len bytes has no place.
-fn park(page: &mut [u8], k: usize, len: usize)
+fn park(page: &mut Page, k: usize, len: usize)
     requires used_slot { UsedSlot page.old k }
     requires len_bound { len ≤ 16384 }
     ensures { page.new
@@ -96,14 +96,14 @@ fn park(page: &mut [u8], k: usize, len: usize)
 }
 
 // Slot k's record s gets room for `size` bytes; its place.
-fn resize_slot(page: &mut [u8], k: usize, s: Slot, size: usize) -> Place
+fn resize_slot(page: &mut Page, k: usize, s: Slot, size: usize) -> Place
     requires used_slot { UsedSlot page.old k }
     requires s_value { (s ≡ (view page.old).at k) × (is_record s ≡ true) }
     ensures { (page.new ≡ page_bare (alloc_of k (resized (view page.old) k size)) page.old)
         × (given_place result ≡ allotted (alloc_of k (resized (view page.old) k size))) × Inside result size }
 {
-    let n = layout::slots::len_of(s);
-    let offset = layout::slots::off_of(s);
+    let n = s.len();
+    let offset = s.offset();
     if size == n {
         return Place::At { slot: k, offset };
     }
@@ -121,7 +121,7 @@ fn resize_slot(page: &mut [u8], k: usize, s: Slot, size: usize) -> Place
 }
 
 // Slot k, a redirect, gets a record of `size` bytes; its place.
-fn home_slot(page: &mut [u8], k: usize, size: usize) -> Place
+fn home_slot(page: &mut Page, k: usize, size: usize) -> Place
     requires { UsedSlot page.old k }
     ensures { (page.new ≡ page_bare (alloc_of k (home_of (view page.old) k size)) page.old)
         × (given_place result ≡ allotted (alloc_of k (home_of (view page.old) k size))) × Inside result size }
@@ -139,16 +139,16 @@ fn home_slot(page: &mut [u8], k: usize, size: usize) -> Place
 }
 
 // Relocate but for the record's bytes; the record's place.
-pub fn move_slot(page: &mut [u8], k: usize, size: usize) -> Place
+pub fn move_slot(page: &mut Page, k: usize, size: usize) -> Place
     requires { UsedSlot page.old k }
     ensures { (page.new ≡ page_bare (alloc_of k (relocate (view page.old) k size)) page.old)
         × (given_place result ≡ allotted (alloc_of k (relocate (view page.old) k size))) × Inside result size }
 {
     let s = layout::slots::get_slot(page, k);
-    if layout::slots::is_free(s) {
+    if s.is_free() {
         return Place::NoRoom;
     }
-    if layout::slots::is_record(s) {
+    if s.is_record() {
         return resize_slot(page, k, s, size);
     }
     home_slot(page, k, size)

@@ -3,19 +3,19 @@ ghost use Rattle.std.specs.Prelude.{◌≡◌, ◌++◌, ◌+◌, ◌*◌, ◌�
 ghost use Rattle.store.specs.Numbers.{put, to_be, fit};
 ghost use Rattle.store.specs.Slots.{slot_bytes};
 
-use store::Slot;
+use store::{Slot, Page};
 
 // "A new target of size + 8" at the place that `allocate` answered: its entry is a target's; then come the id of its root and the
 // bytes, cut off or filled up with zeros to `size`.
 pub fn write_target(
-    page: &mut [u8],
+    page: &mut Page,
     slot: usize,
     offset: usize,
     id: usize,
     bytes: &[u8],
     size: usize,
 )
-    requires { (length page.old ≡ 16384) × (20 + 8 * slot ≤ offset) × (offset + (size + 8) ≤ 16384) }
+    requires { (20 + 8 * slot ≤ offset) × (offset + (size + 8) ≤ 16384) }
     ensures { page.new ≡ put (put page.old (12 + 8 * slot) (slot_bytes (Slot.Target offset (size + 8)))) offset
         (to_be 8 id ++ fit size bytes.now) }
 {

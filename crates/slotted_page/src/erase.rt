@@ -6,7 +6,7 @@ ghost use Rattle.store.specs.PageSteps.{free_below, pruned, erase_for_redirect, 
 ghost use Rattle.store.specs.Laws.Lent.{UsedSlot};
 ghost use Rattle.slotted_page.specs.Words.{redirect_plan};
 
-use store::Slot;
+use store::{Slot, Page};
 
 // Data start once the record at o of n bytes is gone.
 fn start_without(o: usize, n: usize, d: usize) -> usize
@@ -20,14 +20,14 @@ fn start_without(o: usize, n: usize, d: usize) -> usize
 }
 
 // How many slots just below k are free.
-fn free_below(page: &[u8], k: usize) -> usize
-    requires { (length page.now ≡ 16384) × (k ≤ (view page.now).slot_count) × (k ≤ 2046) }
+fn free_below(page: &Page, k: usize) -> usize
+    requires { (k ≤ (view page.now).slot_count) × (k ≤ 2046) }
     ensures { (result ≡ free_below (view page.now).at k) × (result ≤ k) }
 {
     let mut j = k;
     while 0 < j {
         let s = layout::slots::get_slot(page, j - 1);
-        if layout::slots::is_free(s) {
+        if s.is_free() {
             j -= 1;
         } else {
             return k - j;
@@ -36,8 +36,8 @@ fn free_below(page: &[u8], k: usize) -> usize
     k - j
 }
 
-fn pruned_by(page: &[u8], k: usize, c: usize) -> usize
-    requires { (length page.now ≡ 16384) × (c ≡ (view page.now).slot_count) × (k < c) × (c ≤ 2046) }
+fn pruned_by(page: &Page, k: usize, c: usize) -> usize
+    requires { (c ≡ (view page.now).slot_count) × (k < c) × (c ≤ 2046) }
     ensures { (result ≡ pruned (view page.now) k) × (result ≤ k) }
 {
     if k + 1 == c {
@@ -55,7 +55,7 @@ fn lower(f: usize, k: usize) -> usize
     f
 }
 
-pub fn erase(page: &mut [u8], k: usize)
+pub fn erase(page: &mut Page, k: usize)
     requires { UsedSlot page.old k }
     ensures { page.new ≡ run (erase (view page.old) k).edits page.old }
 {
@@ -64,14 +64,14 @@ pub fn erase(page: &mut [u8], k: usize)
     let d = layout::header::get_data_start(page);
     let n = layout::header::get_free_space(page);
     let s = layout::slots::get_slot(page, k);
-    let len = layout::slots::len_of(s);
-    let up = start_without(layout::slots::off_of(s), len, d);
+    let len = s.len();
+    let up = start_without(s.offset(), len, d);
     let m = pruned_by(page, k, c);
     layout::header::set_header(page, c - m, lower(f, k), up, n + len + 8 * m);
     layout::slots::write_slot(page, k, Slot::Free);
 }
 
-pub fn erase_for_redirect(page: &mut [u8], k: usize, id: usize)
+pub fn erase_for_redirect(page: &mut Page, k: usize, id: usize)
     requires used_slot { UsedSlot page.old k }
     requires id_bound { id < 2 ^ 62 }
     ensures { page.new ≡ run (erase_for_redirect (view page.old) k id).edits page.old }
@@ -81,14 +81,14 @@ pub fn erase_for_redirect(page: &mut [u8], k: usize, id: usize)
     let d = layout::header::get_data_start(page);
     let n = layout::header::get_free_space(page);
     let s = layout::slots::get_slot(page, k);
-    let len = layout::slots::len_of(s);
-    let up = start_without(layout::slots::off_of(s), len, d);
+    let len = s.len();
+    let up = start_without(s.offset(), len, d);
     layout::header::set_header(page, c, f, up, n + len);
     layout::slots::write_slot(page, k, Slot::Redirect { id });
 }
 
 // "With the root as redirect", where the root is a redirect already: its entry alone.
-pub fn set_redirect(page: &mut [u8], k: usize, id: usize)
+pub fn set_redirect(page: &mut Page, k: usize, id: usize)
     requires { (20 + 8 * k ≤ length page.old) × (id < 2 ^ 62) }
     ensures { page.new ≡ run (redirect_plan (view page.old) k id).edits page.old }
 {

@@ -20,9 +20,9 @@ listed c =
 -- ---- the needs
 pub pack-requires : goal.pack-requires
 pack-requires c =
-    (omega arith, omega arith, rw (listed (goal.at.pack-requires c).After-collect-n) (keys_ready (view c.args.page.now) c.requires.1))
+    (omega arith, rw (listed (goal.at.pack-requires c).After-collect-n) (keys_ready (view c.args.page.now) c.requires))
 
 pub returns : goal.returns
 unfolding compactify
 returns c =
-    rw (listed (goal.at.returns c).After-collect-n, keys_slots (view c.args.page.now) c.requires.1) at c.pack.ensures
+    rw (listed (goal.at.returns c).After-collect-n, keys_slots (view c.args.page.now) c.requires) at c.pack.ensures

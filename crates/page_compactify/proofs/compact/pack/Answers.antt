@@ -23,7 +23,7 @@ next c =
 -- ---- the needs
 pub loop-j-init : goal.loop-j-init
 loop-j-init c = record {
-  left = record { ready = c.requires.2; same = refl; last = refl };
+  left = record { ready = c.requires.1; same = refl; last = refl };
   within = omega arith;
   whole = omega arith;
   top = omega arith;
@@ -58,21 +58,6 @@ loop-j-preserved c =
       top = omega arith;
     }
 
-pub get_slot_count-c-requires : goal.get_slot_count-c-requires
-get_slot_count-c-requires c = omega arith
-
-pub get_first_free_slot-f-requires : goal.get_first_free_slot-f-requires
-get_first_free_slot-f-requires c = omega arith
-
-pub get_free_space-r-requires : goal.get_free_space-r-requires
-get_free_space-r-requires c = omega arith
-
-pub set_header-requires : goal.set_header-requires
-set_header-requires c = omega arith
-
-pub shape_of-page : goal.shape_of-page
-shape_of-page c = omega arith
-
 pub returns : goal.returns
 returns c =
     let l = c.loop-j in
@@ -82,5 +67,5 @@ returns c =
     let e : l.j ≡ a.n = omega arith in
     to_pack_end t a.n l.d (start p t a.n) c.get_slot_count-c.result c.get_first_free_slot-f.result
     c.get_free_space-r.result l.page (planned p t a.n) c.set_header.new.page
-    c.requires.1 (rw e at l.invariant.left)
+    c.requires.0 (rw e at l.invariant.left)
     c.get_slot_count-c.ensures.0 c.get_first_free_slot-f.ensures.0 c.get_free_space-r.ensures.0 c.set_header.ensures

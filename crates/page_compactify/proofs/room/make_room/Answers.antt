@@ -5,9 +5,9 @@ use Rattle.page_compactify.proofs.room.make_room.Goals as goal
 pub returns-then-d-c : goal.returns-then-d-c
 returns-then-d-c c =
     let w = c.compactify in
-    room_made c.args.page.now c.args.n w.result c.requires.0 c.requires.1 w.new.page c.requires.2 (omega arith) w.ensures.0 w.ensures.1
+    room_made c.args.page.now c.args.n w.result c.told-page c.requires.0 w.new.page c.requires.1 (omega arith) w.ensures.0 w.ensures.1
 
 pub returns : goal.returns
 returns c =
     let d = c.get_data_start-d in
-    room_there c.args.page.now c.args.n d.result c.requires.0 c.requires.1 (omega arith) d.ensures.0
+    room_there c.args.page.now c.args.n d.result c.told-page c.requires.0 (omega arith) d.ensures.0
