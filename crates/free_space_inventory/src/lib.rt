@@ -3,12 +3,11 @@
 #![tactic(auto)]
 
 ghost use Rattle.std.specs.Prelude.{◌≡◌, ◌+◌, ◌-◌, ◌*◌, ◌/◌, ◌<◌, ◌≤◌, length};
-ghost use Rattle.store.specs.Answers.{named_page};
 ghost use Rattle.store.specs.Inventory.{class_of, nibble_at, set_nibble, entry_at, set_entry, Room, found_in, run_end};
 ghost use Rattle.store.specs.Inventory.{next_page, set_from, pulled_back, update};
 
 use layout::little::{get_u64_le, put_u64_le};
-use store::{Named, ROOM};
+use store::ROOM;
 
 // The classes, and so the entries.
 const CLASSES: usize = 15;
@@ -87,19 +86,19 @@ fn write_entry(inventory: &mut [u8], c: usize, v: usize)
 }
 
 // The page for a request that needs `need` bytes, of a segment of n pages.
-pub fn find_page(inventory: &[u8], n: usize, need: usize) -> Named
+pub fn find_page(inventory: &[u8], n: usize, need: usize) -> Option<usize>
     requires { 120 ≤ length inventory.now }
-    ensures { named_page result ≡ named_page (found_in inventory.now n need) }
+    ensures { result ≡ found_in inventory.now n need }
 {
     if ROOM < need {
-        return Named::Full;
+        return None;
     }
     let c = class_of(ROOM - need);
     let page = read_entry(inventory, c - 1);
     if page < n {
-        Named::At { page }
+        Some(page)
     } else {
-        Named::Full
+        None
     }
 }
 

@@ -16,32 +16,33 @@ use Rattle.store.specs.Laws.Lent.{SoundOn, TakenOn, RootIs}
 use Rattle.store.proofs.Laws.Calls.{page_below, back_ok, target_taken}
 use Rattle.store.proofs.Laws.SoundPage.{sound_test}
 use Rattle.store.proofs.Laws.Cases.{by_test}
-use Rattle.store.specs.declared.Root.{Root}
-use Rattle.store.specs.declared.Root.TheVariants.{Entry, NoPage, Damaged}
+use Rattle.std.proofs.Common.{Result, Ok, Err}
+use Rattle.store.specs.declared.Refusal.{Refusal}
+use Rattle.store.specs.declared.Refusal.TheVariants.{NoPage, Damaged}
 use Rattle.store.specs.declared.Slot.{Slot}
 
 module _ (s : List ℕ) (i : ℕ) where
-  pub root_past : length s / 16384 ≤ page_no i → NoPage ≡ root_of (seg_view s) i
+  pub root_past : length s / 16384 ≤ page_no i → Err NoPage ≡ root_of (seg_view s) i
   unfolding root_of
   root_past h = rw (seen_pages s, le-leb (length s / 16384) (page_no i) h)
 
   module _ (inside : page_no i < length s / 16384) where
-    pub root_damaged : sound ((seg_view s).page (page_no i)) ≡ false → Damaged ≡ root_of (seg_view s) i
+    pub root_damaged : sound ((seg_view s).page (page_no i)) ≡ false → Err Damaged ≡ root_of (seg_view s) i
     unfolding root_of
     root_damaged e = rw (seen_pages s, lt-leb (length s / 16384) (page_no i) inside, e)
 
     pub root_found : sound ((seg_view s).page (page_no i)) ≡ true → (x : Slot) → x ≡ ((seg_view s).page (page_no i)).at (slot_no i)
-        → Entry x ≡ root_of (seg_view s) i
+        → Ok x ≡ root_of (seg_view s) i
     unfolding root_of
     root_found e x q = rw (seen_pages s, lt-leb (length s / 16384) (page_no i) inside, e, q)
 
   -- an entry tells that the page is there and sound, and what the slot is
-  pub root_is : (x : Slot) → root_of (seg_view s) i ≡ Entry x → RootIs s i x
+  pub root_is : (x : Slot) → root_of (seg_view s) i ≡ Ok x → RootIs s i x
   unfolding root_of
   root_is x =
-      by_test (λ (r : Root). r ≡ Entry x → RootIs s i x) (leb (seg_view s).pages (page_no i)) NoPage _ (λ e q. let z : ◌≡◌ {A = ℕ} 0 1 = cc in
+      by_test (λ (r : Result Slot Refusal). r ≡ Ok x → RootIs s i x) (leb (seg_view s).pages (page_no i)) (Err NoPage) _ (λ e q. let z : ◌≡◌ {A = ℕ} 0 1 = cc in
       absurd (omega arith))
-      (λ e. by_test (λ (r : Root). r ≡ Entry x → RootIs s i x) (not (sound ((seg_view s).page (page_no i)))) Damaged _
+      (λ e. by_test (λ (r : Result Slot Refusal). r ≡ Ok x → RootIs s i x) (not (sound ((seg_view s).page (page_no i)))) (Err Damaged) _
       (λ d q. let z : ◌≡◌ {A = ℕ} 0 1 = cc in absurd (omega arith))
       (λ d q. record {
         whole = page_below s (page_no i) (leb-false (seg_view s).pages (page_no i) e);

@@ -8,7 +8,7 @@ ghost use Rattle.store.specs.Segment.{size_ok, inv_ok, page_of, seg_view, root_o
 ghost use Rattle.store.specs.Laws.Slots.{Codable};
 ghost use Rattle.store.specs.Laws.Lent.{Within};
 
-use store::{IDS_A_PAGE, MOST_PAGES, PAGE_SIZE, Root, Slot};
+use store::{IDS_A_PAGE, MOST_PAGES, PAGE_SIZE, Page, Refusal, Slot};
 
 // "A segment is a lent run of n whole pages, n from 0 to 32,527."
 pub fn is_segment(segment: &[u8]) -> bool
@@ -31,11 +31,13 @@ pub fn sizes_ok(segment: &[u8], inventory: &[u8]) -> bool
 }
 
 // Page p, to be read.
-pub fn page_of<'a>(segment: &'a [u8], p: usize) -> &'a [u8]
+pub fn page_of(segment: &[u8], p: usize) -> &Page
     requires { Within segment.now p }
     ensures { result.now ≡ page_of segment.now p }
 {
-    &segment[p * 16384..(p + 1) * 16384]
+    segment[p * PAGE_SIZE..(p + 1) * PAGE_SIZE]
+        .as_array()
+        .unwrap()
 }
 
 // Whether page p is sound; a fresh page is, as it stands and as it is seen.
@@ -47,8 +49,8 @@ pub fn page_sound(segment: &[u8], p: usize) -> bool
 }
 
 // Slot k of a page whose count is at most 2,046. A slot at or past the count is free.
-fn slot_of(page: &[u8], k: usize) -> Slot
-    requires { (length page.now ≡ 16384) × ((view page.now).slot_count ≤ 2046) }
+fn slot_of(page: &Page, k: usize) -> Slot
+    requires { (view page.now).slot_count ≤ 2046 }
     ensures { (result ≡ (view page.now).at k) × Codable result }
 {
     if layout::header::get_slot_count(page) <= k {
@@ -67,18 +69,17 @@ pub fn slot_on(segment: &[u8], p: usize, k: usize) -> Slot
 }
 
 // The own page of an id: 2, then 4 (root), and then the entry of its slot.
-pub fn root_of(segment: &[u8], id: usize) -> Root
+pub fn root_of(segment: &[u8], id: usize) -> Result<Slot, Refusal>
     ensures { result ≡ root_of (seg_view segment.now) id }
 {
     let p = id / IDS_A_PAGE;
     if segment.len() / PAGE_SIZE <= p {
-        return Root::NoPage;
+        return Err(Refusal::NoPage);
     }
     if !page_sound(segment, p) {
-        return Root::Damaged;
+        return Err(Refusal::Damaged);
     }
-    let slot = slot_on(segment, p, id % IDS_A_PAGE);
-    Root::Entry { slot }
+    Ok(slot_on(segment, p, id % IDS_A_PAGE))
 }
 
 // "A target's record begins with 8 bytes, the big-endian id of its root": of the record at this offset of page p.
@@ -104,7 +105,7 @@ pub fn points_back(segment: &[u8], i: usize, t: usize) -> bool
     if !page_sound(segment, p) {
         return false;
     }
-    let Slot::Target { offset, length: _ } = slot_on(segment, p, t % IDS_A_PAGE) else {
+    let Slot::Target { offset, .. } = slot_on(segment, p, t % IDS_A_PAGE) else {
         return false;
     };
     back_id_on(segment, p, offset) == i

@@ -2,8 +2,7 @@
 -- these.
 use Rattle.std.specs.Prelude.{ℕ, ◌<◌, true, false, List, [], ◌∷◌, Option, Some, None, Ok, Err}
 use Rattle.std.specs.Prelude.{Result as ResultOf}
-use Rattle.store.specs.Numbers.{cut}
-use Rattle.store.specs.Segment.{Result, Read, no_read, no_part, Located}
+use Rattle.store.specs.Segment.{Result, Read, no_read, Part, no_part, held, Located}
 use Rattle.store.specs.Scan.{Scanned, over_page}
 use Rattle.store.specs.Slots.{off}
 use Rattle.store.specs.PageSteps.{Alloc, no_room, got}
@@ -13,7 +12,6 @@ use Rattle.store.specs.Report.{Report}
 use Rattle.store.specs.Refusals.{DONE, SIZE, DAMAGED, FULL, STALE, TALLY, LIST, ROOM, number_of}
 use Rattle.store.specs.declared.Refusal.{Refusal}
 use Rattle.store.specs.declared.Place.{Place}
-use Rattle.store.specs.declared.Part.{Part}
 use Rattle.store.specs.declared.Record.{Record}
 use Rattle.store.specs.declared.Step.{Step}
 use Rattle.store.specs.declared.ListRefusal.{ListRefusal}
@@ -75,7 +73,7 @@ abbrev pub reading_no : {T : Type 0} → ResultOf T Refusal → ℕ
 reading_no r = told_no number_of r
 
 abbrev pub located : ResultOf Part Refusal → Located
-located (Ok d) = record { answer = DONE; part = record { offset = d.offset; length = d.length } }
+located (Ok d) = record { answer = DONE; part = d }
 located (Err r) = record { answer = number_of r; part = no_part }
 
 -- the same by the record's bytes, as the caller sees them
@@ -91,8 +89,8 @@ step_of (Some x) p k s =
       answer = DONE;
       some = true;
       id = x.id;
-      bytes = cut s x.offset x.length;
-      part = record { offset = x.offset; length = x.length };
+      bytes = held s x.part;
+      part = x.part;
       page = p;
       slot = k;
     }

@@ -71,8 +71,7 @@ pub struct Part {
 #[derive(Clone, Copy)]
 pub struct Record {
     pub id: usize,
-    pub offset: usize,
-    pub length: usize,
+    pub part: Part,
 }
 
 // A step of the scan: a record, or none where the scan is over, and the next position.

@@ -1,17 +1,10 @@
 use mathlib.Core.Path.{sym, ap, ◌∙◌}
 use mathlib.Core.List.{List}
 use Prim.Native.Nat.{ℕ}
-use lib.ListN.{length}
 use Rattle.store.specs.Page.{view, sound}
-use Rattle.store.proofs.Laws.Segments.{length_page}
 use Rattle.segment_pages.proofs.Seen.{seen_sound}
 use Rattle.segment_pages.proofs.page_sound.Goals.{Start}
 use Rattle.segment_pages.proofs.page_sound.Goals as goal
-
-pub is_sound-requires : goal.is_sound-requires
-is_sound-requires c =
-    let entry = (goal.at.is_sound-requires c).Start in
-    ap length c.page_of.ensures ∙ length_page entry.args.segment.now entry.args.p entry.requires
 
 pub returns : goal.returns
 returns c =

@@ -26,16 +26,16 @@ returns-then-not-page_sound c =
 sound_here : (c : Else-not-page_sound) → let a = c.args in sound ((seg_view a.segment.now).page (page_no a.id)) ≡ true
 sound_here c = sym c.page_sound.ensures ∙ c.if-not-page_sound.false
 
-pub slot_on-slot-requires : goal.slot_on-slot-requires
-slot_on-slot-requires c =
+pub slot_on-requires : goal.slot_on-requires
+slot_on-requires c =
     let a = c.args in
     let s = a.segment.now in
     let inside : page_no a.id * 16384 + 16384 ≤ length s = omega arith in
-    record { within = inside; p_bound = few_slots s (page_no a.id) inside (sound_here (goal.at.slot_on-slot-requires c).Else-not-page_sound) }
+    record { within = inside; p_bound = few_slots s (page_no a.id) inside (sound_here (goal.at.slot_on-requires c).Else-not-page_sound) }
 
 pub returns : goal.returns
 returns c =
     let found = (goal.at.returns c).Else-not-page_sound in
     let there = (goal.at.Else-not-page_sound found).Else-segment-p in
     let a = there.args in
-    root_found a.segment.now a.id there.if-segment-p.false (sound_here found) c.slot_on-slot.result c.slot_on-slot.ensures.0
+    root_found a.segment.now a.id there.if-segment-p.false (sound_here found) c.slot_on.result c.slot_on.ensures.0

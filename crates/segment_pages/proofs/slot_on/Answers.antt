@@ -2,9 +2,7 @@ use mathlib.Core.Path.{sym, ap, ◌∙◌}
 use mathlib.Core.List.{List}
 use Prim.Native.Nat.{ℕ}
 use native.Mathlib.Omega.{arith}
-use lib.ListN.{length}
 use Rattle.store.specs.Page.{view}
-use Rattle.store.proofs.Laws.Segments.{length_page}
 use Rattle.segment_pages.proofs.Seen.{seen_count, seen_at}
 use Rattle.segment_pages.proofs.slot_on.Goals.{Start}
 use Rattle.segment_pages.proofs.slot_on.Goals as goal
@@ -13,10 +11,8 @@ pub slot_of-requires : goal.slot_of-requires
 slot_of-requires c =
     let entry = (goal.at.slot_of-requires c).Start in
     let s = entry.args.segment.now in
-    let p = entry.args.p in (
-      ap length c.page_of.ensures ∙ length_page s p entry.requires.within,
-      omega (arith, ap (λ (q : List ℕ). (view q).slot_count) c.page_of.ensures, seen_count s p entry.requires.within, entry.requires.p_bound),
-    )
+    let p = entry.args.p in
+    omega (arith, ap (λ (q : List ℕ). (view q).slot_count) c.page_of.ensures, seen_count s p entry.requires.within, entry.requires.p_bound)
 
 pub returns : goal.returns
 returns c =
