@@ -1,5 +1,5 @@
 -- The id's own page: what is told by its answer.
-use Rattle.std.specs.Prelude.{ℕ, ◌≤◌, ◌<◌, ◌≡◌, true, false, not, eqb, leb, refl}
+use Rattle.std.specs.Prelude.{ℕ, ◌≤◌, ◌<◌, ◌≡◌, ◌≢◌, true, false, not, eqb, leb, refl}
 use Rattle.std.proofs.Common.{arith, leb-true, leb-false}
 use Rattle.std.proofs.lemmas.Bool.{lt-leb, not-true, not-false}
 use Rattle.store.specs.Numbers.{page_no, slot_no}
@@ -22,6 +22,9 @@ refused_no NoRecord = refl
 refused_no Forwarded = refl
 refused_no Full = refl
 refused_no Stale = refl
+
+pub refusal_some : (r : Refusal) → number_of r ≢ 0
+refusal_some r e = let a : eqb (number_of r) 0 ≡ true = rw e refl in let b = refused_no r in let z : ◌≡◌ {A = ℕ} 0 1 = cc in absurd (omega arith)
 
 -- a property of what is done by the id's own page, from its three answers
 pub by_root_lem : {A : Type 0} (P : A → Type 0) (s : SegView) (i : ℕ) (f : ℕ → A) (g : Slot → A) → (s.pages ≤ page_no i → P (f NOPAGE))
