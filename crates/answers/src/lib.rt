@@ -1,231 +1,200 @@
-// "Answers by number": each answer's number as the documents have it, and what is told beside it.
+// "Answers by number": the documents' number of each answer, and what is told beside it.
 #![tactic(auto)]
 
-ghost use Rattle.std.specs.Prelude.{◌≡◌};
-ghost use Rattle.store.specs.Answers.{answer_no, answer_id, inserted_no, inserted_rows, reading_part, repair_no, repair_count, reported_no};
-ghost use Rattle.exchange.specs.Told.{imported_no, imported_records, exported_no, exported_length, exported_passed};
-ghost use Rattle.polishing.specs.Told.{clearing_no, clearing_yes, listing_no};
+ghost use Rattle.std.specs.Prelude.{◌≡◌, ℕ};
+ghost use Rattle.store.specs.Refusals.{number_of};
+ghost use Rattle.store.specs.Answers.{told_no, told_count, located, list_number, list_rows, repair_number, repair_entries, report_number};
+ghost use Rattle.exchange.specs.Told.{import_number, import_records, export_number, exported_length, exported_passed};
+ghost use Rattle.polishing.specs.Told.{rule_number, clearing_yes};
 
-use exchange::{Exported, Imported};
-use polishing::{Clearing, Listing};
-use store::{Answer, Inserted, Reading, Repair, Reported};
+use exchange::{ExportRefusal, Exported, ImportRefusal};
+use polishing::RuleRefusal;
+use store::{ListRefusal, Part, Refusal, RepairRefusal, ReportRefusal};
 
-// "Answers by number".
-pub fn answer_no(a: Answer) -> u64
-    ensures { result ≡ answer_no a }
-{
-    match a {
-        Answer::Done { id: _ } => 0,
-        Answer::Size => 1,
-        Answer::NoPage => 2,
-        Answer::Long => 3,
-        Answer::Damaged => 4,
-        Answer::NoRecord => 5,
-        Answer::Forwarded => 6,
-        Answer::Full => 7,
-        Answer::Stale => 8,
-    }
+// A refusal, by its number.
+pub trait Numbered {
+    ghost number: { Self → ℕ };
+
+    fn number(&self) -> u64
+        ensures { result ≡ number self.now };
 }
 
-pub fn answer_id(a: Answer) -> u64
-    ensures { result ≡ answer_id a }
-{
-    match a {
-        Answer::Done { id } => id as u64,
-        Answer::Size => 0,
-        Answer::NoPage => 0,
-        Answer::Long => 0,
-        Answer::Damaged => 0,
-        Answer::NoRecord => 0,
-        Answer::Forwarded => 0,
-        Answer::Full => 0,
-        Answer::Stale => 0,
+// "Answers by number".
+impl Numbered for Refusal {
+    ghost number = { number_of };
+
+    fn number(&self) -> u64 {
+        u64::from(*self)
     }
 }
 
 // "Refusals: 1, then 10 LIST ..; then each row's own."
-pub fn inserted_no(r: Inserted) -> u64
-    ensures { result ≡ inserted_no r }
-{
-    match r {
-        Inserted::Done { rows: _ } => 0,
-        Inserted::Size => 1,
-        Inserted::List => 10,
-        Inserted::Stopped { rows: _, answer } => answer_no(answer),
-    }
-}
+impl Numbered for ListRefusal {
+    ghost number = { list_number };
 
-pub fn inserted_rows(r: Inserted) -> u64
-    ensures { result ≡ inserted_rows r }
-{
-    match r {
-        Inserted::Done { rows } => rows as u64,
-        Inserted::Size => 0,
-        Inserted::List => 0,
-        Inserted::Stopped { rows, answer: _ } => rows as u64,
-    }
-}
-
-// "an empty part for a read" that is refused.
-pub fn offset_of(r: Reading) -> u64
-    ensures { result ≡ (reading_part r).offset }
-{
-    match r {
-        Reading::At { offset, length: _ } => offset as u64,
-        Reading::Size => 0,
-        Reading::NoPage => 0,
-        Reading::Damaged => 0,
-        Reading::NoRecord => 0,
-    }
-}
-
-pub fn length_of(r: Reading) -> u64
-    ensures { result ≡ (reading_part r).length }
-{
-    match r {
-        Reading::At { offset: _, length } => length as u64,
-        Reading::Size => 0,
-        Reading::NoPage => 0,
-        Reading::Damaged => 0,
-        Reading::NoRecord => 0,
+    fn number(&self) -> u64 {
+        match self {
+            ListRefusal::Size => 1,
+            ListRefusal::List => 10,
+            ListRefusal::Stopped { refusal, .. } => refusal.number(),
+        }
     }
 }
 
 // "Refusals: 1, then 11 ROOM".
-pub fn repair_no(r: Repair) -> u64
-    ensures { result ≡ repair_no r }
-{
-    match r {
-        Repair::Done { count: _ } => 0,
-        Repair::Size => 1,
-        Repair::Room { count: _ } => 11,
-    }
-}
+impl Numbered for RepairRefusal {
+    ghost number = { repair_number };
 
-pub fn repair_count(r: Repair) -> u64
-    ensures { result ≡ repair_count r }
-{
-    match r {
-        Repair::Done { count } => count as u64,
-        Repair::Size => 0,
-        Repair::Room { count } => count as u64,
+    fn number(&self) -> u64 {
+        match self {
+            RepairRefusal::Size => 1,
+            RepairRefusal::Room { .. } => 11,
+        }
     }
 }
 
 // "Refusals: 1 and 4 as in 01, then 9 TALLY".
-pub fn reported_no(r: Reported) -> u64
-    ensures { result ≡ reported_no r }
-{
-    match r {
-        Reported::Done => 0,
-        Reported::Size => 1,
-        Reported::Damaged => 4,
-        Reported::Tally => 9,
+impl Numbered for ReportRefusal {
+    ghost number = { report_number };
+
+    fn number(&self) -> u64 {
+        match self {
+            ReportRefusal::Size => 1,
+            ReportRefusal::Damaged => 4,
+            ReportRefusal::Tally => 9,
+        }
     }
 }
 
 // "Refusals: 1, then record by record in file order 13 SHORT .., 12 MARK .., 3 ..; then each insert's own."
-pub fn imported_no(r: Imported) -> u64
-    ensures { result ≡ imported_no r }
-{
-    match r {
-        Imported::Done { records: _ } => 0,
-        Imported::Size => 1,
-        Imported::Short => 13,
-        Imported::Mark => 12,
-        Imported::Long => 3,
-        Imported::Stopped { records: _, answer } => answer_no(answer),
-    }
-}
+impl Numbered for ImportRefusal {
+    ghost number = { import_number };
 
-pub fn imported_records(r: Imported) -> u64
-    ensures { result ≡ imported_records r }
-{
-    match r {
-        Imported::Done { records } => records as u64,
-        Imported::Size => 0,
-        Imported::Short => 0,
-        Imported::Mark => 0,
-        Imported::Long => 0,
-        Imported::Stopped { records, answer: _ } => records as u64,
+    fn number(&self) -> u64 {
+        match self {
+            ImportRefusal::Size => 1,
+            ImportRefusal::Short => 13,
+            ImportRefusal::Mark => 12,
+            ImportRefusal::Long => 3,
+            ImportRefusal::Stopped { refusal, .. } => refusal.number(),
+        }
     }
 }
 
 // "Export: 1, then 4 for a page that is not sound, then 11".
-pub fn exported_no(r: Exported) -> u64
-    ensures { result ≡ exported_no r }
-{
-    match r {
-        Exported::Done {
-            length: _,
-            passed: _,
-        } => 0,
-        Exported::Size => 1,
-        Exported::Damaged => 4,
-        Exported::Room {
-            length: _,
-            passed: _,
-        } => 11,
+impl Numbered for ExportRefusal {
+    ghost number = { export_number };
+
+    fn number(&self) -> u64 {
+        match self {
+            ExportRefusal::Size => 1,
+            ExportRefusal::Damaged => 4,
+            ExportRefusal::Room(_) => 11,
+        }
     }
 }
 
-pub fn exported_length(r: Exported) -> u64
-    ensures { result ≡ exported_length r }
-{
-    match r {
-        Exported::Done { length, passed: _ } => length as u64,
-        Exported::Size => 0,
-        Exported::Damaged => 0,
-        Exported::Room { length, passed: _ } => length as u64,
+// "Refusals: 1, then 14 RULE .., then 4", and of the list of whole readings then 11 ROOM.
+impl Numbered for RuleRefusal {
+    ghost number = { rule_number };
+
+    fn number(&self) -> u64 {
+        match self {
+            RuleRefusal::Size => 1,
+            RuleRefusal::Rule => 14,
+            RuleRefusal::Damaged => 4,
+            RuleRefusal::Room => 11,
+        }
     }
 }
 
-pub fn exported_passed(r: Exported) -> u64
-    ensures { result ≡ exported_passed r }
+// 0, or the number of the refusal.
+pub fn answer_no<T, E: Numbered>(answer: &Result<T, E>) -> u64
+    ensures { result ≡ told_no E.number answer.now }
 {
-    match r {
-        Exported::Done { length: _, passed } => passed as u64,
-        Exported::Size => 0,
-        Exported::Damaged => 0,
-        Exported::Room { length: _, passed } => passed as u64,
+    match answer {
+        Ok(_) => 0,
+        Err(refusal) => refusal.number(),
     }
 }
 
-// "Refusals: 1, then 14 RULE .., then 4."
-pub fn clearing_no(r: Clearing) -> u64
-    ensures { result ≡ clearing_no r }
+// A refusal with a count beside it: the rows or records that went in, the entries that a repair needs.
+pub trait Counted {
+    ghost count: { Self → ℕ };
+
+    fn count(&self) -> u64
+        ensures { result ≡ count self.now };
+}
+
+impl Counted for ListRefusal {
+    ghost count = { list_rows };
+
+    fn count(&self) -> u64 {
+        match self {
+            ListRefusal::Stopped { rows, .. } => *rows as u64,
+            _ => 0,
+        }
+    }
+}
+
+impl Counted for RepairRefusal {
+    ghost count = { repair_entries };
+
+    fn count(&self) -> u64 {
+        match self {
+            RepairRefusal::Room { count } => *count as u64,
+            _ => 0,
+        }
+    }
+}
+
+impl Counted for ImportRefusal {
+    ghost count = { import_records };
+
+    fn count(&self) -> u64 {
+        match self {
+            ImportRefusal::Stopped { records, .. } => *records as u64,
+            _ => 0,
+        }
+    }
+}
+
+// What is counted, or what the refusal tells of it.
+pub fn count<E: Counted>(answer: &Result<usize, E>) -> u64
+    ensures { result ≡ told_count E.count answer.now }
 {
-    match r {
-        Clearing::Yes => 0,
-        Clearing::No => 0,
-        Clearing::Size => 1,
-        Clearing::Rule => 14,
-        Clearing::Damaged => 4,
+    match answer {
+        Ok(n) => *n as u64,
+        Err(refusal) => refusal.count(),
+    }
+}
+
+// "an empty part for a read" that is refused.
+pub fn part(answer: &Result<Part, Refusal>) -> Part
+    ensures { result ≡ (located answer.now).part }
+{
+    match answer {
+        Ok(part) => *part,
+        Err(_) => Part::default(),
+    }
+}
+
+// The file of an export: what it is, or with no room what it would be.
+pub fn exported(answer: &Result<Exported, ExportRefusal>) -> Exported
+    ensures { (result.length ≡ exported_length answer.now) × (result.passed ≡ exported_passed answer.now) }
+{
+    match answer {
+        Ok(file) | Err(ExportRefusal::Room(file)) => *file,
+        Err(_) => Exported::default(),
     }
 }
 
 // 1 for a yes alone: a caller who forgets a refusal does not polish.
-pub fn clearing_yes(r: Clearing) -> u64
-    ensures { result ≡ clearing_yes r }
+pub fn cleared(answer: &Result<bool, RuleRefusal>) -> u64
+    ensures { result ≡ clearing_yes answer.now }
 {
-    match r {
-        Clearing::Yes => 1,
-        Clearing::No => 0,
-        Clearing::Size => 0,
-        Clearing::Rule => 0,
-        Clearing::Damaged => 0,
-    }
-}
-
-// The list of whole readings: 1, 14 RULE, 4, then 11 ROOM.
-pub fn listing_no(r: Listing) -> u64
-    ensures { result ≡ listing_no r }
-{
-    match r {
-        Listing::Done => 0,
-        Listing::Size => 1,
-        Listing::Rule => 14,
-        Listing::Damaged => 4,
-        Listing::Room => 11,
+    match answer {
+        Ok(true) => 1,
+        Ok(false) | Err(_) => 0,
     }
 }

@@ -17,27 +17,28 @@ ghost use Rattle.exchange.specs.Exchange.{import_step, export_step};
 ghost use Rattle.polishing.specs.Polishing.{cleared_step, whole_step};
 ghost use Rattle.hekatosuy.specs.Handed.{with_id, without_id, stepped, Positioned};
 
+use answers::{answer_no, count};
 use segment_scan::OVER_PAGE;
-use store::{Answer, IDS_A_PAGE, Step, Tally};
+use store::{IDS_A_PAGE, Record, Refusal, Step, Tally};
 
 // The number, with the new record's id where there is one; else `id` keeps what it was.
-fn hand_id(a: Answer, id: &mut u64) -> u64
-    ensures { (result ≡ answer_no a) × (id.new ≡ cond (eqb (answer_no a) 0) (answer_id a) id.old) }
+fn hand_id(answer: Result<usize, Refusal>, id: &mut u64) -> u64
+    ensures { (result ≡ answer_no answer) × (id.new ≡ cond (eqb (answer_no answer) 0) (answer_id answer) id.old) }
 {
-    let n = answers::answer_no(a);
-    if n != 0 {
-        return n;
+    match answer {
+        Ok(new) => {
+            *id = new as u64;
+            0
+        }
+        Err(refusal) => u64::from(refusal),
     }
-    *id = answers::answer_id(a);
-    0
 }
 
 pub fn hk_insert_record(segment: &mut [u8], inventory: &mut [u8], bytes: &[u8], id: &mut u64) -> u64
     ensures { record { answer = result; id = id.new; seg = segment.new; inv = inventory.new }
         ≡ with_id id.old (insert_step segment.old inventory.old bytes.now) }
 {
-    let a = segment_insert::insert_record(segment, inventory, bytes);
-    hand_id(a, id)
+    hand_id(segment_insert::insert_record(segment, inventory, bytes), id)
 }
 
 // The rows stand end to end; `inserted` is how many went in.
@@ -59,40 +60,39 @@ pub fn hk_insert_records(
         ≡ insert_rows_step segment.old inventory.old rows.now lengths.now ids.old }
 {
     let r = segment_insert::insert_records(segment, inventory, rows, lengths, ids);
-    *inserted = answers::inserted_rows(r);
-    answers::inserted_no(r)
+    *inserted = count(&r);
+    answer_no(&r)
 }
 
 pub fn hk_allocate(segment: &mut [u8], inventory: &mut [u8], size: u64, id: &mut u64) -> u64
     ensures { record { answer = result; id = id.new; seg = segment.new; inv = inventory.new }
         ≡ with_id id.old (allocate_step segment.old inventory.old size) }
 {
-    let a = segment_insert::allocate(segment, inventory, size as usize);
-    hand_id(a, id)
+    hand_id(segment_insert::allocate(segment, inventory, size as usize), id)
 }
 
 pub fn hk_write_record(segment: &mut [u8], inventory: &mut [u8], id: u64, bytes: &[u8]) -> u64
     ensures { record { answer = result; id = 0; seg = segment.new; inv = inventory.new }
         ≡ without_id (write_step segment.old inventory.old id bytes.now) }
 {
-    let a = segment_write::write::write_record(segment, inventory, id as usize, bytes);
-    answers::answer_no(a)
+    let r = segment_write::write::write_record(segment, inventory, id as usize, bytes);
+    answer_no(&r)
 }
 
 pub fn hk_resize_record(segment: &mut [u8], inventory: &mut [u8], id: u64, size: u64) -> u64
     ensures { record { answer = result; id = 0; seg = segment.new; inv = inventory.new }
         ≡ without_id (resize_step segment.old inventory.old id size) }
 {
-    let a = segment_write::resize::resize_record(segment, inventory, id as usize, size as usize);
-    answers::answer_no(a)
+    let r = segment_write::resize::resize_record(segment, inventory, id as usize, size as usize);
+    answer_no(&r)
 }
 
 pub fn hk_erase_record(segment: &mut [u8], inventory: &mut [u8], id: u64) -> u64
     ensures { record { answer = result; id = 0; seg = segment.new; inv = inventory.new }
         ≡ without_id (erase_step segment.old inventory.old id) }
 {
-    let a = segment_erase::erase_record(segment, inventory, id as usize);
-    answers::answer_no(a)
+    let r = segment_erase::erase_record(segment, inventory, id as usize);
+    answer_no(&r)
 }
 
 // The record's place in the segment, without the back id of a target.
@@ -101,9 +101,10 @@ pub fn hk_get_record(segment: &[u8], id: u64, offset: &mut u64, length: &mut u64
         ≡ locate_step segment.now id }
 {
     let r = segment_read::find_record(segment, id as usize);
-    *offset = answers::offset_of(r);
-    *length = answers::length_of(r);
-    segment_read::reading_no(r) as u64
+    let part = answers::part(&r);
+    *offset = part.offset as u64;
+    *length = part.length as u64;
+    answer_no(&r)
 }
 
 // What a step of the scan hands to C.
@@ -125,46 +126,44 @@ fn position_of(page: usize, slot: usize) -> u64
     (page * IDS_A_PAGE + slot) as u64
 }
 
-fn without_record(answer: u64, page: usize, slot: usize) -> Stepped
-    requires { (page < 2 ^ 48) × (slot < 65536) }
-    ensures { result ≡ stepped (without answer page slot) }
+fn hand_step(step: Result<Step, Refusal>) -> Stepped
+    requires { (xs : List ℕ) → Positioned (scanned_of step xs) }
+    ensures { (xs : List ℕ) → result ≡ stepped (scanned_of step xs) }
 {
-    let position = position_of(page, slot);
-    Stepped {
-        answer,
-        position,
+    let none = Stepped {
+        answer: 0,
+        position: 0,
         found: 0,
         id: 0,
         offset: 0,
         length: 0,
-    }
-}
-
-fn hand_step(s: Step) -> Stepped
-    requires { (xs : List ℕ) → Positioned (scanned_of s xs) }
-    ensures { (xs : List ℕ) → result ≡ stepped (scanned_of s xs) }
-{
-    match s {
-        Step::Record {
-            id,
-            offset,
-            length,
+    };
+    match step {
+        Ok(Step {
+            found: Some(Record { id, part }),
             page,
             slot,
-        } => {
-            let position = position_of(page, slot);
-            Stepped {
-                answer: 0,
-                position,
-                found: 1,
-                id: id as u64,
-                offset: offset as u64,
-                length: length as u64,
-            }
-        }
-        Step::End { page, slot } => without_record(0, page, slot),
-        Step::Size => without_record(1, OVER_PAGE, 0),
-        Step::Damaged => without_record(4, OVER_PAGE, 0),
+        }) => Stepped {
+            position: position_of(page, slot),
+            found: 1,
+            id: id as u64,
+            offset: part.offset as u64,
+            length: part.length as u64,
+            ..none
+        },
+        Ok(Step {
+            found: None,
+            page,
+            slot,
+        }) => Stepped {
+            position: position_of(page, slot),
+            ..none
+        },
+        Err(refusal) => Stepped {
+            answer: u64::from(refusal),
+            position: position_of(OVER_PAGE, 0),
+            ..none
+        },
     }
 }
 
@@ -222,38 +221,16 @@ pub fn hk_repair(
         ≡ repair_step segment.old inventory.old entries.old }
 {
     let r = segment_repair::repair(segment, inventory, entries);
-    *count = answers::repair_count(r);
-    answers::repair_no(r)
-}
-
-// What a report hands to C.
-#[derive(Clone, Copy)]
-pub struct Tallied {
-    pub answer: u64,
-    pub tally: Tally,
-}
-
-// The report by value, with the number for its answer.
-fn report_numbers(segment: &[u8], tally: Tally) -> Tallied
-    ensures { record { answer = result.answer; tally = numbers result.tally } ≡ report_step segment.now (numbers tally) }
-{
-    let r = fill_report::report_by_value(segment, tally);
-    let a = r.answer;
-    let after = r.tally;
-    let answer = answers::reported_no(a);
-    Tallied {
-        answer,
-        tally: after,
-    }
+    *count = answers::count(&r);
+    answer_no(&r)
 }
 
 // The figures of a segment, added to `tally` where it stands; one that is refused adds nothing.
 pub fn hk_fill_report(segment: &[u8], tally: &mut Tally) -> u64
     ensures { record { answer = result; tally = numbers tally.new } ≡ report_step segment.now (numbers tally.old) }
 {
-    let r = report_numbers(segment, *tally);
-    *tally = r.tally;
-    r.answer
+    let r = fill_report::fill_report(segment, tally);
+    answer_no(&r)
 }
 
 // The records of an exchange file, as new records; `inserted` is how many went in.
@@ -262,8 +239,8 @@ pub fn hk_import(segment: &mut [u8], inventory: &mut [u8], file: &[u8], inserted
         ≡ import_step segment.old inventory.old file.now }
 {
     let r = exchange::import(segment, inventory, file);
-    *inserted = answers::imported_records(r);
-    answers::imported_no(r)
+    *inserted = count(&r);
+    answer_no(&r)
 }
 
 // All readings as an exchange file, in the place that is lent; `length` is the file's and `passed` tells the records that are no readings.
@@ -272,9 +249,10 @@ pub fn hk_export(segment: &[u8], file: &mut [u8], length: &mut u64, passed: &mut
         ≡ export_step segment.now file.old }
 {
     let r = exchange::export(segment, file);
-    *length = answers::exported_length(r);
-    *passed = answers::exported_passed(r);
-    answers::exported_no(r)
+    let told = answers::exported(&r);
+    *length = told.length as u64;
+    *passed = told.passed as u64;
+    answer_no(&r)
 }
 
 // Whether the mirror is cleared for polishing: 1 or 0, and 0 on refusal.
@@ -282,8 +260,8 @@ pub fn hk_cleared(segment: &[u8], mirror: u64, rows: u64, edition: u64, cleared:
     ensures { record { answer = result; cleared = cleared.new } ≡ cleared_step segment.now mirror rows edition }
 {
     let r = polishing::cleared(segment, mirror, rows as usize, edition as usize);
-    *cleared = answers::clearing_yes(r);
-    answers::clearing_no(r)
+    *cleared = answers::cleared(&r);
+    answer_no(&r)
 }
 
 // Which readings of the mirror are whole: bit r % 64 of word r / 64 tells of reading r.
@@ -291,5 +269,5 @@ pub fn hk_whole_readings(segment: &[u8], mirror: u64, rows: u64, words: &mut [u6
     ensures { record { answer = result; place = words.new } ≡ whole_step segment.now mirror rows words.old }
 {
     let r = polishing::whole_readings(segment, mirror, rows as usize, words);
-    answers::listing_no(r)
+    answer_no(&r)
 }
