@@ -61,7 +61,7 @@ pub struct Place {
 }
 
 // The part of a segment that is a record.
-#[derive(Clone, Copy)]
+#[derive(Clone, Copy, Default)]
 pub struct Part {
     pub offset: usize,
     pub length: usize,
