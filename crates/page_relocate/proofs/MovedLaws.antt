@@ -12,7 +12,8 @@ use Rattle.slotted_page.specs.Words.{page_bare, place_of, page_after, filled_at}
 use Rattle.page_relocate.specs.Words.{alloc_of, page_moved, was_moved, refilled}
 
 module _ (k : ℕ) (p q : List ℕ) where
-  pub moved_done : (r : Relocated) (j o : ℕ) → place_at j o ≡ place_of (alloc_of k r) → q ≡ page_after (alloc_of k r) p → (q ≡ page_moved r p) × (true ≡ was_moved r)
+  pub moved_done : (r : Relocated) (j o : ℕ) → place_at j o ≡ place_of (alloc_of k r) → q ≡ page_after (alloc_of k r) p
+      → (q ≡ page_moved r p) × (true ≡ was_moved r)
   moved_done refused j o e x = let z : ◌≡◌ {A = ℕ} 0 1 = cc in absurd (omega arith)
   moved_done (moved a) j o e x = (x, refl)
 

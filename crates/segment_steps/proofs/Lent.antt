@@ -1,12 +1,12 @@
 -- One page of the segment lent on from its middle, to be written: what the borrow checker says of it, in the words of the plans.
-use Prim.Native.Nat.{ℕ, ◌+◌, ◌-◌, ◌*◌, ◌≤◌, ◌<◌}
-use mathlib.Core.Path.{◌≡◌, refl, sym, ap, subst, ◌∙◌}
+use Prim.Native.Nat.{ℕ, ◌+◌, ◌*◌, ◌≤◌}
+use mathlib.Core.Path.{◌≡◌, refl, sym, ap, ◌∙◌}
 use mathlib.Core.Bool.{true}
 use mathlib.Core.List.{List, ◌++◌}
 use native.Mathlib.Omega.{arith}
 use lib.ListN.{length, take, drop}
 use Rattle.std.proofs.Common.{drop-drop}
-use Rattle.store.specs.Numbers.{cut, put}
+use Rattle.store.specs.Numbers.{put}
 use Rattle.store.specs.Page.{View, view, sound}
 use Rattle.store.specs.PageSteps.{run, Plan, Alloc, no_room, got}
 use Rattle.store.specs.Segment.{seg_view, page_of, on, carried_on}

@@ -50,7 +50,8 @@ init_reserve p n h =
 
 module _ (p : List ℕ) (n : ℕ) where
   -- on a sound page without slots
-  pub fresh_done : (q₁ q₂ : List ℕ) (r : Option Place) → (view p).slot_count ≡ 0 → sound (view p) ≡ true → length p ≡ 16384 → n ≤ 16364 → q₁ ≡ put_head initialised p
+  pub fresh_done : (q₁ q₂ : List ℕ) (r : Option Place) → (view p).slot_count ≡ 0 → sound (view p) ≡ true → length p ≡ 16384 → n ≤ 16364
+      → q₁ ≡ put_head initialised p
       → (q₂ ≡ page_bare (allocate (view q₁) n) q₁) × (given_place r ≡ allotted (allocate (view q₁) n))
       → (q₂ ≡ page_bare (allocate (opened (view p)) n) p) × (given_place r ≡ allotted (allocate (opened (view p)) n))
   fresh_done q₁ q₂ r z t whole h e₁ e₂ =

@@ -19,4 +19,5 @@ returns c =
     let s = c.args.segment.now in
     let o = page_ok s c.args.p c.args.k c.requires.taken_on.whole c.requires.taken_on.sound c.requires.taken_on.taken in
     let x = c.erase_for_redirect in
-    lent_plan (lent (goal.at.returns c).After-unwrap) c.requires.taken_on.whole view o.seen (λ (v : View). erase_for_redirect v c.args.k c.args.id) x.new.page x.ensures
+    lent_plan (lent (goal.at.returns c).After-unwrap) c.requires.taken_on.whole view o.seen (λ (v : View). erase_for_redirect v c.args.k c.args.id)
+    x.new.page x.ensures

@@ -15,7 +15,10 @@ lent c =
 
 pub rewrite_target-requires : goal.rewrite_target-requires
 rewrite_target-requires c =
-    record { used_slot = lent_taken (lent (goal.at.rewrite_target-requires c).After-unwrap) c.args.k c.requires.taken_on; bytes_len_bound = c.requires.bytes_len_bound }
+    record {
+      used_slot = lent_taken (lent (goal.at.rewrite_target-requires c).After-unwrap) c.args.k c.requires.taken_on;
+      bytes_len_bound = c.requires.bytes_len_bound;
+    }
 
 pub returns : goal.returns
 returns c =

@@ -21,4 +21,5 @@ returns c =
     let x = c.set_redirect in
     let s = c.args.segment.now in
     let o = page_ok s c.args.p c.args.k c.requires.taken_on.whole c.requires.taken_on.sound c.requires.taken_on.taken in
-    lent_plan (lent (goal.at.returns c).After-unwrap) c.requires.taken_on.whole view o.seen (λ (v : View). redirect_plan v c.args.k c.args.id) x.new.page x.ensures
+    lent_plan (lent (goal.at.returns c).After-unwrap) c.requires.taken_on.whole view o.seen (λ (v : View). redirect_plan v c.args.k c.args.id)
+    x.new.page x.ensures
