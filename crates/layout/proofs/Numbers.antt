@@ -58,7 +58,8 @@ from_be n bs h e =
     let q : List ℕ = put (zeros 8) (8 - n) bs in
     let front : List ℕ = take (8 - n) (zeros 8) in
     let behind : drop (8 - n + length bs) (zeros 8) ≡ [] = drop_of_length-le (zeros 8) (omega arith) in
-    let parts : q ≡ front ++ bs = put_parts (zeros 8) (8 - n) bs (omega arith) ∙ ap (λ (r : List ℕ). front ++ (bs ++ r)) behind ∙ ap (λ (r : List ℕ). front ++ r) (append-nil bs) in
+    let parts : q ≡ front ++ bs =
+    put_parts (zeros 8) (8 - n) bs (omega arith) ∙ ap (λ (r : List ℕ). front ++ (bs ++ r)) behind ∙ ap (λ (r : List ℕ). front ++ r) (append-nil bs) in
     ap (from_be_bytes w64) (lent (zeros 8) (8 - n) 8 bs (omega arith) (omega arith) (omega arith))
     ∙ from_be_8 q (length_put (zeros 8) (8 - n) bs) ∙ ap be parts ∙ be_append front bs
     ∙ rw (be_zeros 8 (8 - n)) (omega arith)

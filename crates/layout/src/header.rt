@@ -38,11 +38,17 @@ pub fn get_free_space(page: &Page) -> usize
 pub fn is_fresh(page: &Page) -> bool
     ensures { result ≡ fresh (view page.now) }
 {
-    let header = (get_slot_count(page), get_first_free_slot(page), get_data_start(page), get_free_space(page));
+    let header = (
+        get_slot_count(page),
+        get_first_free_slot(page),
+        get_data_start(page),
+        get_free_space(page),
+    );
     matches!(header, (0, 0, 0, 0) | (0, 0, PAGE_SIZE, ROOM))
 }
 
 // The four numbers of the header.
+#[tactic(auto, using(crate::proofs::Codec::header_put))]
 pub fn set_header(page: &mut Page, c: usize, f: usize, d: usize, n: usize)
     ensures { page.new ≡ put page.old 0 (head_of c f d n) }
 {

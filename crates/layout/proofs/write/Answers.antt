@@ -12,6 +12,7 @@ pub returns : goal.returns
 returns g c =
     let n = g.row.N in
     let a = c.args in
-    let e : a.at + n - a.at ≡ n = omega arith in
-    ap (put_mid a.at (a.at + n - a.at) a.page.now) (c.copy_from_slice.ensures.after ∙ ap (λ (q : List ℕ). cut q (8 - n) (8 - (8 - n))) c.to_be_bytes.ensures ∙ to_be_lowest n a.v (omega arith))
+    let copied : c.copy_from_slice.new.self ≡ to_be n a.v =
+    c.copy_from_slice.ensures.after ∙ ap (λ (q : List ℕ). cut q (8 - n) (8 - (8 - n))) c.to_be_bytes.ensures ∙ to_be_lowest n a.v (omega arith) in
+    ap (put_mid a.at (a.at + n - a.at) a.page.now) copied
     ∙ lent a.page.now a.at (a.at + n) (to_be n a.v) (omega arith) (omega arith) (omega (arith, length_to_be n a.v))
