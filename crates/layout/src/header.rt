@@ -1,5 +1,5 @@
 // The header: its four numbers as the view has them, and all of it written.
-ghost use Rattle.std.specs.Prelude.{◌≡◌, ◌≤◌, ◌<◌, length};
+ghost use Rattle.std.specs.Prelude.{◌≡◌, ◌<◌};
 ghost use Rattle.store.specs.Numbers.{put};
 ghost use Rattle.store.specs.Page.{view, fresh};
 ghost use Rattle.layout.specs.Run.{head_of};

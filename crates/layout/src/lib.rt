@@ -5,7 +5,7 @@ pub mod header;
 pub mod little;
 pub mod slots;
 
-ghost use Rattle.std.specs.Prelude.{◌≡◌, ◌+◌, ◌≤◌, ◌<◌, length};
+ghost use Rattle.std.specs.Prelude.{◌≡◌, ◌+◌, ◌≤◌, length};
 ghost use Rattle.store.specs.Numbers.{put, to_be};
 ghost use Rattle.layout.specs.Run.{Read};
 

@@ -1,5 +1,5 @@
 // The slot codec, and a slot of the page as the view has it.
-ghost use Rattle.std.specs.Prelude.{◌≡◌, ◌+◌, ◌*◌, ◌^◌, ◌≤◌, ◌<◌, length};
+ghost use Rattle.std.specs.Prelude.{◌≡◌, ◌+◌, ◌*◌, ◌^◌, ◌<◌, length};
 ghost use Rattle.store.specs.Numbers.{put};
 ghost use Rattle.store.specs.Slots.{slot_word, slot_bytes, slot_of};
 ghost use Rattle.store.specs.Page.{view};
