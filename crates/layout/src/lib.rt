@@ -30,6 +30,8 @@ fn write<const N: usize>(page: &mut [u8], at: usize, v: usize)
     page[at..at + N].copy_from_slice(&v.to_be_bytes()[8 - N..]);
 }
 
+// The widths of the format by name, which callers in other crates say in place of a number.
+
 // The number of two bytes at `at`, the highest first.
 pub fn get_u16(page: &[u8], at: usize) -> usize
     requires { at + 2 ≤ length page.now }

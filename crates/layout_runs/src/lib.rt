@@ -36,7 +36,8 @@ fn copy_block(page: &mut [u8], at: usize, src: &[u8])
     copy_run(page, at, &block);
 }
 
-// All of src from `at` on: its first block, those that follow, and its last one, of which some bytes may stand there already.
+// All of src from `at` on: its first block, those that follow, and its last one, of which some bytes may stand there already. The first
+// stands before the loop, which most records then pass by: with all blocks in one, by as_chunks, 40 bytes took 22 instructions more.
 pub fn copy_in(page: &mut [u8], at: usize, src: &[u8])
     requires { at + length src.now ≤ length page.old }
     ensures { page.new ≡ put page.old at src.now }

@@ -24,9 +24,6 @@ use Rattle.page_check.proofs.SlotLaws.{refuted}
 
 -- ---- one more slot
 
-pub records_none : (v : View) (f d : ℕ) → RecordsFit v 0 f d
-records_none v f d = record { allowed = λ j h. absurd (omega arith); above = λ j h. absurd (omega arith); apart = λ i j g h. absurd (omega arith) }
-
 pub records_lower : (v : View) (n f d e : ℕ) → RecordsFit v n f d → e ≤ d → RecordsFit v n f e
 records_lower v n f d e r h = record { allowed = r.allowed; above = λ j g p. omega (arith, r.above j g p); apart = r.apart }
 
@@ -37,9 +34,6 @@ records_more v k f d r a o s = record {
   above = below_more (λ j. 0 < len (v.at j) → d ≤ off (v.at j)) k r.above o;
   apart = λ i j g h. below_more (λ j. (i : ℕ) → i < j → Apart (v.at i) (v.at j)) k (λ j h i g. r.apart i j g h) s j h i g;
 }
-
-pub total_none : (v : View) → Total v 0 0
-total_none v = record { is = refl; small = omega arith }
 
 pub total_more : (v : View) (k t l : ℕ) → Total v k t → l ≡ len (v.at k) → l ≤ 16384 → Total v (k + 1) (t + l)
 total_more v k t l s e h = record {

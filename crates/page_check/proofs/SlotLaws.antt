@@ -1,13 +1,9 @@
 -- One slot: its entry in two halves of 32 bits, and what `run_of` finds of each kind.
-use Prim.Native.Nat.{ℕ, ◌+◌, ◌-◌, ◌*◌, ◌^◌, ◌≤◌, ◌<◌}
+use Prim.Native.Nat.{ℕ, ◌+◌, ◌*◌, ◌^◌, ◌≤◌, ◌<◌}
 use mathlib.Core.Path.{◌≡◌, refl, sym, subst, ◌∙◌}
 use mathlib.Core.Bool.{Bool, true, false, false≢true}
 use mathlib.Core.List.{List}
-use native.Mathlib.Omega.{arith}
-use native.Mathlib.Decide.{dec_lt}
-use lib.Dec.{leb}
 use lib.ListN.{length}
-use borrow.Author.Tests.{le-leb, leb-true}
 use Rattle.std.specs.Prelude.{Option, IfSome}
 use Rattle.std.specs.Bool.{then_some}
 use Rattle.store.specs.Numbers.{cut, be}
@@ -15,15 +11,11 @@ use Rattle.store.specs.Slots.{slot_of}
 use Rattle.store.specs.Page.{view}
 use Rattle.store.specs.declared.Part.{Part}
 use Rattle.store.specs.declared.Slot.{Slot}
-use Rattle.store.specs.declared.Slot.TheVariants.{Free, Target}
-use Rattle.layout.proofs.Codec.{counted_slot, of_ordinary, of_free, of_redirect, of_target}
-use Rattle.page_check.specs.Fit.{Tells, Allowed, Runs, Found}
+use Rattle.layout.proofs.Codec.{counted_slot}
+use Rattle.page_check.specs.Fit.{Tells, Found}
 
 pub refuted : {A : Type 0} → false ≡ true → A
 refuted h = absurd (false≢true h)
-
-pub tells_yes : {A : Type 0} → A → Tells true A
-tells_yes x = record { yes = λ e. x; back = λ y. refl }
 
 pub tells_no : {A : Type 0} → (A → ⊥) → Tells false A
 tells_no n = record { yes = refuted; back = λ x. absurd (n x) }

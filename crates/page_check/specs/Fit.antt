@@ -42,15 +42,19 @@ pub record Total (v : View) (n t : ℕ) : Type 0 where
   pub is : t ≡ sum n (λ k. len (v.at k))
   pub small : t ≤ 16384 * n
 
--- what a pass over the first n slots answers: the sum of their records' lengths, if they fit
-abbrev pub Passed : View → ℕ → ℕ → ℕ → Option ℕ → Type 0
-Passed v n f d r = MatchOption r (RecordsFit v n f d → ⊥) (λ total. RecordsFit v n f d × Total v n total)
-
 -- what is read of the header
 pub record Heads (v : View) (h : Header) : Type 0 where
   pub slots : h.slots ≡ v.slot_count
   pub first : h.first_free ≡ v.first_free
   pub start : h.data_start ≡ v.data_start
+
+-- the records of all slots fit, and t is the sum of their lengths
+abbrev pub Sums : View → Header → ℕ → Type 0
+Sums v h t = RecordsFit v h.slots h.first_free h.data_start × Total v h.slots t
+
+-- what a pass over all slots answers: that sum, if they fit
+abbrev pub Passed : View → Header → Option ℕ → Type 0
+Passed v h r = MatchOption r (RecordsFit v h.slots h.first_free h.data_start → ⊥) (Sums v h)
 
 -- The header's numbers fit, and slot f is free; one that is not counted is seen as free.
 pub record HeaderFits (v : View) (n f d : ℕ) : Type 0 where

@@ -6,6 +6,7 @@ ghost use Rattle.page_check.specs.Fit.{Tells, Heads, HeaderFits};
 
 use store::{ENTRY, HEADER, MOST_SLOTS, PAGE_SIZE, Page};
 
+// The page stays a parameter beside it: what a header that lends its page says would name it in every clause.
 #[derive(Clone, Copy)]
 pub struct Header {
     pub slots: usize,
@@ -25,6 +26,7 @@ impl Header {
     }
 
     // Whether the first free slot is free: it is the count if none is. That no slot below it is free is found with the records.
+    #[tactic(auto, using(store::proofs::Laws::SoundPage::past_free))]
     fn first_is_free(self, page: &Page) -> bool
         requires { Heads (view page.now) self × (self.slots ≤ 2046) × (self.first_free ≤ self.slots) }
         ensures { Tells result ((view page.now).at self.first_free ≡ Free) }

@@ -19,7 +19,7 @@ use store::{ENTRY, Page, ROOM};
 // is needed; where they do not, the map decides.
 fn records_fit(page: &Page, header: Header) -> Option<usize>
     requires { Counted page.now header.slots }
-    ensures { Passed (view page.now) header.slots header.first_free header.data_start result }
+    ensures { Passed (view page.now) header result }
 {
     let swept = sweep::sweep(page, header);
     if swept.is_some() {

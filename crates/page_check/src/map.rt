@@ -1,6 +1,6 @@
 // Records in any order: a map of one bit for each byte of the page, on which each record claims its own. A record that is refused ends
 // the check, so what the map then holds is never read.
-ghost use Rattle.std.specs.Prelude.{◌≡◌, true, ◌+◌, ◌≤◌, ◌<◌, length, get_or, set};
+ghost use Rattle.std.specs.Prelude.{◌≡◌, true, ◌+◌, ◌≤◌, ◌<◌, get_or, set};
 ghost use Rattle.std.specs.Int.Bits.{bit_and, bit_or};
 ghost use Rattle.store.specs.Page.{view};
 ghost use Rattle.layout.specs.Run.{Counted};
@@ -36,7 +36,7 @@ pub fn bits_to(b: usize) -> usize
 
 // Sets the bits m of word i, if none of them is set.
 fn claim_word(used: &mut Map, i: usize, m: usize) -> bool
-    requires { (i < 256) }
+    requires { i < 256 }
     ensures { Tells result (bit_and (get_or used.old i 0) m ≡ 0)
         × (result ≡ true → used.new ≡ set used.old i (bit_or (get_or used.old i 0) m)) }
 {
@@ -67,7 +67,8 @@ pub fn claim(used: &mut Map, o: usize, end: usize) -> bool
 // Puts a record on the map. One of no bytes claims none, and lies anywhere.
 fn claim_record(used: &mut Map, d: usize, run: Part) -> bool
     requires { run.offset + run.length ≤ 16384 }
-    ensures { Claims result ((0 < run.length → d ≤ run.offset) × Clear used.old run.offset (run.offset + run.length)) used.old used.new run.offset (run.offset + run.length) }
+    ensures { Claims result ((0 < run.length → d ≤ run.offset) × Clear used.old run.offset (run.offset + run.length))
+        used.old used.new run.offset (run.offset + run.length) }
 {
     if run.length == 0 {
         return true;
@@ -83,7 +84,7 @@ fn claim_record(used: &mut Map, d: usize, run: Part) -> bool
 // for both, each would have to say by a law what its own state, the lowest offset or the map, holds of the slots before.
 pub fn claim_all(page: &Page, header: Header, used: &mut Map) -> Option<usize>
     requires { Counted page.now header.slots × Blank used.old }
-    ensures { Passed (view page.now) header.slots header.first_free header.data_start result }
+    ensures { Passed (view page.now) header result }
 {
     let mut total = 0;
     for k in 0..header.slots {

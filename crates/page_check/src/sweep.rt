@@ -2,7 +2,7 @@
 ghost use Rattle.std.specs.Prelude.{IfSome};
 ghost use Rattle.store.specs.Page.{view};
 ghost use Rattle.layout.specs.Run.{Counted};
-ghost use Rattle.page_check.specs.Fit.{RecordsFit, Total};
+ghost use Rattle.page_check.specs.Fit.{Sums};
 
 use crate::header::Header;
 use store::{PAGE_SIZE, Page};
@@ -11,7 +11,7 @@ use store::{PAGE_SIZE, Page};
 // record begins, so what ends there overlaps none before it.
 pub fn sweep(page: &Page, header: Header) -> Option<usize>
     requires { Counted page.now header.slots }
-    ensures { IfSome result (λ total. RecordsFit (view page.now) header.slots header.first_free header.data_start × Total (view page.now) header.slots total) }
+    ensures { IfSome result (Sums (view page.now) header) }
 {
     let mut low = PAGE_SIZE;
     let mut total = 0;

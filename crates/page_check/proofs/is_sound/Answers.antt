@@ -1,5 +1,4 @@
 use mathlib.Core.Path.{sym, ◌∙◌}
-use native.Mathlib.Omega.{arith}
 use Rattle.store.proofs.Laws.SoundPage.{sound_none}
 use Rattle.page_check.proofs.SlotLaws.{not_both}
 use Rattle.page_check.proofs.FitLaws.{read_of, sound_header, sound_records, unsound, sound_space}

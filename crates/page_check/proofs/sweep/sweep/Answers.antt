@@ -3,7 +3,7 @@ use native.Mathlib.Omega.{arith}
 use lib.Dec.{leb}
 use borrow.Author.Tests.{leb-true}
 use Rattle.store.specs.Page.{view}
-use Rattle.page_check.specs.Fit.{RecordsFit, Total}
+use Rattle.page_check.specs.Fit.{Sums}
 use Rattle.page_check.proofs.SlotLaws.{some_if}
 use Rattle.page_check.proofs.FitLaws.{records_lower, records_under, total_more}
 use Rattle.page_check.proofs.sweep.sweep.Goals as goal
@@ -25,5 +25,5 @@ returns c =
     let at = c.loop-k in
     let e : at.k ≡ h.slots = omega arith in
     rw c.then_some.ensures
-    (some_if (λ total. RecordsFit v h.slots h.first_free h.data_start × Total v h.slots total) (leb h.data_start at.low) at.total
+    (some_if (Sums v h) (leb h.data_start at.low) at.total
     (λ y. rw (← e) (records_lower _ _ _ _ _ at.invariant.fit (leb-true h.data_start at.low y), at.invariant.adds)))
