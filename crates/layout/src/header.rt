@@ -1,29 +1,33 @@
 // The header: its four numbers as the view has them, and all of it written.
-ghost use Rattle.std.specs.Prelude.{◌≡◌, ◌≤◌, ◌<◌, length};
+ghost use Rattle.std.specs.Prelude.{◌≡◌, ◌<◌};
 ghost use Rattle.store.specs.Numbers.{put};
 ghost use Rattle.store.specs.Page.{view, fresh};
 ghost use Rattle.layout.specs.Run.{head_of};
 
 use store::{PAGE_SIZE, Page, ROOM};
 
+#[tactic(auto, unfolding(store::specs::Page::view))]
 pub fn get_slot_count(page: &Page) -> usize
     ensures { (result ≡ (view page.now).slot_count) × (result < 65536) }
 {
     crate::get_u16(page, 0)
 }
 
+#[tactic(auto, unfolding(store::specs::Page::view))]
 pub fn get_first_free_slot(page: &Page) -> usize
     ensures { (result ≡ (view page.now).first_free) × (result < 65536) }
 {
     crate::get_u16(page, 2)
 }
 
+#[tactic(auto, unfolding(store::specs::Page::view))]
 pub fn get_data_start(page: &Page) -> usize
     ensures { (result ≡ (view page.now).data_start) × (result < 4294967296) }
 {
     crate::get_u32(page, 4)
 }
 
+#[tactic(auto, unfolding(store::specs::Page::view))]
 pub fn get_free_space(page: &Page) -> usize
     ensures { (result ≡ (view page.now).free_space) × (result < 4294967296) }
 {
@@ -34,24 +38,17 @@ pub fn get_free_space(page: &Page) -> usize
 pub fn is_fresh(page: &Page) -> bool
     ensures { result ≡ fresh (view page.now) }
 {
-    if get_slot_count(page) != 0 {
-        return false;
-    }
-    if get_first_free_slot(page) != 0 {
-        return false;
-    }
-    let start = get_data_start(page);
-    let space = get_free_space(page);
-    if start == 0 {
-        return space == 0;
-    }
-    if start == PAGE_SIZE {
-        return space == ROOM;
-    }
-    false
+    let header = (
+        get_slot_count(page),
+        get_first_free_slot(page),
+        get_data_start(page),
+        get_free_space(page),
+    );
+    matches!(header, (0, 0, 0, 0) | (0, 0, PAGE_SIZE, ROOM))
 }
 
 // The four numbers of the header.
+#[tactic(auto, using(crate::proofs::Codec::header_put))]
 pub fn set_header(page: &mut Page, c: usize, f: usize, d: usize, n: usize)
     ensures { page.new ≡ put page.old 0 (head_of c f d n) }
 {

@@ -1,5 +1,5 @@
 // The slot codec, and a slot of the page as the view has it.
-ghost use Rattle.std.specs.Prelude.{◌≡◌, ◌+◌, ◌*◌, ◌^◌, ◌≤◌, ◌<◌, length};
+ghost use Rattle.std.specs.Prelude.{◌≡◌, ◌+◌, ◌*◌, ◌^◌, ◌<◌, length};
 ghost use Rattle.store.specs.Numbers.{put};
 ghost use Rattle.store.specs.Slots.{slot_word, slot_bytes, slot_of};
 ghost use Rattle.store.specs.Page.{view};
@@ -9,7 +9,7 @@ use crate::HALF;
 use store::{ENTRY, HEADER, Page, Slot};
 
 // "The top two bits of a slot tell its kind": from these on the high half of an entry is of the kind, and below the first of them the
-// entry is an ordinary record's.
+// entry is an ordinary record's. Numbers, for they are the page's format: what callers get is a Slot.
 pub const FREE: usize = 1 << 30;
 
 pub const REDIRECT: usize = 2 << 30;
@@ -22,6 +22,7 @@ const REDIRECT_ENTRY: usize = REDIRECT << 32;
 
 const TARGET_ENTRY: usize = TARGET << 32;
 
+// A slot's entry. No From: only a slot whose numbers fit has one.
 fn slot_word(s: Slot) -> usize
     requires { Codable s }
     ensures { result ≡ slot_word s }
@@ -60,6 +61,7 @@ fn slot_of(high: usize, low: usize) -> Slot
 }
 
 // The entry of slot k, which is counted.
+#[tactic(auto, using(crate::proofs::Codec::counted_slot))]
 pub fn get_slot(page: &Page, k: usize) -> Slot
     requires { (k < (view page.now).slot_count) × (k < 2046) }
     ensures { (result ≡ (view page.now).at k) × Codable result }

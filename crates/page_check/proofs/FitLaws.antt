@@ -18,13 +18,11 @@ use Rattle.store.specs.Laws.Edits.{Apart}
 use Rattle.store.specs.Laws.Views.{Sound}
 use Rattle.store.proofs.Laws.Views.{apart_flip}
 use Rattle.store.proofs.Laws.SoundPage.{used_not_fresh, sound_page, sound_test, past_free, page_codable}
-use Rattle.page_check.specs.Fit.{Allowed, Runs, RecordsFit, Total, HeaderFits}
+use Rattle.page_check.specs.Fit.{Allowed, Runs, RecordsFit, Total, Heads, HeaderFits}
+use Rattle.page_check.specs.declared.header.Header.{Header}
 use Rattle.page_check.proofs.SlotLaws.{refuted}
 
 -- ---- one more slot
-
-pub records_none : (v : View) (f d : ℕ) → RecordsFit v 0 f d
-records_none v f d = record { allowed = λ j h. absurd (omega arith); above = λ j h. absurd (omega arith); apart = λ i j g h. absurd (omega arith) }
 
 pub records_lower : (v : View) (n f d e : ℕ) → RecordsFit v n f d → e ≤ d → RecordsFit v n f e
 records_lower v n f d e r h = record { allowed = r.allowed; above = λ j g p. omega (arith, r.above j g p); apart = r.apart }
@@ -36,9 +34,6 @@ records_more v k f d r a o s = record {
   above = below_more (λ j. 0 < len (v.at j) → d ≤ off (v.at j)) k r.above o;
   apart = λ i j g h. below_more (λ j. (i : ℕ) → i < j → Apart (v.at i) (v.at j)) k (λ j h i g. r.apart i j g h) s j h i g;
 }
-
-pub total_none : (v : View) → Total v 0 0
-total_none v = record { is = refl; small = omega arith }
 
 pub total_more : (v : View) (k t l : ℕ) → Total v k t → l ≡ len (v.at k) → l ≤ 16384 → Total v (k + 1) (t + l)
 total_more v k t l s e h = record {
@@ -59,13 +54,16 @@ records_under v k f low o l h r a s =
 -- ---- the page
 
 -- what is read of the header
-pub record Header (p : List ℕ) (n f d : ℕ) : Type 0 where
+pub record Read (p : List ℕ) (n f d : ℕ) : Type 0 where
   pub whole : length p ≡ 16384
   pub slots : n ≡ (view p).slot_count
   pub first : f ≡ (view p).first_free
   pub start : d ≡ (view p).data_start
 
-module _ {p : List ℕ} {n f d : ℕ} (a : Header p n f d) where
+pub read_of : {p : List ℕ} {h : Header} → length p ≡ 16384 → Heads (view p) h → Read p h.slots h.first_free h.data_start
+read_of w e = record { whole = w; slots = e.slots; first = e.first; start = e.start }
+
+module _ {p : List ℕ} {n f d : ℕ} (a : Read p n f d) where
   pub sound_header : Sound (view p) → HeaderFits (view p) n f d
   sound_header s = rw (a.slots, a.first, a.start) (record { few = s.few; first = s.first≤; free = s.first_is_free; dir = s.dir; start = s.start≤ })
 

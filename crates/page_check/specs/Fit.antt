@@ -1,11 +1,13 @@
 -- What the parts of the check find out, as statements over the view. Together they are document 01's sound page.
-use Rattle.std.specs.Prelude.{ℕ, ◌+◌, ◌*◌, ◌≤◌, ◌<◌, ◌≡◌, Bool, true, false}
+use Rattle.std.specs.Prelude.{ℕ, ◌+◌, ◌*◌, ◌≤◌, ◌<◌, ◌≡◌, Bool, true, false, Option, MatchOption}
 use Rattle.store.specs.Numbers.{sum}
 use Rattle.store.specs.Slots.{off, len, is_free, is_target}
 use Rattle.store.specs.Page.{View}
 use Rattle.store.specs.Laws.Edits.{Apart}
+use Rattle.store.specs.declared.Part.{Part}
 use Rattle.store.specs.declared.Slot.{Slot}
 use Rattle.store.specs.declared.Slot.TheVariants.{Free}
+use Rattle.page_check.specs.declared.header.Header.{Header}
 
 -- the answer is yes just if A holds
 pub record Tells (r : Bool) (A : Type 0) : Type 0 where
@@ -25,10 +27,9 @@ pub record Runs (s : Slot) (low o l : ℕ) : Type 0 where
   pub down : o + l ≤ low
   pub start : 0 < l → o ≡ off s
 
--- what is found of slot k: whether it is allowed, and its run where it is
-pub record Found (s : Slot) (k f low : ℕ) (fits : Bool) (o l : ℕ) : Type 0 where
-  pub tells : Tells fits (Allowed s k f low)
-  pub runs : fits ≡ true → Runs s low o l
+-- what is found of slot k: its run, if it is allowed
+abbrev pub Found : Slot → ℕ → ℕ → ℕ → Option Part → Type 0
+Found s k f low r = MatchOption r (Allowed s k f low → ⊥) (λ run. Allowed s k f low × Runs s low run.offset run.length)
 
 -- The first n records lie well and apart, with d the data start.
 pub record RecordsFit (v : View) (n f d : ℕ) : Type 0 where
@@ -41,10 +42,19 @@ pub record Total (v : View) (n t : ℕ) : Type 0 where
   pub is : t ≡ sum n (λ k. len (v.at k))
   pub small : t ≤ 16384 * n
 
--- what a pass over the first n slots answers: whether their records fit, and the sum of their lengths where they do
-pub record Passed (v : View) (n f d : ℕ) (fits : Bool) (total : ℕ) : Type 0 where
-  pub tells : Tells fits (RecordsFit v n f d)
-  pub adds : fits ≡ true → Total v n total
+-- what is read of the header
+pub record Heads (v : View) (h : Header) : Type 0 where
+  pub slots : h.slots ≡ v.slot_count
+  pub first : h.first_free ≡ v.first_free
+  pub start : h.data_start ≡ v.data_start
+
+-- the records of all slots fit, and t is the sum of their lengths
+abbrev pub Sums : View → Header → ℕ → Type 0
+Sums v h t = RecordsFit v h.slots h.first_free h.data_start × Total v h.slots t
+
+-- what a pass over all slots answers: that sum, if they fit
+abbrev pub Passed : View → Header → Option ℕ → Type 0
+Passed v h r = MatchOption r (RecordsFit v h.slots h.first_free h.data_start → ⊥) (Sums v h)
 
 -- The header's numbers fit, and slot f is free; one that is not counted is seen as free.
 pub record HeaderFits (v : View) (n f d : ℕ) : Type 0 where

@@ -1,20 +1,22 @@
 // Records in any order: a map of one bit for each byte of the page, on which each record claims its own. A record that is refused ends
 // the check, so what the map then holds is never read.
-ghost use Rattle.std.specs.Prelude.{◌≡◌, true, ◌+◌, ◌≤◌, ◌<◌, length, get_or, set};
+ghost use Rattle.std.specs.Prelude.{◌≡◌, true, ◌+◌, ◌≤◌, ◌<◌, get_or, set};
 ghost use Rattle.std.specs.Int.Bits.{bit_and, bit_or};
 ghost use Rattle.store.specs.Page.{view};
 ghost use Rattle.layout.specs.Run.{Counted};
 ghost use Rattle.page_check.specs.Fit.{Tells, Passed};
 ghost use Rattle.page_check.specs.Map.{Mask, Clear, Claims, Blank};
 
-use crate::sweep::Pass;
-use store::{ENTRY, HEADER, PAGE_SIZE, Page};
+use crate::header::Header;
+use store::{PAGE_SIZE, Page, Part};
 
 // One bit for each byte of a page.
 pub const WORDS: usize = PAGE_SIZE / 64;
 
+pub type Map = [usize; WORDS];
+
 // A word with every bit set.
-const ONES: usize = 18446744073709551615;
+const ONES: usize = usize::MAX;
 
 // The bits of a word from a on.
 pub fn bits_from(a: usize) -> usize
@@ -33,8 +35,8 @@ pub fn bits_to(b: usize) -> usize
 }
 
 // Sets the bits m of word i, if none of them is set.
-fn claim_word(used: &mut [usize], i: usize, m: usize) -> bool
-    requires { (length used.old ≡ 256) × (i < 256) }
+fn claim_word(used: &mut Map, i: usize, m: usize) -> bool
+    requires { i < 256 }
     ensures { Tells result (bit_and (get_or used.old i 0) m ≡ 0)
         × (result ≡ true → used.new ≡ set used.old i (bit_or (get_or used.old i 0) m)) }
 {
@@ -47,64 +49,50 @@ fn claim_word(used: &mut [usize], i: usize, m: usize) -> bool
 }
 
 // Claims the bytes from o on below `end`, word by word: the first from o's bit on, the last up to that of the last byte.
-pub fn claim(used: &mut [usize], o: usize, end: usize) -> bool
-    requires { (length used.old ≡ 256) × (o < end) × (end ≤ 16384) }
+pub fn claim(used: &mut Map, o: usize, end: usize) -> bool
+    requires { (o < end) × (end ≤ 16384) }
     ensures { Claims result (Clear used.old o end) used.old used.new o end }
 {
     let last = (end - 1) / 64;
     let mut m = bits_from(o % 64);
-    let mut i = o / 64;
-    while i < last {
+    for i in o / 64..last {
         if !claim_word(used, i, m) {
             return false;
         }
         m = ONES;
-        i += 1;
     }
     claim_word(used, last, m & bits_to((end - 1) % 64))
 }
 
-// Puts the record of l bytes at o on the map. One of no bytes claims none, and lies anywhere.
-fn claim_record(used: &mut [usize], d: usize, o: usize, l: usize) -> bool
-    requires { (length used.old ≡ 256) × (o + l ≤ 16384) }
-    ensures { Claims result ((0 < l → d ≤ o) × Clear used.old o (o + l)) used.old used.new o (o + l) }
+// Puts a record on the map. One of no bytes claims none, and lies anywhere.
+fn claim_record(used: &mut Map, d: usize, run: Part) -> bool
+    requires { run.offset + run.length ≤ 16384 }
+    ensures { Claims result ((0 < run.length → d ≤ run.offset) × Clear used.old run.offset (run.offset + run.length))
+        used.old used.new run.offset (run.offset + run.length) }
 {
-    if l == 0 {
+    if run.length == 0 {
         return true;
     }
-    if o < d {
+    if run.offset < d {
         return false;
     }
-    claim(used, o, o + l)
+    claim(used, run.offset, run.offset + run.length)
 }
 
 // "every record of positive length lies between data start and 16,384 and overlaps no other; a record of length 0 has an offset of at
-// most 16,384; a target has length 8 or more": every slot is looked at, so a no is as good as a yes.
-pub fn claim_all(page: &Page, n: usize, f: usize, d: usize, used: &mut [usize]) -> Pass
-    requires { Counted page.now n × (length used.old ≡ 256) × Blank used.old }
-    ensures { Passed (view page.now) n f d result.fits result.total }
+// most 16,384; a target has length 8 or more": every slot is looked at, so a no is as good as a yes. A loop beside sweep's: in a pass
+// for both, each would have to say by a law what its own state, the lowest offset or the map, holds of the slots before.
+pub fn claim_all(page: &Page, header: Header, used: &mut Map) -> Option<usize>
+    requires { Counted page.now header.slots × Blank used.old }
+    ensures { Passed (view page.now) header result }
 {
     let mut total = 0;
-    let mut k = 0;
-    let mut o = layout::get_u32(page, HEADER);
-    while k < n {
-        let l = layout::get_u32(page, HEADER + ENTRY * k + 4);
-        let run = crate::slot::run_of(o, l, k, f, PAGE_SIZE);
-        if !run.fits {
-            return Pass {
-                fits: false,
-                total: 0,
-            };
+    for k in 0..header.slots {
+        let run = crate::slot::run_at(page, k, header.first_free, PAGE_SIZE)?;
+        if !claim_record(used, header.data_start, run) {
+            return None;
         }
-        if !claim_record(used, d, run.start, run.size) {
-            return Pass {
-                fits: false,
-                total: 0,
-            };
-        }
-        total += run.size;
-        k += 1;
-        o = layout::get_u32(page, HEADER + ENTRY * k);
+        total += run.length;
     }
-    Pass { fits: true, total }
+    Some(total)
 }

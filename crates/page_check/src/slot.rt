@@ -1,59 +1,59 @@
 // One slot's record, as the check of a page sees it.
-ghost use Rattle.std.specs.Prelude.{◌≡◌, ◌+◌, ◌*◌, ◌^◌, ◌≤◌, ◌<◌};
+ghost use Rattle.std.specs.Prelude.{◌+◌, ◌*◌, ◌^◌, ◌≤◌, ◌<◌};
 ghost use Rattle.store.specs.Slots.{slot_of};
+ghost use Rattle.store.specs.Page.{view};
 ghost use Rattle.page_check.specs.Fit.{Found};
 
 use layout::slots::{FREE, REDIRECT, TARGET};
-use store::BACK;
+use store::{BACK, ENTRY, HEADER, Page, Part};
 
-// Whether a slot may stand where it is, and the bytes of its record. Where it may not, the other two say nothing.
-#[derive(Clone, Copy)]
-pub struct Run {
-    pub fits: bool,
-    pub start: usize,
-    pub size: usize,
-}
-
-// A slot that takes no bytes leaves the lowest offset as it was.
-fn no_bytes(fits: bool, low: usize) -> Run
-    ensures { (result.fits ≡ fits) × (result.start ≡ low) × (result.size ≡ 0) }
-{
-    Run {
-        fits,
-        start: low,
-        size: 0,
-    }
-}
-
-// Slot k's entry in its two halves, for a record that has to end at or below `low`; f is the first free slot. The first half, with the
-// kind in its top two bits, is small for an ordinary record alone: the first test passes for no other kind, and it is the only one
-// that such a record needs. Then the kinds in order.
-pub fn run_of(o: usize, l: usize, k: usize, f: usize, low: usize) -> Run
+// The bytes of the record of slot k, if the slot may stand where it is and its record ends at or below `low`; f is the first free slot.
+// It is told by the entry's two halves. The first half, with the kind in its top two bits, is small for an ordinary record alone: the
+// first test passes for no other kind, and it is the only one that such a record needs: so the kinds are told here, in order, and not by
+// a Slot, which would take two instructions more for each.
+fn run_of(o: usize, l: usize, k: usize, f: usize, low: usize) -> Option<Part>
     requires { (o < 4294967296) × (l < 4294967296) × (low ≤ 16384) }
-    ensures { Found (slot_of (o * 2 ^ 32 + l)) k f low result.fits result.start result.size }
+    ensures { Found (slot_of (o * 2 ^ 32 + l)) k f low result }
 {
     if o + l <= low {
-        return Run {
-            fits: true,
-            start: o,
-            size: l,
-        };
+        return Some(Part {
+            offset: o,
+            length: l,
+        });
     }
     if o < FREE {
-        return no_bytes(false, low);
+        return None;
     }
+    // A slot that takes no bytes leaves the lowest offset as it was.
+    let no_bytes = Part {
+        offset: low,
+        length: 0,
+    };
     if o < REDIRECT {
-        return no_bytes(f <= k, low);
+        return (f <= k).then_some(no_bytes);
     }
     if o < TARGET {
-        return no_bytes(true, low);
+        return Some(no_bytes);
     }
     if l < BACK {
-        return no_bytes(false, low);
+        return None;
     }
-    Run {
-        fits: o - TARGET + l <= low,
-        start: o - TARGET,
-        size: l,
-    }
+    let offset = o - TARGET;
+    (offset + l <= low).then_some(Part { offset, length: l })
+}
+
+// The same, by the slot's entry on the page.
+#[tactic(auto, using(crate::proofs::SlotLaws::found_at))]
+pub fn run_at(page: &Page, k: usize, f: usize, low: usize) -> Option<Part>
+    requires { (k < (view page.now).slot_count) × (k < 2046) × (low ≤ 16384) }
+    ensures { Found ((view page.now).at k) k f low result }
+{
+    let at = HEADER + ENTRY * k;
+    run_of(
+        layout::get_u32(page, at),
+        layout::get_u32(page, at + 4),
+        k,
+        f,
+        low,
+    )
 }

@@ -1,4 +1,4 @@
-use Prim.Native.Nat.{ℕ, ◌+◌, ◌-◌, ◌*◌, ◌≤◌, ◌<◌}
+use Prim.Native.Nat.{ℕ, ◌+◌, ◌*◌, ◌≤◌, ◌<◌}
 use mathlib.Core.Path.{◌≡◌}
 use mathlib.Core.List.{List}
 use lib.ListN.{length}
@@ -9,7 +9,6 @@ use Rattle.page_check.proofs.map.claim.Given as goal
 pub record Words (used₀ : List ℕ) (o end last : ℕ) (used : List ℕ) (m i : ℕ) : Type 0 where
   pub upto : i ≤ last
   pub words : length used ≡ 256
-  pub same : length used ≡ length used₀
   pub b : ℕ
   pub inside : b < 64
   pub begun : o ≤ 64 * i + b
@@ -18,7 +17,4 @@ pub record Words (used₀ : List ℕ) (o end last : ℕ) (used : List ℕ) (m i 
   pub claimed : Claimed used₀ used o (64 * i + b)
 
 abbrev pub invariant-loop-i : goal.invariant-loop-i
-invariant-loop-i l = Words l.initial.used l.o l.end l.last l.used l.m l.i
-
-abbrev pub decreases-loop-i : goal.decreases-loop-i
-decreases-loop-i l = l.last - l.i
+invariant-loop-i l = Words l.fn.used l.o l.end l.last l.used l.m l.i

@@ -1,6 +1,0 @@
-use Rattle.store.specs.Page.{view}
-use Rattle.layout.proofs.header.get_slot_count.Goals as goal
-
-pub returns : goal.returns
-unfolding view
-returns c = (c.get_u16.ensures.is, c.get_u16.ensures.small)
