@@ -39,19 +39,13 @@ pub fn class_of(used: usize) -> usize
     }
 }
 
-fn wide(b: u8) -> usize
-    ensures { (result ≡ b) × (result < 256) }
-{
-    b as usize
-}
-
 // Nibble j, "low half first". Page p's is number p + NIBBLES_BEFORE, behind the entries.
 fn read_nibble(inventory: &[u8], j: usize) -> usize
     requires { j / 2 < length inventory.now }
     ensures { (result ≡ nibble_at inventory.now j) × (result < 16) }
 {
     let at = j / 2;
-    let b = wide(inventory[at]);
+    let b = usize::from(inventory[at]);
     if j % 2 == 0 { b % 16 } else { b / 16 }
 }
 
@@ -61,7 +55,7 @@ fn write_nibble(inventory: &mut [u8], j: usize, v: usize)
     ensures { inventory.new ≡ set_nibble inventory.old j v }
 {
     let at = j / 2;
-    let b = wide(inventory[at]);
+    let b = usize::from(inventory[at]);
     if j % 2 == 0 {
         inventory[at] = (b / 16 * 16 + v) as u8;
     } else {
@@ -90,16 +84,9 @@ pub fn find_page(inventory: &[u8], n: usize, need: usize) -> Option<usize>
     requires { 120 ≤ length inventory.now }
     ensures { result ≡ found_in inventory.now n need }
 {
-    if ROOM < need {
-        return None;
-    }
-    let c = class_of(ROOM - need);
-    let page = read_entry(inventory, c - 1);
-    if page < n {
-        Some(page)
-    } else {
-        None
-    }
+    let used = ROOM.checked_sub(need)?;
+    let page = read_entry(inventory, class_of(used) - 1);
+    (page < n).then_some(page)
 }
 
 // Of the entries from `old` up and below `new`, where those that name `page` end.
@@ -107,14 +94,12 @@ fn run_end(inventory: &[u8], page: usize, old: usize, new: usize) -> usize
     requires { (120 ≤ length inventory.now) × (old ≤ 15) × (new ≤ 15) }
     ensures { (result ≡ run_end inventory.now page old (new - old)) × (result ≤ 15) }
 {
-    let mut c = old;
-    while c < new {
+    for c in old..new {
         if read_entry(inventory, c) != page {
             return c;
         }
-        c += 1;
     }
-    c
+    old.max(new)
 }
 
 // Entries end - 1 down to `old` become v.
@@ -122,9 +107,7 @@ fn fill_entries(inventory: &mut [u8], old: usize, end: usize, v: usize)
     requires { (120 ≤ length inventory.old) × (end ≤ 15) }
     ensures { inventory.new ≡ set_from (λ _. v) old (end - old) inventory.old }
 {
-    let mut u = end;
-    while old < u {
-        u -= 1;
+    for u in (old..end).rev() {
         write_entry(inventory, u, v);
     }
 }
@@ -136,20 +119,18 @@ fn move_entries(inventory: &mut [u8], n: usize, page: usize, old: usize, end: us
     requires page_lt_n { (page < n) × (end ≤ 15) }
     ensures { inventory.new ≡ set_from (next_page inventory.old n page) old (end - old) inventory.old }
 {
+    if end <= old {
+        return;
+    }
     let mut u = end;
-    if old < u {
-        'pages: for p in page + 1..n {
-            let nibble = read_nibble(inventory, p + NIBBLES_BEFORE);
-            // Most pages suit none of the entries left; the entries' loop is dearer to enter than this test.
-            if u <= nibble {
-                continue;
-            }
-            while nibble < u {
-                u -= 1;
-                write_entry(inventory, u, p);
-                if u == old {
-                    break 'pages;
-                }
+    for p in page + 1..n {
+        let low = read_nibble(inventory, p + NIBBLES_BEFORE).max(old);
+        // Most pages suit none of the entries left; the entries' loop is dearer to enter than this test.
+        if low < u {
+            fill_entries(inventory, low, u, p);
+            u = low;
+            if u == old {
+                break;
             }
         }
     }
@@ -161,13 +142,11 @@ fn pull_entries(inventory: &mut [u8], page: usize, new: usize)
     requires { 120 ≤ length inventory.old }
     ensures { inventory.new ≡ pulled_back page new (15 - new) inventory.old }
 {
-    let mut c = new;
-    while c < CLASSES {
+    for c in new..CLASSES {
         if read_entry(inventory, c) <= page {
-            break;
+            return;
         }
         write_entry(inventory, c, page);
-        c += 1;
     }
 }
 

@@ -1,27 +1,24 @@
 // Compactify: every record against the page's end.
-ghost use Rattle.std.specs.Prelude.{◌≡◌, ◌≤◌, ◌<◌, length, take};
+ghost use Rattle.std.specs.Prelude.{◌≡◌, ◌<◌};
 ghost use Rattle.store.specs.Laws.Slots.{Codable};
 ghost use Rattle.store.specs.Page.{view};
 ghost use Rattle.store.specs.PageSteps.{pack, compactify, run};
 ghost use Rattle.store.specs.Laws.Views.{Sound};
-ghost use Rattle.page_compactify.specs.Keys.{live, Movable, move_key, slots_of, Ready};
+ghost use Rattle.page_compactify.specs.Keys.{kind_in, len_in, live, Movable, move_key, slots_of, Ready};
 
-use crate::table::{kind_in, len_in, offset_in, slot_in};
+use crate::table::{Table, is_target, len_in, offset_in, slot_in};
 use store::{PAGE_SIZE, Page, Slot};
 
-fn live_slot(kind: usize, d: usize, n: usize) -> Slot
-    requires { (d < 1073741824) × (n < 4294967296) }
-    ensures { (result ≡ live kind d n) × Codable result }
+// The slot of key e's record at d.
+fn live_slot(e: usize, d: usize) -> Slot
+    requires { d < 1073741824 }
+    ensures { (result ≡ live (kind_in e) d (len_in e)) × Codable result }
 {
-    if kind == 0 {
-        return Slot::Ordinary {
-            offset: d,
-            length: n,
-        };
-    }
-    Slot::Target {
-        offset: d,
-        length: n,
+    let length = len_in(e);
+    if is_target(e) {
+        Slot::Target { offset: d, length }
+    } else {
+        Slot::Ordinary { offset: d, length }
     }
 }
 
@@ -30,24 +27,20 @@ fn place(page: &mut Page, e: usize, d: usize)
     requires { Movable e d page.old }
     ensures { page.new ≡ move_key e d page.old }
 {
-    let len = len_in(e);
-    layout::slots::write_slot(page, slot_in(e), live_slot(kind_in(e), d, len));
-    layout_runs::move_within(page, offset_in(e), len, d);
+    layout::slots::write_slot(page, slot_in(e), live_slot(e, d));
+    layout_runs::move_within(page, offset_in(e), len_in(e), d);
 }
 
-// The records of the first n keys, packed; the new data start.
-fn pack(page: &mut Page, t: &[usize], n: usize) -> usize
-    requires { (n ≤ length t.now) × Ready (take n t.now) 16384 (view page.old) }
-    ensures { (page.new ≡ run (pack (slots_of (take n t.now)) 16384 (view page.old)).edits page.old)
-        × (result ≡ (pack (slots_of (take n t.now)) 16384 (view page.old)).after.data_start) }
+// The records of these keys, packed; the new data start.
+fn pack(page: &mut Page, keys: &[usize]) -> usize
+    requires { Ready keys.now 16384 (view page.old) }
+    ensures { (page.new ≡ run (pack (slots_of keys.now) 16384 (view page.old)).edits page.old)
+        × (result ≡ (pack (slots_of keys.now) 16384 (view page.old)).after.data_start) }
 {
     let mut d = PAGE_SIZE;
-    let mut j = 0;
-    while j < n {
-        let e = t[j];
-        d -= len_in(e);
-        place(page, e, d);
-        j += 1;
+    for e in keys {
+        d -= len_in(*e);
+        place(page, *e, d);
     }
     let c = layout::header::get_slot_count(page);
     let f = layout::header::get_first_free_slot(page);
@@ -62,8 +55,6 @@ pub fn compactify(page: &mut Page) -> usize
     ensures { (page.new ≡ run (compactify (view page.old)).edits page.old)
         × (result ≡ (compactify (view page.old)).after.data_start) }
 {
-    let count = layout::header::get_slot_count(page);
-    let mut table = [0usize; store::MOST_SLOTS];
-    let n = crate::table::collect(page, &mut table, count);
-    pack(page, &table, n)
+    let table = Table::of(page, layout::header::get_slot_count(page));
+    pack(page, table.keys())
 }

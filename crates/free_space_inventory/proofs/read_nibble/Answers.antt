@@ -5,8 +5,8 @@ use Rattle.free_space_inventory.proofs.read_nibble.Goals as goal
 
 pub returns-then-j-eq0 : goal.returns-then-j-eq0
 unfolding nibble_at
-returns-then-j-eq0 c = (rw (eq-eqb _ _ c.if-j-eq0.true, c.wide-b.ensures.0), omega arith)
+returns-then-j-eq0 c = (rw (eq-eqb _ _ c.if-j-eq0.true, c.from-b.ensures), omega arith)
 
 pub returns-else-j-eq0 : goal.returns-else-j-eq0
 unfolding nibble_at
-returns-else-j-eq0 c = (rw (ne_eqb _ _ c.if-j-eq0.false, c.wide-b.ensures.0), omega arith)
+returns-else-j-eq0 c = (rw (ne_eqb _ _ c.if-j-eq0.false, c.from-b.ensures), omega arith)

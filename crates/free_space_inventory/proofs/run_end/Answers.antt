@@ -1,24 +1,12 @@
-use mathlib.Core.Path.{refl, ◌∙◌, sym}
+use mathlib.Core.Path.{◌≡◌, ◌∙◌, sym}
 use native.Mathlib.Omega.{arith}
 use Rattle.free_space_inventory.proofs.Turns.{run_turn, run_stop, run_done}
 use Rattle.free_space_inventory.proofs.run_end.Goals as goal
 
-pub loop-c-init : goal.loop-c-init
-loop-c-init c = (refl, omega arith)
-
-pub read_entry-requires : goal.read_entry-requires
-read_entry-requires c = omega arith
-
 pub returns-then-read_entry-page : goal.returns-then-read_entry-page
 returns-then-read_entry-page c =
     let l = c.loop-c in
-    (sym (run_stop _ _ _ _ (omega arith) (λ e. c.if-read_entry-page.true (c.read_entry.ensures ∙ e))) ∙ l.invariant.0, l.invariant.1)
-
-pub overflow_add-c : goal.overflow_add-c
-overflow_add-c c = omega arith
-
-pub loop-c-smaller : goal.loop-c-smaller
-loop-c-smaller c = omega arith
+    (sym (run_stop _ _ _ _ (omega arith) (λ e. c.if-read_entry-page.true (c.read_entry.ensures ∙ e))) ∙ l.invariant.0, omega arith)
 
 pub loop-c-preserved : goal.loop-c-preserved
 loop-c-preserved c =
@@ -26,4 +14,6 @@ loop-c-preserved c =
     (sym (run_turn _ _ _ _ (omega arith) (sym c.read_entry.ensures ∙ c.if-read_entry-page.false)) ∙ l.invariant.0, omega arith)
 
 pub returns : goal.returns
-returns c = (sym (run_done _ _ _ _ (omega arith)) ∙ c.loop-c.invariant.0, c.loop-c.invariant.1)
+returns c =
+    let e : c.max.result ≡ c.loop-c.c = omega arith in
+    rw e (sym (run_done _ _ _ _ (omega arith)) ∙ c.loop-c.invariant.0, omega arith)

@@ -4,8 +4,8 @@ use Rattle.free_space_inventory.proofs.write_nibble.Goals as goal
 
 pub returns-then-j-eq0 : goal.returns-then-j-eq0
 unfolding set_nibble
-returns-then-j-eq0 c = rw (eq-eqb _ _ c.if-j-eq0.true, c.wide-b.ensures.0)
+returns-then-j-eq0 c = rw (eq-eqb _ _ c.if-j-eq0.true, c.from-b.ensures)
 
 pub returns-else-j-eq0 : goal.returns-else-j-eq0
 unfolding set_nibble
-returns-else-j-eq0 c = rw (ne_eqb _ _ c.if-j-eq0.false, c.wide-b.ensures.0)
+returns-else-j-eq0 c = rw (ne_eqb _ _ c.if-j-eq0.false, c.from-b.ensures)

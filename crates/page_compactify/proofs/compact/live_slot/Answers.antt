@@ -1,9 +1,8 @@
 use native.Mathlib.Omega.{arith}
-use Rattle.page_compactify.proofs.KeyLaws.{live_target}
+use Rattle.page_compactify.specs.Keys.{kind_in}
+use Rattle.page_compactify.proofs.KeyLaws.{live_ordinary}
 use Rattle.page_compactify.proofs.compact.live_slot.Goals as goal
 
-pub returns-then-kind-eq0 : goal.returns-then-kind-eq0
-returns-then-kind-eq0 c = (rw c.if-kind-eq0.true, omega arith)
-
-pub returns : goal.returns
-returns c = let a = c.args in (live_target a.kind a.d a.n (omega arith), omega arith)
+pub returns-else-is_target : goal.returns-else-is_target
+unfolding kind_in
+returns-else-is_target c = (rw c.len_in-length.ensures.0 (live_ordinary (kind_in c.args.e) _ _ (omega arith) c.if-is_target.ensures), omega arith)
