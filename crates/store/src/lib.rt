@@ -84,7 +84,7 @@ pub struct Step {
 }
 
 // What repair does to a slot.
-#[derive(Clone, Copy)]
+#[derive(Clone, Copy, Debug, PartialEq, Eq)]
 pub enum Deed {
     Stays,
     RecordFreed,
