@@ -31,11 +31,11 @@ use Rattle.page_repair.specs.declared.mend.Header.{Header}
 -- ---- what is done to a slot
 
 -- whether it changes, as the code asks
-pub changes_by : (d : Deed) → not (sameb the_type d Stays) ≡ changes d
-changes_by Stays = refl
-changes_by RecordFreed = refl
-changes_by RedirectFreed = refl
-changes_by MadeOrdinary = refl
+pub differs : (d : Deed) {b : Bool} → b ≡ not (sameb the_type d Stays) → changes d ≡ b
+differs Stays e = sym e
+differs RecordFreed e = sym e
+differs RedirectFreed e = sym e
+differs MadeOrdinary e = sym e
 
 -- what can be coded is small
 len_small : (x : Slot) → Codable x → len x < 2 ^ 32

@@ -10,6 +10,9 @@ ghost use Rattle.page_repair.specs.Kept.{CountedPage, KeptMarks, judged, Judged}
 use page_check::map::WORDS;
 use store::{BACK, Deed, ENTRY, HEADER, MOST_SLOTS, PAGE_SIZE, Page, Slot};
 
+// What is done to each slot that a page can have.
+pub type Deeds = [Deed; MOST_SLOTS];
+
 // Whether the record of an entry lies as it must on a page of c slots, whatever else lies there.
 fn lies_in(c: usize, s: Slot) -> bool
     requires { (c ≤ 2046) × Codable s }
@@ -55,7 +58,7 @@ fn judge_record(page: &Page, c: usize, k: usize, used: &mut [usize; WORDS]) -> D
 }
 
 // The same of the first n slots.
-pub fn judge_records(page: &Page, n: usize, deeds: &mut [Deed; MOST_SLOTS])
+pub fn judge_records(page: &Page, n: usize, deeds: &mut Deeds)
     requires { CountedPage page.now (view page.now).slot_count × (n ≤ (view page.now).slot_count) }
     ensures { Judged (view page.now) n deeds.old deeds.new }
 {

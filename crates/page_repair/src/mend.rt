@@ -7,9 +7,10 @@ ghost use Rattle.store.specs.Laws.Slots.{Codable};
 ghost use Rattle.page_repair.specs.Kept.{CountedPage};
 ghost use Rattle.page_repair.specs.Mended.{deeds_of, CodableBy, Gathered, gathered, head_after, head_of_view};
 
+use crate::keep::Deeds;
 use layout::header;
 use layout::slots::get_slot;
-use store::{BACK, Deed, ENTRY, HEADER, MOST_SLOTS, PAGE_SIZE, Page, ROOM, Slot};
+use store::{BACK, Deed, ENTRY, HEADER, PAGE_SIZE, Page, ROOM, Slot};
 
 // How many slots change; of the slots afterwards the first free one, the lowest offset of a record of positive length, and the lengths' sum.
 #[derive(Clone, Copy)]
@@ -100,7 +101,7 @@ fn low_with(low: usize, s: Slot) -> usize
 }
 
 // The slots as they become, gathered.
-pub fn gather(page: &Page, n: usize, deeds: &[Deed; MOST_SLOTS]) -> Numbers
+pub fn gather(page: &Page, n: usize, deeds: &Deeds) -> Numbers
     requires { CountedPage page.now n × CodableBy (deeds_of deeds.now) (view page.now) }
     ensures { Gathered (deeds_of deeds.now) (view page.now) n result × (result.total ≤ n * 2 ^ 32) × (result.changes ≤ n) }
 {
@@ -139,7 +140,7 @@ pub fn header_after(page: &Page, n: usize, r: Numbers) -> Header
 }
 
 // The slots that change, of the first n, written.
-fn write_slots(page: &mut Page, n: usize, deeds: &[Deed; MOST_SLOTS])
+fn write_slots(page: &mut Page, n: usize, deeds: &Deeds)
     requires { CountedPage page.old n × CodableBy (deeds_of deeds.now) (view page.old) }
     ensures { page.new ≡ put_slots (deeds_of deeds.now) (view page.old) n page.old }
 {
@@ -153,7 +154,7 @@ fn write_slots(page: &mut Page, n: usize, deeds: &[Deed; MOST_SLOTS])
 }
 
 // The page of n slots mended, and whether its header was written.
-pub fn mend(page: &mut Page, n: usize, deeds: &[Deed; MOST_SLOTS]) -> bool
+pub fn mend(page: &mut Page, n: usize, deeds: &Deeds) -> bool
     requires { CountedPage page.old n × CodableBy (deeds_of deeds.now) (view page.old) }
     ensures { (page.new ≡ put_mended (deeds_of deeds.now) (view page.old) page.old)
         × (result ≡ not (same_head (view page.old) (mended_by (deeds_of deeds.now) (view page.old)))) }

@@ -3,48 +3,49 @@
 #![tactic(auto)]
 
 ghost use Rattle.std.specs.Prelude.{◌≡◌, true, not, ◌/◌, ◌<◌, length};
-ghost use Rattle.store.specs.Numbers.{all, zeros};
+ghost use Rattle.store.specs.Numbers.{all};
 ghost use Rattle.store.specs.Slots.{is_target};
 ghost use Rattle.store.specs.Page.{view, sound as soundPage};
 ghost use Rattle.store.specs.Segment.{page_of};
-ghost use Rattle.store.specs.Repair.{standing, keeps, holds as holdsBy, named as named_by, deed, deed_no, changes};
-ghost use Rattle.page_check.specs.Map.{Blank};
-ghost use Rattle.page_repair.specs.Kept.{judged_no};
+ghost use Rattle.store.specs.Repair.{standing, keeps, holds as holdsBy, named as named_by, deed, changes};
+ghost use Rattle.page_repair.specs.Kept.{judged};
 ghost use Rattle.segment_judge.specs.Words.{Checked, Known, UsedPageOn, UsedOn, KeptTarget, Deeds};
 
 use layout::slots::REDIRECT;
+use page_repair::keep::Deeds;
 use page_repair::marks::is_marked;
 use segment_pages::page_of;
-use store::{BACK, ENTRY, HEADER, IDS_A_PAGE, MOST_SLOTS, PAGE_SIZE, Slot};
+use store::{BACK, Deed, ENTRY, HEADER, IDS_A_PAGE, MOST_PAGES, MOST_SLOTS, PAGE_SIZE, Slot};
 
-// Marks the pages that are sound.
-pub fn check_pages(segment: &[u8], sound: &mut [usize])
-    requires { (length segment.now / 16384 < 32528) × (length sound.old ≡ 509) × Blank sound.old }
-    ensures { Checked segment.now sound.new }
+// One bit for each page that a segment can have: whether it is sound.
+pub type Sound = [usize; WORDS];
+
+const WORDS: usize = (MOST_PAGES + 63) / 64;
+
+// Which pages are sound.
+pub fn check_pages(segment: &[u8]) -> Sound
+    requires { length segment.now / 16384 < 32528 }
+    ensures { Checked segment.now result }
 {
-    let n = segment.len() / PAGE_SIZE;
-    let mut p = 0;
-    while p < n {
+    let mut sound = [0; WORDS];
+    for p in 0..segment.len() / PAGE_SIZE {
         if page_check::is_sound(page_of(segment, p)) {
-            page_repair::marks::set_mark(sound, p);
+            page_repair::marks::set_mark(&mut sound, p);
         }
-        p += 1;
     }
+    sound
 }
 
 // Whether slot k of page p, which holds a target, is kept. On a sound page every record is.
-fn target_kept(segment: &[u8], sound: &[usize], p: usize, k: usize) -> bool
+fn target_kept(segment: &[u8], sound: &Sound, p: usize, k: usize) -> bool
     requires { Known segment.now sound.now × UsedOn segment.now p k × (is_target ((view (page_of segment.now p)).at k) ≡ true) }
     ensures { result ≡ keeps (view (page_of segment.now p)) k }
 {
-    if is_marked(sound, p) {
-        return true;
-    }
-    page_repair::keep::is_kept(page_of(segment, p), k)
+    is_marked(sound, p) || page_repair::keep::is_kept(page_of(segment, p), k)
 }
 
 // Whether the redirect of id i, which names t, has "a kept target pointing back from another page".
-fn holds(segment: &[u8], sound: &[usize], i: usize, t: usize) -> bool
+fn holds(segment: &[u8], sound: &Sound, i: usize, t: usize) -> bool
     requires { Known segment.now sound.now }
     ensures { result ≡ holdsBy (standing segment.now) i t }
 {
@@ -58,8 +59,7 @@ fn holds(segment: &[u8], sound: &[usize], i: usize, t: usize) -> bool
     if MOST_SLOTS < layout::header::get_slot_count(page_of(segment, p)) {
         return false;
     }
-    let Slot::Target { offset, length: _ } = segment_pages::slot_on(segment, p, t % IDS_A_PAGE)
-    else {
+    let Slot::Target { offset, .. } = segment_pages::slot_on(segment, p, t % IDS_A_PAGE) else {
         return false;
     };
     if PAGE_SIZE < offset + BACK {
@@ -92,57 +92,62 @@ fn named(segment: &[u8], t: usize, b: usize) -> bool
     id == t
 }
 
-// What is done to slot k of page p, which is in use: 1 and 2, it is freed; 3, it becomes ordinary; `freed` is what its page tells.
-fn judge_slot(segment: &[u8], sound: &[usize], p: usize, k: usize, freed: u8) -> u8
-    requires { Known segment.now sound.now × UsedOn segment.now p k × (freed ≡ judged_no (view (page_of segment.now p)) k) }
-    ensures { result ≡ deed_no (deed (standing segment.now) p k) }
+// What is done to slot k of page p, which is in use; `freed` is what its page tells.
+fn judge_slot(segment: &[u8], sound: &Sound, p: usize, k: usize, freed: Deed) -> Deed
+    requires { Known segment.now sound.now × UsedOn segment.now p k × (freed ≡ judged (view (page_of segment.now p)) k) }
+    ensures { result ≡ deed (standing segment.now) p k }
 {
     let i = p * IDS_A_PAGE + k;
     match layout::slots::get_slot(page_of(segment, p), k) {
-        Slot::Ordinary {
-            offset: _,
-            length: _,
-        } => freed,
-        Slot::Free => 0,
-        Slot::Redirect { id } => { if holds(segment, sound, i, id) { 0 } else { 2 } }
-        Slot::Target { offset, length: _ } => {
-            if freed != 0 {
-                return 1;
+        Slot::Ordinary { .. } => freed,
+        Slot::Free => Deed::Stays,
+        Slot::Redirect { id } => {
+            if holds(segment, sound, i, id) {
+                Deed::Stays
+            } else {
+                Deed::RedirectFreed
+            }
+        }
+        Slot::Target { offset, .. } => {
+            if freed != Deed::Stays {
+                return Deed::RecordFreed;
             }
             let b = segment_pages::back_id_on(segment, p, offset);
-            if named(segment, i, b) { 0 } else { 3 }
+            if named(segment, i, b) {
+                Deed::Stays
+            } else {
+                Deed::MadeOrdinary
+            }
         }
     }
 }
 
-// The same of all n slots of the page, in a row of zeros.
-pub fn judge_page(segment: &[u8], sound: &[usize], p: usize, n: usize, deeds: &mut [u8])
-    requires { Known segment.now sound.now × UsedPageOn segment.now p n × (deeds.old ≡ zeros 2046) }
-    ensures { Deeds (deed (standing segment.now) p) deeds.new }
+// The same of all n slots of the page; those behind them stay.
+pub fn judge_page(segment: &[u8], sound: &Sound, p: usize, n: usize) -> Deeds
+    requires { Known segment.now sound.now × UsedPageOn segment.now p n }
+    ensures { Deeds (deed (standing segment.now) p) result }
 {
-    page_repair::keep::judge_records(page_of(segment, p), n, deeds);
-    let mut k = 0;
-    while k < n {
+    let mut deeds = [Deed::Stays; MOST_SLOTS];
+    page_repair::keep::judge_records(page_of(segment, p), n, &mut deeds);
+    for k in 0..n {
         deeds[k] = judge_slot(segment, sound, p, k, deeds[k]);
-        k += 1;
     }
+    deeds
 }
 
 // Whether no slot of the page, which is sound and has n, changes. On such a page ordinary and free slots stay: their entries begin below
 // those of the other two kinds.
-pub fn all_stay(segment: &[u8], sound: &[usize], p: usize, n: usize) -> bool
+pub fn all_stay(segment: &[u8], sound: &Sound, p: usize, n: usize) -> bool
     requires { Known segment.now sound.now × UsedPageOn segment.now p n × (soundPage (view (page_of segment.now p)) ≡ true) }
     ensures { result ≡ all n (λ k. not (changes (deed (standing segment.now) p k))) }
 {
     let page = page_of(segment, p);
-    let mut k = 0;
-    while k < n {
-        if REDIRECT <= layout::get_u32(page, HEADER + ENTRY * k) {
-            if judge_slot(segment, sound, p, k, 0) != 0 {
-                return false;
-            }
+    for k in 0..n {
+        if REDIRECT <= layout::get_u32(page, HEADER + ENTRY * k)
+            && judge_slot(segment, sound, p, k, Deed::Stays) != Deed::Stays
+        {
+            return false;
         }
-        k += 1;
     }
     true
 }

@@ -8,7 +8,6 @@ use Rattle.store.specs.Numbers.{page_no, slot_no}
 use Rattle.store.specs.Page.{view}
 use Rattle.store.specs.Segment.{seg_view, page_of}
 use Rattle.store.specs.Laws.Slots.{Codable}
-use Rattle.store.proofs.Laws.Segments.{length_page}
 use Rattle.store.specs.declared.Slot.TheVariants.{Target}
 use Rattle.segment_pages.proofs.Seen.{not_target, seen_count}
 use Rattle.segment_judge.proofs.HoldLaws.{target_asks, hold_past, hold_home, hold_lost, hold_other, hold_long, hold_back, hold_kept}
@@ -50,11 +49,6 @@ pub returns-then-p-i : goal.returns-then-p-i
 returns-then-p-i c =
     let a = c.args in
     hold_home a.segment.now a.i a.t c.if-p-i.true
-
-pub get_slot_count-requires : goal.get_slot_count-requires
-get_slot_count-requires c =
-    let a = c.args in
-    ap length c.page_of.ensures ∙ length_page a.segment.now (page_no a.t) (omega (arith, c.if-segment-p.false))
 
 pub returns-then-get_slot_count-gt-MOST_SLOTS : goal.returns-then-get_slot_count-gt-MOST_SLOTS
 returns-then-get_slot_count-gt-MOST_SLOTS c =

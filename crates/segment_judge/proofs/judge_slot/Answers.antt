@@ -7,10 +7,10 @@ use Rattle.store.specs.Page.{view}
 use Rattle.store.specs.Segment.{page_of}
 use Rattle.store.specs.Repair.{standing, keeps}
 use Rattle.store.specs.declared.Slot.TheVariants.{Target}
-use Rattle.segment_judge.proofs.HoldLaws.{page_long}
+use Rattle.page_repair.proofs.MendLaws.{differs}
 use Rattle.segment_judge.proofs.DeedLaws.{deed_ordinary, deed_free, deed_holds, deed_loose, deed_freed}
 use Rattle.segment_judge.proofs.DeedLaws.{stays_kept, target_inside, deed_named, deed_made, named_asks}
-use Rattle.segment_judge.proofs.judge_slot.Goals.{After-get_slot, Else-freed-ne0, In-Target}
+use Rattle.segment_judge.proofs.judge_slot.Goals.{After-get_slot, Else-ne, In-Target}
 use Rattle.segment_judge.proofs.judge_slot.Goals as goal
 
 -- the slot that was read is that of the page
@@ -22,33 +22,33 @@ get_slot-requires c =
     let a = c.args in
     let used = c.requires.1 in
     let n = ap (λ (q : List ℕ). (view q).slot_count) c.page_of.ensures in
-    (page_long a.segment.now a.p a.k _ c.page_of.ensures used, omega (arith, used.counted), omega (arith, used.counted, used.few))
+    (omega (arith, used.counted), omega (arith, used.counted, used.few))
 
 is : (c : In-Target)
     → let a = c.args in
     Target c.in-Target.offset c.in-Target.length ≡ (view (page_of a.segment.now a.p)).at a.k
 is c = sym c.in-Target.is ∙ slot_is (goal.at.In-Target c).After-get_slot
 
-kept : (c : Else-freed-ne0) → let a = c.args in keeps ((standing a.segment.now).page a.p) a.k ≡ true
+kept : (c : Else-ne) → let a = c.args in keeps ((standing a.segment.now).page a.p) a.k ≡ true
 kept c =
     let a = c.args in
-    stays_kept a.segment.now a.p a.k _ _ (is (goal.at.Else-freed-ne0 c).In-Target) a.freed c.requires.2 c.if-freed-ne0.false
+    stays_kept a.segment.now a.p a.k _ _ (is (goal.at.Else-ne c).In-Target) a.freed c.requires.2 (differs a.freed c.ne.ensures ∙ c.if-ne.false)
 
-pub returns-then-freed-ne0 : goal.returns-then-freed-ne0
-returns-then-freed-ne0 c =
+pub returns-then-ne : goal.returns-then-ne
+returns-then-ne c =
     let a = c.args in
-    deed_freed a.segment.now a.p a.k _ _ (is (goal.at.returns-then-freed-ne0 c).In-Target) a.freed c.requires.2 c.if-freed-ne0.true
+    deed_freed a.segment.now a.p a.k _ _ (is (goal.at.returns-then-ne c).In-Target) a.freed c.requires.2 (differs a.freed c.ne.ensures ∙ c.if-ne.true)
 
 pub back_id_on-b-requires : goal.back_id_on-b-requires
 back_id_on-b-requires c =
     let a = c.args in
-    let w = target_inside a.segment.now a.p a.k _ _ (is (goal.at.back_id_on-b-requires c).In-Target) (kept (goal.at.back_id_on-b-requires c).Else-freed-ne0) in
+    let w = target_inside a.segment.now a.p a.k _ _ (is (goal.at.back_id_on-b-requires c).In-Target) (kept (goal.at.back_id_on-b-requires c).Else-ne) in
     record { within = c.requires.1.within; offset_bound = omega (arith, w.0, w.1) }
 
 pub named-requires : goal.named-requires
 named-requires c =
     let a = c.args in
-    named_asks a.segment.now a.p a.k _ _ _ c.requires.1 (is (goal.at.named-requires c).In-Target) (kept (goal.at.named-requires c).Else-freed-ne0)
+    named_asks a.segment.now a.p a.k _ _ _ c.requires.1 (is (goal.at.named-requires c).In-Target) (kept (goal.at.named-requires c).Else-ne)
     c.back_id_on-b.ensures
 
 pub returns-in-Ordinary : goal.returns-in-Ordinary
@@ -74,11 +74,11 @@ returns-else-holds c =
 pub returns-then-named : goal.returns-then-named
 returns-then-named c =
     let a = c.args in
-    deed_named a.segment.now a.p a.k _ _ (is (goal.at.returns-then-named c).In-Target) (kept (goal.at.returns-then-named c).Else-freed-ne0) _
+    deed_named a.segment.now a.p a.k _ _ (is (goal.at.returns-then-named c).In-Target) (kept (goal.at.returns-then-named c).Else-ne) _
     c.named.ensures c.if-named.true
 
 pub returns-else-named : goal.returns-else-named
 returns-else-named c =
     let a = c.args in
-    deed_made a.segment.now a.p a.k _ _ (is (goal.at.returns-else-named c).In-Target) (kept (goal.at.returns-else-named c).Else-freed-ne0) _
+    deed_made a.segment.now a.p a.k _ _ (is (goal.at.returns-else-named c).In-Target) (kept (goal.at.returns-else-named c).Else-ne) _
     c.named.ensures c.if-named.false

@@ -7,7 +7,6 @@ use lib.ListN.{length}
 use Rattle.store.specs.Numbers.{page_no}
 use Rattle.store.specs.Page.{view}
 use Rattle.store.specs.Segment.{page_of}
-use Rattle.store.proofs.Laws.Segments.{length_page}
 use Rattle.segment_pages.proofs.Seen.{seen_count}
 use Rattle.segment_judge.proofs.NameLaws.{name_past, name_home, name_lost, name_other, name_by}
 use Rattle.segment_judge.proofs.named.Goals.{After-get_slot_count, Else-get_slot_count-gt-MOST_SLOTS}
@@ -43,11 +42,6 @@ pub returns-then-p-t : goal.returns-then-p-t
 returns-then-p-t c =
     let a = c.args in
     name_home a.segment.now a.t a.b c.requires c.if-p-t.true
-
-pub get_slot_count-requires : goal.get_slot_count-requires
-get_slot_count-requires c =
-    let a = c.args in
-    ap length c.page_of.ensures ∙ length_page a.segment.now (page_no a.b) (omega (arith, c.if-segment-p.false))
 
 pub returns-then-get_slot_count-gt-MOST_SLOTS : goal.returns-then-get_slot_count-gt-MOST_SLOTS
 returns-then-get_slot_count-gt-MOST_SLOTS c =

@@ -16,7 +16,7 @@ returns-then-is_marked c =
     let p = c.args.p in
     let k = c.args.k in
     let used = c.requires.1 in
-    sym (sound_keeps (page_of s p) k (length_page s p used.within)
+    c.if-is_marked.true ∙ sym (sound_keeps (page_of s p) k (length_page s p used.within)
     (c.requires.0.told p (omega (arith, used.within)) (c.is_marked.ensures.yes c.if-is_marked.true)) used.counted
     (record_by ((view (page_of s p)).at k) c.requires.2))
 
@@ -24,6 +24,6 @@ pub is_kept-requires : goal.is_kept-requires
 is_kept-requires c =
     kept_asks c.args.segment.now c.args.p c.args.k _ c.page_of.ensures c.requires.1 c.requires.2
 
-pub returns : goal.returns
-returns c =
+pub returns-else-is_marked : goal.returns-else-is_marked
+returns-else-is_marked c =
     c.is_kept.ensures ∙ ap (λ (q : List ℕ). keeps (view q) c.args.k) c.page_of.ensures

@@ -3,7 +3,7 @@ use native.Mathlib.Omega.{arith}
 use Rattle.store.specs.Page.{view}
 use Rattle.store.specs.Laws.Slots.{Codable}
 use Rattle.page_repair.specs.Mended.{deeds_of}
-use Rattle.page_repair.proofs.MendLaws.{changes_by, slot_by_lem, still_count, still_slot, wrote, left_so}
+use Rattle.page_repair.proofs.MendLaws.{differs, slot_by_lem, still_count, still_slot, wrote, left_so}
 use Rattle.page_repair.proofs.mend.write_slots.Goals.{then-ne, else-ne}
 use Rattle.page_repair.proofs.mend.write_slots.Goals as goal
 
@@ -31,7 +31,7 @@ loop-k-preserved c =
     let v = view a.page.now in
     let k = c.loop-k.k in
     let so_far = c.loop-k.invariant in
-    let is = sym (changes_by (d k)) ∙ sym c.ne.ensures in
+    let is = differs (d k) c.ne.ensures in
     elim c.if-ne.branch [
       | then-ne w ↦ w.page-is
           ∙ wrote d v k a.page.now so_far (is ∙ w.if-ne.true)
