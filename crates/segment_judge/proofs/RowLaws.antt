@@ -78,11 +78,11 @@ module _ (s : List ℕ) (p n : ℕ) (h : UsedPageOn s p n) where
       }
 
   pub half_all : (ds : List Deed) → Half s p n n ds → Deeds (deed (standing s) p) ds
-  half_all ds w j = each (dec_lt j n)
+  half_all ds w = record { each = λ j. each j (dec_lt j n) }
     where
-      each : Dec (j < n) → get_or ds j Stays ≡ deed (standing s) p j
-      each (yes l) = w.done j l
-      each (no l) = w.rest j (omega arith) ∙ deed_free s p j (sym (past_free (page_of s p) j (omega (arith, h.is))))
+      each : (j : ℕ) → Dec (j < n) → get_or ds j Stays ≡ deed (standing s) p j
+      each j (yes l) = w.done j l
+      each j (no l) = w.rest j (omega arith) ∙ deed_free s p j (sym (past_free (page_of s p) j (omega (arith, h.is))))
 
 -- ---- no slot changes
 

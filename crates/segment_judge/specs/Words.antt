@@ -49,5 +49,5 @@ pub record KeptTarget (s : List ℕ) (t b : ℕ) : Type 0 where
 
 -- ---- what is done to each slot of a page, in a row
 
-abbrev pub Deeds : (ℕ → Deed) → List Deed → Type 0
-Deeds d ds = (k : ℕ) → get_or ds k Stays ≡ d k
+pub record Deeds (d : ℕ → Deed) (ds : List Deed) : Type 0 where
+  pub each : (k : ℕ) → get_or ds k Stays ≡ d k

@@ -3,6 +3,7 @@
 #![tactic(auto)]
 
 mod count;
+mod state;
 mod tell;
 mod write;
 
@@ -11,7 +12,7 @@ ghost use Rattle.store.specs.Repair.{repair_step};
 ghost use Rattle.store.specs.Answers.{repaired};
 
 use segment_judge::Judge;
-use store::{AT_INVENTORY, PAGE_SIZE, RepairRefusal};
+use store::{PAGE_SIZE, RepairRefusal};
 use tell::What;
 
 // "Refusals: 1, then 11 ROOM when the entry list is too short for all changes, nothing changed."
@@ -29,7 +30,7 @@ pub fn repair(
     let sound = segment_judge::check_pages(segment);
     let mut after = [0; PAGE_SIZE];
     let mut count = crate::count::count_pages(Judge::new(segment, &sound), &mut after);
-    let same = crate::count::same_inventory(inventory, &after);
+    let same = crate::count::same_inventory(inventory.as_array().unwrap(), &after);
     if !same {
         count += 1;
     }
@@ -42,7 +43,7 @@ pub fn repair(
     let at = crate::write::write_pages(segment, &sound, entries);
     if !same {
         let n = segment.len() / PAGE_SIZE;
-        tell::tell(entries, at, n, AT_INVENTORY, What::InventoryWorkedOut);
+        tell::tell(entries, at, n, What::InventoryWorkedOut);
         inventory.copy_from_slice(&after);
     }
     Ok(count)
