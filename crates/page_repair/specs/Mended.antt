@@ -1,26 +1,20 @@
--- What is done to each slot of a page, as numbers in a row, and what is gathered of the slots afterwards.
-use Rattle.std.specs.Prelude.{ℕ, zero, suc, ◌+◌, ◌-◌, ◌*◌, min, ◌≡◌, Bool, cond, not, ◌&&◌, List, length, get_or, eqb, leb}
+-- What is done to each slot of a page, in a row, and what is gathered of the slots afterwards.
+use Rattle.std.specs.Prelude.{ℕ, ◌+◌, ◌-◌, ◌*◌, min, ◌≡◌, cond, not, ◌&&◌, List, length, get_or, eqb, leb}
 use Rattle.store.specs.Numbers.{sum}
 use Rattle.store.specs.Slots.{off, len, is_free}
 use Rattle.store.specs.Page.{View}
 use Rattle.store.specs.PageSteps.{next_free}
-use Rattle.store.specs.Repair.{slot_by, lowest, slot_entries}
+use Rattle.store.specs.Repair.{changes, slot_by, lowest, slot_entries}
 use Rattle.store.specs.Laws.Slots.{Codable}
 use Rattle.store.specs.declared.Deed.{Deed}
-use Rattle.store.specs.declared.Deed.TheVariants.{Stays, RecordFreed, RedirectFreed, MadeOrdinary}
+use Rattle.store.specs.declared.Deed.TheVariants.{Stays}
 use Rattle.store.specs.declared.Slot.{Slot}
 use Rattle.page_repair.specs.declared.mend.Numbers.{Numbers}
 use Rattle.page_repair.specs.declared.mend.Header.{Header}
 
--- a number as what is done, and a row of numbers
-abbrev pub deed_of : ℕ → Deed
-deed_of zero = Stays
-deed_of (suc zero) = RecordFreed
-deed_of (suc (suc zero)) = RedirectFreed
-deed_of (suc (suc (suc k))) = MadeOrdinary
-
-abbrev pub deeds_of : List ℕ → ℕ → Deed
-deeds_of ds k = deed_of (get_or ds k 0)
+-- a row of deeds; the slots behind it stay
+abbrev pub deeds_of : List Deed → ℕ → Deed
+deeds_of ds k = get_or ds k Stays
 
 -- each slot can be written
 abbrev pub CodableBy : (ℕ → Deed) → View → Type 0
@@ -33,11 +27,11 @@ pub record Gathered (d : ℕ → Deed) (v : View) (n : ℕ) (r : Numbers) : Type
   pub low : r.low ≡ lowest n (slot_by d v)
   pub total : r.total ≡ sum n (λ k. len (slot_by d v k))
 
--- one slot more, the k-th, whose entry becomes x by the deed numbered d
-abbrev pub gathered : Numbers → ℕ → ℕ → Slot → Numbers
+-- one slot more, the k-th, whose entry becomes x by the deed d
+abbrev pub gathered : Numbers → ℕ → Deed → Slot → Numbers
 gathered r k d x =
     record {
-      changes = cond (eqb d 0) r.changes (r.changes + 1);
+      changes = cond (changes d) (r.changes + 1) r.changes;
       first = cond (eqb r.first k && not (is_free x)) (k + 1) r.first;
       low = cond (eqb (len x) 0) r.low (min (off x) r.low);
       total = r.total + len x;
@@ -52,6 +46,6 @@ head_after v r =
       space = 16372 - (8 * v.slot_count + r.total);
     }
 
--- the header says them
-abbrev pub says_head : View → Header → Bool
-says_head v h = eqb v.first_free h.first && (eqb v.data_start h.start && eqb v.free_space h.space)
+-- those that it says
+abbrev pub head_of_view : View → Header
+head_of_view v = record { first = v.first_free; start = v.data_start; space = v.free_space }

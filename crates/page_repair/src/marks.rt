@@ -3,8 +3,7 @@ ghost use Rattle.std.specs.Prelude.{◌≡◌, ◌+◌, ◌/◌, ◌≤◌, ◌<
 ghost use Rattle.page_check.specs.Fit.{Tells};
 ghost use Rattle.page_check.specs.Map.{mark, Clear, Claimed};
 
-// A word with every bit set.
-const ONES: usize = 18446744073709551615;
+use page_check::map::WORDS;
 
 // Whether bit i is set.
 pub fn is_marked(used: &[usize], i: usize) -> bool
@@ -20,24 +19,21 @@ pub fn set_mark(used: &mut [usize], i: usize)
     requires { (i / 64 < length used.old) × Clear used.old i (i + 1) }
     ensures { Claimed used.old used.new i (i + 1) × (length used.new ≡ length used.old) }
 {
-    let at = i / 64;
-    used[at] = used[at] | 1 << (i % 64);
+    used[i / 64] |= 1 << (i % 64);
 }
 
 // Whether no bit from o on below `end` is set: the first word from o's bit on, the last up to that of the last one.
-pub fn is_clear(used: &[usize], o: usize, end: usize) -> bool
-    requires { (length used.now ≡ 256) × (o < end) × (end ≤ 16384) }
+pub fn is_clear(used: &[usize; WORDS], o: usize, end: usize) -> bool
+    requires { (o < end) × (end ≤ 16384) }
     ensures { Tells result (Clear used.now o end) }
 {
     let last = (end - 1) / 64;
     let mut m = page_check::map::bits_from(o % 64);
-    let mut i = o / 64;
-    while i < last {
+    for i in o / 64..last {
         if used[i] & m != 0 {
             return false;
         }
-        m = ONES;
-        i += 1;
+        m = usize::MAX;
     }
     used[last] & (m & page_check::map::bits_to((end - 1) % 64)) == 0
 }

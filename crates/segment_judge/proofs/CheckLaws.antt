@@ -14,18 +14,17 @@ use Rattle.segment_judge.specs.Words.{Checked}
 
 -- of the first p pages exactly the sound ones are marked, and no other bit is set
 pub record Swept (s : List ℕ) (p : ℕ) (bits : List ℕ) : Type 0 where
-  pub words : length bits ≡ 509
   pub told : (q : ℕ) → q < p → mark bits q ≡ 1 → sound (view (page_of s q)) ≡ true
   pub back : (q : ℕ) → q < p → sound (view (page_of s q)) ≡ true → mark bits q ≡ 1
   pub rest : (q : ℕ) → p ≤ q → mark bits q ≡ 0
 
 module _ (s : List ℕ) where
-  pub swept_none : (bits : List ℕ) → length bits ≡ 509 → Blank bits → Swept s 0 bits
-  swept_none bits w h = record { words = w; told = λ q l. absurd (omega arith); back = λ q l. absurd (omega arith); rest = λ q l. h q }
+  pub swept_none : (bits : List ℕ) → Blank bits → Swept s 0 bits
+  swept_none bits h = record { told = λ q l. absurd (omega arith); back = λ q l. absurd (omega arith); rest = λ q l. h q }
 
   module _ (p : ℕ) (bits : List ℕ) (h : Swept s p bits) where
     pub swept_skip : sound (view (page_of s p)) ≡ false → Swept s (p + 1) bits
-    swept_skip n = record { words = h.words; told = told; back = back; rest = λ q l. h.rest q (omega arith) }
+    swept_skip n = record { told = told; back = back; rest = λ q l. h.rest q (omega arith) }
       where
         told : (q : ℕ) → q < p + 1 → mark bits q ≡ 1 → sound (view (page_of s q)) ≡ true
         told q l m = go (ℕ_discrete q p)
@@ -41,13 +40,13 @@ module _ (s : List ℕ) where
             go (yes e) = never m (ap (λ (r : ℕ). sound (view (page_of s r))) e ∙ n)
             go (no d) = h.back q (omega arith) m
 
-    module _ (new : List ℕ) (c : Claimed bits new p (p + 1)) (w : length new ≡ length bits) where
+    module _ (new : List ℕ) (c : Claimed bits new p (p + 1)) where
       same : (q : ℕ) → q < p → mark new q ≡ mark bits q
       same q l = c.keeps q (λ a b. omega arith)
 
       pub swept_mark : sound (view (page_of s p)) ≡ true → Swept s (p + 1) new
       swept_mark y =
-          record { words = w ∙ h.words; told = told; back = back; rest = λ q l. c.keeps q (λ a b. omega arith) ∙ h.rest q (omega arith) }
+          record { told = told; back = back; rest = λ q l. c.keeps q (λ a b. omega arith) ∙ h.rest q (omega arith) }
         where
           told : (q : ℕ) → q < p + 1 → mark new q ≡ 1 → sound (view (page_of s q)) ≡ true
           told q l m = go (ℕ_discrete q p)
@@ -64,4 +63,4 @@ module _ (s : List ℕ) where
               go (no d) = let b : q < p = omega arith in same q b ∙ h.back q b m
 
   pub swept_all : (bits : List ℕ) → length s / 16384 < 32528 → Swept s (length s / 16384) bits → Checked s bits
-  swept_all bits few h = record { known = record { words = h.words; few = omega arith; told = h.told }; back = h.back; rest = h.rest }
+  swept_all bits few h = record { known = record { few = omega arith; told = h.told }; back = h.back; rest = h.rest }

@@ -3,26 +3,23 @@ use Prim.Native.Nat.{ℕ, ◌+◌, ◌*◌, ◌≤◌, ◌<◌}
 use mathlib.Core.Path.{◌≡◌, refl, sym, ap, subst, ◌∙◌}
 use mathlib.Core.Bool.{Bool, true, false, cond}
 use mathlib.Core.List.{List}
-use mathlib.Core.Logic.{◌≢◌}
 use native.Mathlib.Omega.{arith}
 use Rattle.store.specs.Numbers.{cut, be, id_of, page_no, slot_no}
 use Rattle.store.specs.Slots.{is_record, is_target}
 use Rattle.store.specs.Page.{View, view}
 use Rattle.store.specs.Segment.{page_of}
-use Rattle.store.specs.Repair.{standing, keeps, holds, named, deed_by, deed, deed_no}
+use Rattle.store.specs.Repair.{standing, keeps, holds, named, deed_by, deed, changes}
+use Rattle.store.proofs.Laws.Cases.{never}
 use Rattle.store.proofs.Laws.Repair.{standing_page}
+use Rattle.store.specs.declared.Deed.{Deed}
 use Rattle.store.specs.declared.Deed.TheVariants.{Stays, RecordFreed, RedirectFreed, MadeOrdinary}
 use Rattle.store.specs.declared.Slot.{Slot}
 use Rattle.store.specs.declared.Slot.TheVariants.{Ordinary, Free, Redirect, Target}
-use Rattle.page_repair.specs.Kept.{judged_no}
+use Rattle.page_repair.specs.Kept.{judged}
 use Rattle.segment_judge.specs.Words.{UsedOn, KeptTarget}
 use Rattle.segment_judge.proofs.HoldLaws.{kept_inside, back_is}
 
 -- ---- one slot
-
-freed_no : (b : Bool) → cond b 0 1 ≡ deed_no (cond b Stays RecordFreed)
-freed_no true = refl
-freed_no false = refl
 
 module _ (s : List ℕ) (p k : ℕ) where
   pub deed_is : (x : Slot) → x ≡ (view (page_of s p)).at k → deed (standing s) p k ≡ deed_by (standing s) p k x
@@ -30,62 +27,62 @@ module _ (s : List ℕ) (p k : ℕ) where
   deed_is x e = ap (deed_by (standing s) p k) (sym e)
 
   -- what its page tells of a record
-  judged : (x : Slot) → x ≡ (view (page_of s p)).at k → is_record x ≡ true → judged_no (view (page_of s p)) k ≡ cond (keeps ((standing s).page p) k) 0 1
-  judged x e r =
-      ap (λ (b : Bool). cond b (cond (keeps (view (page_of s p)) k) 0 1) 0) (ap is_record (sym e) ∙ r)
-      ∙ ap (λ (v : View). cond (keeps v k) 0 1) (sym (standing_page s p))
+  told : (x : Slot) → x ≡ (view (page_of s p)).at k → is_record x ≡ true
+      → judged (view (page_of s p)) k ≡ cond (keeps ((standing s).page p) k) Stays RecordFreed
+  told x e r =
+      ap (λ (b : Bool). cond b (cond (keeps (view (page_of s p)) k) Stays RecordFreed) Stays) (ap is_record (sym e) ∙ r)
+      ∙ ap (λ (v : View). cond (keeps v k) Stays RecordFreed) (sym (standing_page s p))
 
-  pub deed_ordinary : (o l : ℕ) → Ordinary o l ≡ (view (page_of s p)).at k → judged_no (view (page_of s p)) k ≡ deed_no (deed (standing s) p k)
-  deed_ordinary o l e =
-      judged (Ordinary o l) e refl ∙ freed_no (keeps ((standing s).page p) k) ∙ sym (ap deed_no (deed_is (Ordinary o l) e))
+  pub deed_ordinary : (o l : ℕ) → Ordinary o l ≡ (view (page_of s p)).at k → judged (view (page_of s p)) k ≡ deed (standing s) p k
+  deed_ordinary o l e = told (Ordinary o l) e refl ∙ sym (deed_is (Ordinary o l) e)
 
-  pub deed_free : Free ≡ (view (page_of s p)).at k → 0 ≡ deed_no (deed (standing s) p k)
-  deed_free e = sym (ap deed_no (deed_is Free e))
+  pub deed_free : Free ≡ (view (page_of s p)).at k → Stays ≡ deed (standing s) p k
+  deed_free e = sym (deed_is Free e)
 
   module _ (t : ℕ) (e : Redirect t ≡ (view (page_of s p)).at k) (r : Bool) (h : r ≡ holds (standing s) (id_of p k) t) where
-    by_holds : (b : Bool) → r ≡ b → deed_no (cond b Stays RedirectFreed) ≡ deed_no (deed (standing s) p k)
-    by_holds b q = ap (λ (c : Bool). deed_no (cond c Stays RedirectFreed)) (sym q ∙ h) ∙ sym (ap deed_no (deed_is (Redirect t) e))
+    by_holds : (b : Bool) → r ≡ b → cond b Stays RedirectFreed ≡ deed (standing s) p k
+    by_holds b q = ap (λ (c : Bool). cond c Stays RedirectFreed) (sym q ∙ h) ∙ sym (deed_is (Redirect t) e)
 
-    pub deed_holds : r ≡ true → 0 ≡ deed_no (deed (standing s) p k)
+    pub deed_holds : r ≡ true → Stays ≡ deed (standing s) p k
     deed_holds q = by_holds true q
 
-    pub deed_loose : r ≡ false → 2 ≡ deed_no (deed (standing s) p k)
+    pub deed_loose : r ≡ false → RedirectFreed ≡ deed (standing s) p k
     deed_loose q = by_holds false q
 
   module _ (o l : ℕ) (e : Target o l ≡ (view (page_of s p)).at k) where
     by_keeps : (b : Bool) → keeps ((standing s).page p) k ≡ b
-        → deed_no (cond b (cond (named (standing s) (id_of p k)) Stays MadeOrdinary) RecordFreed) ≡ deed_no (deed (standing s) p k)
+        → cond b (cond (named (standing s) (id_of p k)) Stays MadeOrdinary) RecordFreed ≡ deed (standing s) p k
     by_keeps b q =
-        ap (λ (c : Bool). deed_no (cond c (cond (named (standing s) (id_of p k)) Stays MadeOrdinary) RecordFreed)) (sym q)
-        ∙ sym (ap deed_no (deed_is (Target o l) e))
+        ap (λ (c : Bool). cond c (cond (named (standing s) (id_of p k)) Stays MadeOrdinary) RecordFreed) (sym q)
+        ∙ sym (deed_is (Target o l) e)
 
-    module _ (f : ℕ) (g : f ≡ judged_no (view (page_of s p)) k) where
-      pub deed_freed : f ≢ 0 → 1 ≡ deed_no (deed (standing s) p k)
+    module _ (f : Deed) (g : f ≡ judged (view (page_of s p)) k) where
+      pub deed_freed : changes f ≡ true → RecordFreed ≡ deed (standing s) p k
       deed_freed n = go (keeps ((standing s).page p) k) refl
         where
-          go : (b : Bool) → keeps ((standing s).page p) k ≡ b → 1 ≡ deed_no (deed (standing s) p k)
-          go true q = absurd (n (g ∙ judged (Target o l) e refl ∙ ap (λ (b : Bool). cond b 0 1) q))
+          go : (b : Bool) → keeps ((standing s).page p) k ≡ b → RecordFreed ≡ deed (standing s) p k
+          go true q = never n (ap changes (g ∙ told (Target o l) e refl ∙ ap (λ (b : Bool). cond b Stays RecordFreed) q))
           go false q = by_keeps false q
 
-      pub stays_kept : f ≡ 0 → keeps ((standing s).page p) k ≡ true
+      pub stays_kept : changes f ≡ false → keeps ((standing s).page p) k ≡ true
       stays_kept z = go (keeps ((standing s).page p) k) refl
         where
           go : (b : Bool) → keeps ((standing s).page p) k ≡ b → b ≡ true
           go true q = refl
-          go false q = let w : f ≡ 1 = g ∙ judged (Target o l) e refl ∙ ap (λ (b : Bool). cond b 0 1) q in absurd (omega arith)
+          go false q = never (ap changes (g ∙ told (Target o l) e refl ∙ ap (λ (b : Bool). cond b Stays RecordFreed) q)) z
 
     module _ (kept : keeps ((standing s).page p) k ≡ true) where
       pub target_inside : (8 ≤ l) × (o + l ≤ 16384)
       target_inside = kept_inside ((standing s).page p) k o l (ap (λ (v : View). v.at k) (standing_page s p) ∙ sym e) kept
 
       module _ (r : Bool) (h : r ≡ named (standing s) (id_of p k)) where
-        by_named : (b : Bool) → r ≡ b → deed_no (cond b Stays MadeOrdinary) ≡ deed_no (deed (standing s) p k)
-        by_named b q = ap (λ (c : Bool). deed_no (cond c Stays MadeOrdinary)) (sym q ∙ h) ∙ by_keeps true kept
+        by_named : (b : Bool) → r ≡ b → cond b Stays MadeOrdinary ≡ deed (standing s) p k
+        by_named b q = ap (λ (c : Bool). cond c Stays MadeOrdinary) (sym q ∙ h) ∙ by_keeps true kept
 
-        pub deed_named : r ≡ true → 0 ≡ deed_no (deed (standing s) p k)
+        pub deed_named : r ≡ true → Stays ≡ deed (standing s) p k
         deed_named q = by_named true q
 
-        pub deed_made : r ≡ false → 3 ≡ deed_no (deed (standing s) p k)
+        pub deed_made : r ≡ false → MadeOrdinary ≡ deed (standing s) p k
         deed_made q = by_named false q
 
 -- the target of id t at slot c of page a: what the test of its redirect asks

@@ -17,7 +17,6 @@ use Rattle.store.specs.SoundSegment.{slot_on, back_id}
 use Rattle.store.specs.Repair.{standing, lost, keeps, holds}
 use Rattle.store.proofs.Laws.Cases.{never, or_false}
 use Rattle.store.proofs.Laws.SoundPage.{past_free, used_not_fresh, sound_page}
-use Rattle.store.proofs.Laws.Segments.{length_page}
 use Rattle.store.proofs.Laws.RepairPage.{keeps_is}
 use Rattle.store.proofs.Laws.RepairPairs.{Holds, holds_is, holds_in}
 use Rattle.store.proofs.Laws.RepairAlone.{all_kept, record_by}
@@ -74,14 +73,11 @@ module _ (s : List ℕ) (t : ℕ) where
 -- ---- what is asked of the page
 
 module _ (s : List ℕ) (p k : ℕ) (q : List ℕ) (e : q ≡ page_of s p) (h : UsedOn s p k) where
-  pub page_long : length q ≡ 16384
-  page_long = ap length e ∙ length_page s p h.within
-
   pub kept_asks : is_target ((view (page_of s p)).at k) ≡ true
       → CountedPage q (view q).slot_count × (k < (view q).slot_count) × (is_record ((view q).at k) ≡ true)
   kept_asks t =
       let c : (view q).slot_count ≡ (view (page_of s p)).slot_count = ap (λ (r : List ℕ). (view r).slot_count) e in (
-        record { whole = page_long; counted = refl; few = omega (arith, h.few) },
+        record { counted = refl; few = omega (arith, h.few) },
         omega (arith, h.counted),
         ap (λ (r : List ℕ). is_record ((view r).at k)) e ∙ record_by ((view (page_of s p)).at k) t,
       )

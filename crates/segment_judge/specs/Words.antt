@@ -5,16 +5,16 @@ use Rattle.store.specs.Slots.{is_target}
 use Rattle.store.specs.Page.{view, sound}
 use Rattle.store.specs.Segment.{page_of}
 use Rattle.store.specs.SoundSegment.{slot_on, back_id}
-use Rattle.store.specs.Repair.{standing, keeps, deed_no}
+use Rattle.store.specs.Repair.{standing, keeps}
 use Rattle.store.specs.Laws.Lent.{Within}
 use Rattle.store.specs.declared.Deed.{Deed}
+use Rattle.store.specs.declared.Deed.TheVariants.{Stays}
 use Rattle.page_check.specs.Map.{mark}
 
 -- ---- the pages that are sound, one bit each
 
 -- what has a mark is sound
 pub record Known (s bits : List ℕ) : Type 0 where
-  pub words : length bits ≡ 509
   pub few : length s / 16384 ≤ 32527
   pub told : (p : ℕ) → p < length s / 16384 → mark bits p ≡ 1 → sound (view (page_of s p)) ≡ true
 
@@ -47,8 +47,7 @@ pub record KeptTarget (s : List ℕ) (t b : ℕ) : Type 0 where
   pub keeps : keeps (view (page_of s (page_no t))) (slot_no t) ≡ true
   pub back : b ≡ back_id (standing s) t
 
--- ---- what is done to each slot of a page, as numbers in a row
+-- ---- what is done to each slot of a page, in a row
 
-pub record Deeds (d : ℕ → Deed) (ds : List ℕ) : Type 0 where
-  pub long : length ds ≡ 2046
-  pub each : (k : ℕ) → get_or ds k 0 ≡ deed_no (d k)
+pub record Deeds (d : ℕ → Deed) (ds : List Deed) : Type 0 where
+  pub each : (k : ℕ) → get_or ds k Stays ≡ d k

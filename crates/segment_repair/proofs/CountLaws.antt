@@ -3,6 +3,7 @@ use Prim.Native.Nat.{ℕ, ◌+◌, ◌/◌, ◌≤◌, ◌<◌}
 use mathlib.Core.Path.{◌≡◌, refl, sym, ap, ◌∙◌, subst}
 use mathlib.Core.Bool.{Bool, true, false, cond, not}
 use mathlib.Core.List.{List, [], ◌∷◌}
+use mathlib.Core.Logic.{◌≢◌}
 use native.Mathlib.Omega.{arith}
 use native.Mathlib.Numerals.{add-one}
 use lib.ListN.{length, length-append}
@@ -10,19 +11,21 @@ use Rattle.store.specs.Numbers.{all, zeros}
 use Rattle.store.specs.Page.{View, view, fresh, sound}
 use Rattle.store.specs.Inventory.{update}
 use Rattle.store.specs.Segment.{SegView, page_of}
-use Rattle.store.specs.Repair.{standing, lost, deed, deed_no, changes, mended, page_after, seg_after, same_head, true_inv, true_of}
+use Rattle.store.specs.Repair.{standing, lost, deed, changes, mended, page_after, seg_after, same_head, true_inv, true_of}
 use Rattle.store.specs.Repair.{entry, slot_entries, head_entries, page_entries, seg_entries}
 use Rattle.store.specs.declared.Deed.{Deed}
-use Rattle.store.specs.declared.Deed.TheVariants.{Stays, RecordFreed, RedirectFreed, MadeOrdinary}
 use Rattle.store.proofs.Laws.Segments.{length_page}
 use Rattle.store.proofs.Laws.RepairPage.{after}
 use Rattle.store.proofs.Laws.RepairBytes.{shown_page}
-use Rattle.store.proofs.Laws.RepairQuiet.{lost_many, lost_none, lost_fresh, lost_entries, fresh_fresh, fresh_entries, used_after, used_fresh, used_space}
+use Rattle.store.proofs.Laws.RepairQuiet.{lost_fresh, lost_entries, fresh_fresh, fresh_entries, used_after, used_fresh, used_space}
 use Rattle.store.proofs.Laws.RepairQuiet.{used_entries, quiet_page}
-use Rattle.page_repair.specs.Mended.{deed_of, deeds_of, CodableBy, Gathered, head_after, says_head}
-use Rattle.page_repair.proofs.MendLaws.{space_after_lem, says_same}
+use Rattle.page_repair.specs.Mended.{deeds_of, CodableBy, Gathered, head_after, head_of_view}
+use Rattle.page_repair.proofs.MendLaws.{says_head, head_mended, space_after_lem}
 use Rattle.segment_judge.specs.Words.{UsedPageOn, Deeds}
-use Rattle.segment_repair.specs.Words.{CountedAs}
+use Rattle.std.specs.Prelude.{Some, None}
+use Rattle.store.specs.Laws.Lent.{Within}
+use Rattle.segment_repair.specs.Words.{StandsAs, CountedAs}
+use Rattle.segment_repair.specs.declared.state.State.TheVariants.{Used}
 use Rattle.segment_repair.specs.declared.count.Counted.{Counted}
 use Rattle.page_repair.specs.declared.mend.Numbers.{Numbers}
 use Rattle.page_repair.specs.declared.mend.Header.{Header}
@@ -30,52 +33,48 @@ use Rattle.page_repair.specs.declared.mend.Header.{Header}
 -- ---- a page that is not in use afterwards
 
 unused_counted : (u : SegView) (p n : ℕ) → n ≡ length (page_entries u p) → fresh (page_after u p) ≡ true
-    → CountedAs u p (record { entries = n; used = false; space = 0 })
+    → CountedAs u p (record { entries = n; space = None })
 unused_counted u p n e f =
     record {
       entries = e;
-      used = sym (ap not f);
-      space = sym (ap (λ (b : Bool). cond b 0 (page_after u p).free_space) f);
-      small = omega arith;
+      space = sym (ap (λ (b : Bool). cond b None (Some (page_after u p).free_space)) f);
+      small = λ m g. let z : ◌≡◌ {A = ℕ} 0 1 = cc in omega arith;
     }
-
-lost_counted : (u : SegView) (p : ℕ) → lost (u.page p) ≡ true → CountedAs u p (record { entries = 1; used = false; space = 0 })
-lost_counted u p l = unused_counted u p 1 (sym (ap length (lost_entries u p l))) (lost_fresh u p l)
-
-fresh_counted : (u : SegView) (p : ℕ) → fresh (u.page p) ≡ true → CountedAs u p (record { entries = 0; used = false; space = 0 })
-fresh_counted u p f = unused_counted u p 0 (sym (ap length (fresh_entries u p f))) (fresh_fresh u p f)
 
 -- q is the page's bytes
 module _ (s : List ℕ) {p : ℕ} {q : List ℕ} (e : q ≡ page_of s p) where
-  pub many_counted : 2046 < (view q).slot_count → CountedAs (standing s) p (record { entries = 1; used = false; space = 0 })
+  pub lost_counted : lost (view q) ≡ true → CountedAs (standing s) p (record { entries = 1; space = None })
   unfolding standing
-  many_counted l = lost_counted (standing s) p (ap (λ (x : List ℕ). lost (view x)) (sym e) ∙ lost_many (view q) l)
+  lost_counted l =
+      let h = ap (λ (x : List ℕ). lost (view x)) (sym e) ∙ l in
+      unused_counted (standing s) p 1 (sym (ap length (lost_entries (standing s) p h))) (lost_fresh (standing s) p h)
 
-  pub none_counted : (view q).slot_count ≡ 0 → fresh (view q) ≡ false → CountedAs (standing s) p (record { entries = 1; used = false; space = 0 })
+  pub fresh_counted : fresh (view q) ≡ true → CountedAs (standing s) p (record { entries = 0; space = None })
   unfolding standing
-  none_counted z f = lost_counted (standing s) p (ap (λ (x : List ℕ). lost (view x)) (sym e) ∙ lost_none (view q) z f)
+  fresh_counted f =
+      let h = ap (λ (x : List ℕ). fresh (view x)) (sym e) ∙ f in
+      unused_counted (standing s) p 0 (sym (ap length (fresh_entries (standing s) p h))) (fresh_fresh (standing s) p h)
 
-  pub fresh_counted_on : fresh (view q) ≡ true → CountedAs (standing s) p (record { entries = 0; used = false; space = 0 })
-  unfolding standing
-  fresh_counted_on f = fresh_counted (standing s) p (ap (λ (x : List ℕ). fresh (view x)) (sym e) ∙ f)
+  -- in use, with n slots
+  pub used_page : Within s p → (n : ℕ) → StandsAs (view q) (Used n) → UsedPageOn s p n
+  used_page w n h = record { within = w; is = h.0 ∙ ap (λ (x : List ℕ). (view x).slot_count) e; some = h.1; few = h.2 }
 
 -- ---- a page that is
 
 module _ (u : SegView) (p : ℕ) where
   inuse_counted : (n m : ℕ) → n ≡ length (page_entries u p) → m ≡ (page_after u p).free_space → (page_after u p).free_space ≤ 16372
       → fresh (page_after u p) ≡ false
-      → CountedAs u p (record { entries = n; used = true; space = m })
+      → CountedAs u p (record { entries = n; space = Some m })
   inuse_counted n m e g l f =
       record {
         entries = e;
-        used = sym (ap not f);
-        space = g ∙ sym (ap (λ (b : Bool). cond b 0 (page_after u p).free_space) f);
-        small = omega arith;
+        space = ap (λ (x : ℕ). Some x) g ∙ sym (ap (λ (b : Bool). cond b None (Some (page_after u p).free_space)) f);
+        small = λ k h. let z : m ≡ k = cc in omega arith;
       }
 
 -- one that is sound, and of which no slot changes
 pub quiet_counted : {s : List ℕ} {p n m : ℕ} → UsedPageOn s p n → sound (view (page_of s p)) ≡ true → all n (λ k. not (changes (deed (standing s) p k))) ≡ true
-    → m ≡ (view (page_of s p)).free_space → CountedAs (standing s) p (record { entries = 0; used = true; space = m })
+    → m ≡ (view (page_of s p)).free_space → CountedAs (standing s) p (record { entries = 0; space = Some m })
 unfolding standing
 quiet_counted {s} {p} {n} {m} h e q g =
     let some : 0 < (view (page_of s p)).slot_count = omega (arith, h.is, h.some) in
@@ -83,21 +82,12 @@ quiet_counted {s} {p} {n} {m} h e q g =
     let w = quiet_page s p h.within e some (subst (λ (k : ℕ). all k (λ j. not (changes (deed (standing s) p j))) ≡ true) h.is q) in
     inuse_counted (standing s) p 0 m (sym (ap length w.0)) (g ∙ sym w.1) (used_space (standing s) p some few) w.2
 
--- ---- what is done to each slot, from its number
+-- ---- a row of what is done to each slot
 
-deed_no_lem : (x : Deed) → deed_of (deed_no x) ≡ x
-deed_no_lem Stays = refl
-deed_no_lem RecordFreed = refl
-deed_no_lem RedirectFreed = refl
-deed_no_lem MadeOrdinary = refl
+pub deeds_are : (d : ℕ → Deed) (ds : List Deed) → Deeds d ds → deeds_of ds ≡ d
+deeds_are d ds h = λ i k. h.each k i
 
-pub deeds_are : (d : ℕ → Deed) (ds : List ℕ) → Deeds d ds → deeds_of ds ≡ d
-deeds_are d ds h = λ i k. each k i
-  where
-    each : (k : ℕ) → deeds_of ds k ≡ d k
-    each k = ap deed_of (h.each k) ∙ deed_no_lem (d k)
-
-pub codable_deeds : {s : List ℕ} {p n : ℕ} → UsedPageOn s p n → {ds : List ℕ} → Deeds (deed (standing s) p) ds → {q : List ℕ} → q ≡ page_of s p
+pub codable_deeds : {s : List ℕ} {p n : ℕ} → UsedPageOn s p n → {ds : List Deed} → Deeds (deed (standing s) p) ds → {q : List ℕ} → q ≡ page_of s p
     → CodableBy (deeds_of ds) (view q)
 unfolding standing
 codable_deeds {s} {p} w {ds} h {q} e =
@@ -116,16 +106,16 @@ module _ (u : SegView) (p : ℕ) (some : 0 < (u.page p).slot_count) (few : (u.pa
       ap length (used_entries u p some few) ∙ length-append (slot_entries (deed u p) p (u.page p).slot_count) (head_entries (deed u p) (u.page p) p)
       ∙ (λ i. sym (g.changes p) i + length (cond (e i) [] (entry p 65535 4 ∷ [])))
 
-  counted_by : (b : Bool) → says_head (u.page p) (head_after (u.page p) r) ≡ b
-      → CountedAs u p (record { entries = r.changes + length (cond b [] (entry p 65535 4 ∷ [])); used = true; space = (head_after (u.page p) r).space })
+  counted_by : (b : Bool) → says_head (head_of_view (u.page p)) (head_after (u.page p) r) ≡ b
+      → CountedAs u p (record { entries = r.changes + length (cond b [] (entry p 65535 4 ∷ [])); space = Some (head_after (u.page p) r).space })
   counted_by b e =
       inuse_counted u p (r.changes + length (cond b [] (entry p 65535 4 ∷ []))) (head_after (u.page p) r).space
-      (sym (told b (sym (says_same (deed u p) (u.page p) r g) ∙ e)))
+      (sym (told b (sym (ap (says_head (head_of_view (u.page p))) (head_mended (deed u p) (u.page p) r g)) ∙ e)))
       (space_after_lem (deed u p) (u.page p) r g ∙ sym (ap (λ (v : View). v.free_space) (used_after u p some few)))
       (used_space u p some few) (used_fresh u p some few)
 
 -- a page in use, gone through in full; q is its bytes, n its count
-module _ {s : List ℕ} {p n : ℕ} (h : UsedPageOn s p n) {ds : List ℕ} (t : Deeds (deed (standing s) p) ds) {q : List ℕ} (e : q ≡ page_of s p) {r : Numbers}
+module _ {s : List ℕ} {p n : ℕ} (h : UsedPageOn s p n) {ds : List Deed} (t : Deeds (deed (standing s) p) ds) {q : List ℕ} (e : q ≡ page_of s p) {r : Numbers}
     (g : Gathered (deeds_of ds) (view q) n r) where
   gathered_is : Gathered (deed (standing s) p) (view (page_of s p)) (view (page_of s p)).slot_count r
   gathered_is =
@@ -133,20 +123,21 @@ module _ {s : List ℕ} {p n : ℕ} (h : UsedPageOn s p n) {ds : List ℕ} (t : 
       (subst (λ (d : ℕ → Deed). Gathered d (view (page_of s p)) n r) (deeds_are (deed (standing s) p) ds t)
       (subst (λ (x : List ℕ). Gathered (deeds_of ds) (view x) n r) e g))
 
-  module _ {x : Header} (f : x ≡ head_after (view q) r) where
-    mended_by_lem : (b : Bool) → b ≡ says_head (view q) x → (m : ℕ) → m ≡ r.changes + length (cond b [] (entry p 65535 4 ∷ []))
-        → CountedAs (standing s) p (record { entries = m; used = true; space = x.space })
+  module _ {x y : Header} (o : y ≡ head_of_view (view q)) (f : x ≡ head_after (view q) r) where
+    mended_by_lem : (b : Bool) → b ≡ says_head y x → (m : ℕ) → m ≡ r.changes + length (cond b [] (entry p 65535 4 ∷ []))
+        → CountedAs (standing s) p (record { entries = m; space = Some x.space })
     unfolding standing
     mended_by_lem b a m k =
-        let z : x ≡ head_after (view (page_of s p)) r = f ∙ ap (λ (y : List ℕ). head_after (view y) r) e in
-        subst (λ (w : ℕ × Header). CountedAs (standing s) p (record { entries = w.0; used = true; space = w.1.space })) (λ i. (sym k i, sym z i))
+        let z : x ≡ head_after (view (page_of s p)) r = f ∙ ap (λ (v : List ℕ). head_after (view v) r) e in
+        let w : y ≡ head_of_view (view (page_of s p)) = o ∙ ap (λ (v : List ℕ). head_of_view (view v)) e in
+        subst (λ (w : ℕ × Header). CountedAs (standing s) p (record { entries = w.0; space = Some w.1.space })) (λ i. (sym k i, sym z i))
         (counted_by (standing s) p (omega (arith, h.is, h.some)) (omega (arith, h.is, h.few)) r gathered_is b
-        (sym (a ∙ (λ i. says_head (view (e i)) (z i)))))
+        (sym (a ∙ (λ i. says_head (w i) (z i)))))
 
-    pub head_stays : true ≡ says_head (view q) x → CountedAs (standing s) p (record { entries = r.changes; used = true; space = x.space })
+    pub head_stays : true ≡ says_head y x → CountedAs (standing s) p (record { entries = r.changes; space = Some x.space })
     head_stays a = mended_by_lem true a r.changes (omega arith)
 
-    pub head_anew : false ≡ says_head (view q) x → CountedAs (standing s) p (record { entries = r.changes + 1; used = true; space = x.space })
+    pub head_anew : false ≡ says_head y x → CountedAs (standing s) p (record { entries = r.changes + 1; space = Some x.space })
     head_anew a = mended_by_lem false a (r.changes + 1) refl
 
 -- ---- one page more
@@ -164,20 +155,22 @@ module _ {u : SegView} {p : ℕ} {r : Counted} (c : CountedAs u p r) (n : ℕ) {
       ap (true_inv (seg_after u) n) (add-one p)
       ∙ ap (λ (x : Bool). cond x (true_inv (seg_after u) n p) (update (true_inv (seg_after u) n p) n p (page_after u p).free_space)) f
 
-  turned : (b : Bool) → r.used ≡ b → fresh (page_after u p) ≡ not b
-  turned b e = go (fresh (page_after u p)) b (sym c.used ∙ e)
+  pub true_skips : ((m : ℕ) → r.space ≢ Some m) → v ≡ true_inv (seg_after u) n (p + 1)
+  true_skips e = go (fresh (page_after u p)) refl
     where
-      go : (x b : Bool) → not x ≡ b → x ≡ not b
-      go true b k = ap not k
-      go false b k = ap not k
+      go : (b : Bool) → fresh (page_after u p) ≡ b → v ≡ true_inv (seg_after u) n (p + 1)
+      go true f = h ∙ sym (more true f)
+      go false f = absurd (e (page_after u p).free_space (c.space ∙ ap (λ (b : Bool). cond b None (Some (page_after u p).free_space)) f))
 
-  pub true_skips : r.used ≡ false → v ≡ true_inv (seg_after u) n (p + 1)
-  true_skips e = h ∙ sym (more true (turned false e))
-
-  pub true_more : r.used ≡ true → update v n p r.space ≡ true_inv (seg_after u) n (p + 1)
-  true_more e =
-      let f = turned true e in
-      (λ i. update (h i) n p ((c.space ∙ ap (λ (b : Bool). cond b 0 (page_after u p).free_space) f) i)) ∙ sym (more false f)
+  pub true_more : (m : ℕ) → r.space ≡ Some m → update v n p m ≡ true_inv (seg_after u) n (p + 1)
+  true_more m e = go (fresh (page_after u p)) refl
+    where
+      go : (b : Bool) → fresh (page_after u p) ≡ b → update v n p m ≡ true_inv (seg_after u) n (p + 1)
+      go true f = let g = c.space ∙ ap (λ (b : Bool). cond b None (Some (page_after u p).free_space)) f in let z : ◌≡◌ {A = ℕ} 0 1 = cc in absurd (omega arith)
+      go false f =
+          let g = c.space ∙ ap (λ (b : Bool). cond b None (Some (page_after u p).free_space)) f in
+          let z : m ≡ (page_after u p).free_space = cc in
+          (λ i. update (h i) n p (z i)) ∙ sym (more false f)
 
 -- no page, and all pages
 pub true_none : (w : SegView) (n : ℕ) → zeros 16384 ≡ true_inv w n 0

@@ -1,19 +1,17 @@
 -- Repair as a whole: which outcome it is by the tests, from what the passes answer and leave.
 use Prim.Native.Nat.{ℕ, ◌+◌, ◌*◌, ◌/◌, ◌≤◌, ◌<◌}
-use mathlib.Core.Path.{◌≡◌, refl, sym, ap, ◌∙◌}
+use mathlib.Core.Path.{◌≡◌, sym, ap, ◌∙◌}
 use mathlib.Core.Bool.{Bool, true, false, ◌&&◌}
 use mathlib.Core.List.{List, [], ◌∷◌, ◌++◌, append-nil}
 use native.Mathlib.Omega.{arith}
 use native.Mathlib.Nat.{zero-add}
 use lib.ListN.{length, length-append}
-use lib.Seq.{take_all}
 use borrow.Author.Tests.{lt-ltb, le-ltb, eqb-true}
 use Rattle.store.specs.Numbers.{put}
 use Rattle.store.specs.Segment.{size_ok, inv_ok}
 use Rattle.store.specs.Answers.{repaired}
 use Rattle.store.specs.Repair.{standing, seg_bytes, seg_entries, true_of, seg_after, same_inv, inv_after, Entry, entry, inv_entries, entries, words}
 use Rattle.store.specs.Repair.{repair_step}
-use Rattle.store.proofs.Laws.Numbers.{cut_same, length_put}
 use Rattle.store.proofs.Laws.SoundPage.{and_both}
 use Rattle.store.proofs.Laws.SoundSegment.{Sized, sized}
 use Rattle.store.proofs.Laws.Repair.{standing_pages}
@@ -23,15 +21,12 @@ use Rattle.store.proofs.Laws.RepairAlone.{left_alone}
 use Rattle.store.proofs.Laws.RepairCall.{carried_out}
 use Rattle.store.proofs.Promises.Repair.{none_sound, count_is}
 use Rattle.store.proofs.Laws.RepairList.{entries_most}
-use Rattle.store.specs.declared.Repair.TheVariants.{Size, Done, Room}
+use Rattle.std.specs.Prelude.{Ok, Err}
+use Rattle.store.specs.declared.RepairRefusal.TheVariants.{Size, Room}
 use Rattle.segment_repair.proofs.TellLaws.{put_more}
 
--- a list written over another of its length
-put_all : (v w : List ℕ) → length v ≡ length w → put v 0 w ≡ w
-put_all v w e = sym (take_all (length w) (put v 0 w) (omega (arith, length_put v 0 w))) ∙ cut_same v 0 w (length w) refl (omega arith)
-
 -- "1"
-pub wrong_size_lem : (s v l : List ℕ) → (size_ok s && inv_ok v) ≡ false → repaired Size s v l ≡ repair_step s v l
+pub wrong_size_lem : (s v l : List ℕ) → (size_ok s && inv_ok v) ≡ false → repaired (Err Size) s v l ≡ repair_step s v l
 unfolding repair_step
 wrong_size_lem s v l e = sym (rw e)
 
@@ -92,12 +87,12 @@ module _ {s v w : List ℕ} {b : Bool} {n : ℕ} (h : Passed s v w b n) where
 
 module _ (s v l : List ℕ) (ok : (size_ok s && inv_ok v) ≡ true) (count : ℕ) (is : count ≡ length (entries (standing s) v)) where
   -- nothing to do
-  pub nothing_done : count ≡ 0 → repaired (Done count) s v l ≡ repair_step s v l
+  pub nothing_done : count ≡ 0 → repaired (Ok 0) s v l ≡ repair_step s v l
   nothing_done z =
-      ap (λ (n : ℕ). repaired (Done n) s v l) z ∙ sym (left_alone s v (none_sound s v l ok (count_is s v l ok ∙ sym is ∙ z)) l)
+      sym (left_alone s v (none_sound s v l ok (count_is s v l ok ∙ sym is ∙ z)) l)
 
   -- "11 ROOM when the entry list is too short for all changes"
-  pub no_place_lem : length l / 3 < count → repaired (Room count) s v l ≡ repair_step s v l
+  pub no_place_lem : length l / 3 < count → repaired (Err (Room count)) s v l ≡ repair_step s v l
   unfolding repair_step
   no_place_lem h = sym (rw (ok, ← is, lt-ltb (length l / 3) count h))
 
@@ -113,7 +108,7 @@ module _ (s v l : List ℕ) (ok : (size_ok s && inv_ok v) ≡ true) (count : ℕ
 
     -- the inventory stays
     pub pages_done : same_inv v (true_of (standing s)) ≡ true → (s' l' : List ℕ) → s' ≡ seg_bytes (standing s) (length s / 16384) s
-        → l' ≡ put l 0 (words (seg_entries (standing s) (length s / 16384))) → repaired (Done count) s' v l' ≡ repair_step s v l
+        → l' ≡ put l 0 (words (seg_entries (standing s) (length s / 16384))) → repaired (Ok count) s' v l' ≡ repair_step s v l
     pages_done b s' l' e f =
         let i : v ≡ inv_after (standing s) v = sym (inv_same s v b) in
         let g : l' ≡ put l 0 (words (entries (standing s) v)) = f ∙ ap (λ (x : List Entry). put l 0 (words x)) (sym (same_entries s v b)) in
@@ -126,13 +121,12 @@ module _ (s v l : List ℕ) (ok : (size_ok s && inv_ok v) ≡ true) (count : ℕ
 
       pub all_done : (s' v' w l' l'' : List ℕ) → s' ≡ seg_bytes (standing s) (length s / 16384) s
           → l' ≡ put l 0 (words (seg_entries (standing s) (length s / 16384)))
-          → l'' ≡ put l' (3 * at) (length s' / 16384 ∷ 65536 ∷ 6 ∷ [])
+          → l'' ≡ put l' (3 * at) (words (entry (length s' / 16384) 65536 6 ∷ []))
           → w ≡ true_of (standing s)
-          → v' ≡ put v 0 w
-          → repaired (Done count) s' v' l'' ≡ repair_step s v l
+          → v' ≡ w
+          → repaired (Ok count) s' v' l'' ≡ repair_step s v l
       all_done s' v' w l' l'' e f g h k =
-          let i : v' ≡ inv_after (standing s) v =
-          k ∙ put_all v w (one_page s v ok ∙ sym (ap length h ∙ length_true s v)) ∙ h ∙ sym (inv_other s v b) in
+          let i : v' ≡ inv_after (standing s) v = k ∙ h ∙ sym (inv_other s v b) in
           let es = seg_entries (standing s) (length s / 16384) in
           let j : l'' ≡ put l 0 (words (entries (standing s) v)) =
           let n : length s' ≡ length s = ap length e ∙ seg_length (standing s) (length s / 16384) s in

@@ -1,4 +1,4 @@
--- Two inventories compared eight bytes at a time.
+-- Two inventories that say the same have the same bytes.
 use Prim.Native.Nat.{ℕ, ◌+◌, ◌-◌, ◌*◌, ◌/◌, ◌%◌, ◌≤◌, ◌<◌}
 use mathlib.Core.Path.{◌≡◌, refl, sym, ap, ◌∙◌, subst}
 use mathlib.Core.Bool.{Bool, true, false}
@@ -8,6 +8,8 @@ use lib.ListN.{length, take, drop, get_or, length-drop, length-reverse}
 use lib.Seq.{get_or-take, get_or-drop, drop-drop, ext_get_or, length-take-le}
 use lib.Dec.{eqb}
 use borrow.Author.Tests.{eq-eqb, eqb-true}
+use Rattle.std.proofs.Common.{nat_eq}
+use Rattle.std.specs.Cmp.Lexicographic.{pointwise, same_text, other_text}
 use Rattle.store.specs.Numbers.{cut, same_bytes, Bytes, le, all}
 use Rattle.store.specs.Inventory.{entry_at}
 use Rattle.store.specs.Repair.{same_inv}
@@ -57,11 +59,7 @@ module _ (v w : List ℕ) (lv : length v ≡ 16384) (lw : length w ≡ 16384) wh
       and_in (all 15 (λ c. eqb (entry_at v c) (entry_at v c))) (same_bytes (drop 120 v) (drop 120 v))
       (all_in 15 (λ c. eqb (entry_at v c) (entry_at v c)) (λ c m. eq-eqb (entry_at v c) (entry_at v c) refl)) (same_own (drop 120 v))
 
-  -- all numbers are equal
-  pub words_same : Bytes v → Bytes w → ((k : ℕ) → k < 2048 → word v k ≡ word w k) → true ≡ same_inv v w
-  words_same a b f = sym (subst (λ (u : List ℕ). same_inv v u ≡ true) (all_words a b f) same_self)
-
-  -- one is not: it is an entry, or it lies behind the entries
+  -- each number is equal: it is an entry, or it lies behind the entries
   one_word : same_inv v w ≡ true → (k : ℕ) → word v k ≡ word w k
   unfolding same_inv entry_at
   one_word e k =
@@ -75,9 +73,11 @@ module _ (v w : List ℕ) (lv : length v ≡ 16384) (lw : length w ≡ 16384) wh
       go a d (inl l) = eqb-true (entry_at v k) (entry_at w k) (all_at 15 (λ c. eqb (entry_at v c) (entry_at w c)) a k l)
       go a d (inr l) = ap (λ (q : List ℕ). le (take 8 q)) (behind v l ∙ ap (drop (8 * k - 120)) d ∙ sym (behind w l))
 
-  pub word_differs : (k : ℕ) → (word v k ≡ word w k → ⊥) → false ≡ same_inv v w
-  word_differs k n = go (same_inv v w) refl
+  -- the bytes as they stand say it
+  pub same_by : Bytes v → Bytes w → (b : Bool) → b ≡ pointwise nat_eq v w → b ≡ same_inv v w
+  same_by a b true e = sym (subst (λ (u : List ℕ). same_inv v u ≡ true) (same_text v w e) same_self)
+  same_by a b false e = go (same_inv v w) refl
     where
-      go : (b : Bool) → same_inv v w ≡ b → false ≡ b
-      go true e = absurd (n (one_word e k))
-      go false e = refl
+      go : (c : Bool) → same_inv v w ≡ c → false ≡ c
+      go true f = absurd (other_text v w e (all_words a b (λ k m. one_word f k)))
+      go false f = refl

@@ -1,11 +1,11 @@
 -- The list of entries: three words an entry, one entry behind the other.
 use Prim.Native.Nat.{ℕ, zero, suc, ◌+◌, ◌*◌, ◌≤◌, ◌<◌}
 use mathlib.Core.Path.{◌≡◌, refl, sym, ap, ◌∙◌}
-use mathlib.Core.Bool.{cond}
+use mathlib.Core.Bool.{true, false}
 use mathlib.Core.List.{List, [], ◌∷◌, ◌++◌, append-nil}
 use native.Mathlib.Numerals.{towards_suc, add-one}
 use native.Mathlib.Omega.{arith}
-use lib.ListN.{length, get_or, set, length-append}
+use lib.ListN.{length, set, length-append}
 use mathlib.Core.Logic.{⊎_elim}
 use Rattle.store.proofs.Laws.Cases.{lt_or_le}
 use Rattle.store.specs.Numbers.{put}
@@ -14,8 +14,6 @@ use Rattle.store.proofs.Laws.Numbers.{put_set, put_nil}
 use Rattle.store.proofs.Laws.Writes.{write_append}
 use Rattle.store.proofs.Promises.RepairKept.{words_length}
 use Rattle.store.specs.declared.Deed.{Deed}
-use Rattle.page_repair.specs.Mended.{deed_of, deeds_of}
-use Rattle.segment_judge.specs.Words.{Deeds}
 
 -- three stores
 pub put3 : (i a b c : ℕ) (l : List ℕ) → set (set (set l i a) (i + 1) b) (i + 2) c ≡ put l i (a ∷ b ∷ c ∷ [])
@@ -41,42 +39,28 @@ entries_more d p k (suc n) h = ⊎_elim
     (λ l. rw length-append (omega (arith, entries_more d p k n l)))
     (lt_or_le n k)
 
--- by its number, x, one that stays has none, and another has one
-none_by : (p k x : ℕ) → x ≡ 0 → ◌≡◌ {A = List Entry} (cond (changes (deed_of x)) (entry p k (deed_no (deed_of x)) ∷ []) []) []
-none_by p k zero e = refl
-none_by p k (suc x) e = absurd (omega arith)
+module _ (d : ℕ → Deed) (p k : ℕ) where
+  pub slots_same : changes (d k) ≡ false → slot_entries d p (k + 1) ≡ slot_entries d p k
+  slots_same e = rw (add-one, e) (append-nil (slot_entries d p k))
 
-one_by : (p k x : ℕ) → x ≡ deed_no (deed_of x) → (x ≡ 0 → ⊥)
-    → ◌≡◌ {A = List Entry} (cond (changes (deed_of x)) (entry p k (deed_no (deed_of x)) ∷ []) []) (entry p k x ∷ [])
-one_by p k zero e f = absurd (f refl)
-one_by p k (suc zero) e f = refl
-one_by p k (suc (suc zero)) e f = refl
-one_by p k (suc (suc (suc x))) e f = ap (λ (y : ℕ). entry p k y ∷ []) (sym e)
-
-module _ (ds : List ℕ) (is : Deeds (deeds_of ds) ds) (p k : ℕ) where
-  pub slots_same : get_or ds k 0 ≡ 0 → slot_entries (deeds_of ds) p (k + 1) ≡ slot_entries (deeds_of ds) p k
-  slots_same e =
-      rw add-one (ap (λ (r : List Entry). slot_entries (deeds_of ds) p k ++ r) (none_by p k (get_or ds k 0) e) ∙ append-nil (slot_entries (deeds_of ds) p k))
-
-  pub slots_told : (get_or ds k 0 ≡ 0 → ⊥) → slot_entries (deeds_of ds) p (k + 1) ≡ slot_entries (deeds_of ds) p k ++ (entry p k (get_or ds k 0) ∷ [])
-  slots_told f = rw add-one (ap (λ (r : List Entry). slot_entries (deeds_of ds) p k ++ r) (one_by p k (get_or ds k 0) (is.each k) f))
+  pub slots_told : changes (d k) ≡ true → slot_entries d p (k + 1) ≡ slot_entries d p k ++ (entry p k (deed_no (d k)) ∷ [])
+  slots_told e = rw (add-one, e) refl
 
   -- there is room for it
-  pub slots_room : (n : ℕ) → k < n → (get_or ds k 0 ≡ 0 → ⊥) → length (slot_entries (deeds_of ds) p k) + 1 ≤ length (slot_entries (deeds_of ds) p n)
-  slots_room n h f = omega (arith, simp length-append at (ap length (slots_told f)), entries_more (deeds_of ds) p (k + 1) n (omega arith))
+  pub slots_room : (n : ℕ) → k < n → changes (d k) ≡ true → length (slot_entries d p k) + 1 ≤ length (slot_entries d p n)
+  slots_room n h e = omega (arith, simp length-append at (ap length (slots_told e)), entries_more d p (k + 1) n (omega arith))
 
 -- one slot more: it stays, or it is told
-module _ (ds : List ℕ) (is : Deeds (deeds_of ds) ds) (p k at next : ℕ) (l₀ l : List ℕ) (e : next ≡ at + length (slot_entries (deeds_of ds) p k))
-    (f : l ≡ put l₀ (3 * at) (words (slot_entries (deeds_of ds) p k))) where
-  pub turn_same : get_or ds k 0 ≡ 0
-      → (next ≡ at + length (slot_entries (deeds_of ds) p (k + 1))) × (l ≡ put l₀ (3 * at) (words (slot_entries (deeds_of ds) p (k + 1))))
-  turn_same z = rw (slots_same ds is p k z) (e, f)
+module _ (d : ℕ → Deed) (p k at next : ℕ) (l₀ l : List ℕ) (e : next ≡ at + length (slot_entries d p k))
+    (f : l ≡ put l₀ (3 * at) (words (slot_entries d p k))) where
+  pub turn_same : changes (d k) ≡ false
+      → (next ≡ at + length (slot_entries d p (k + 1))) × (l ≡ put l₀ (3 * at) (words (slot_entries d p (k + 1))))
+  turn_same z = rw (slots_same d p k z) (e, f)
 
-  pub turn_told : (get_or ds k 0 ≡ 0 → ⊥) → (l' : List ℕ) → l' ≡ put l (3 * next) (p ∷ k ∷ get_or ds k 0 ∷ [])
-      → (next + 1 ≡ at + length (slot_entries (deeds_of ds) p (k + 1))) × (l' ≡ put l₀ (3 * at) (words (slot_entries (deeds_of ds) p (k + 1))))
+  pub turn_told : changes (d k) ≡ true → (l' : List ℕ) → l' ≡ put l (3 * next) (words (entry p k (deed_no (d k)) ∷ []))
+      → (next + 1 ≡ at + length (slot_entries d p (k + 1))) × (l' ≡ put l₀ (3 * at) (words (slot_entries d p (k + 1))))
   turn_told z l' g =
-      rw (slots_told ds is p k z) (
+      rw (slots_told d p k z) (
         rw length-append (omega arith),
-        g
-            ∙ rw (f, e) (put_more l₀ at (slot_entries (deeds_of ds) p k) (entry p k (get_or ds k 0) ∷ [])),
+        g ∙ rw (f, e) (put_more l₀ at (slot_entries d p k) (entry p k (deed_no (d k)) ∷ [])),
       )

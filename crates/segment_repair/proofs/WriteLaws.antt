@@ -1,14 +1,14 @@
 -- A page written: what the bytes become, and which entries are told.
-use Prim.Native.Nat.{ℕ, zero, suc, ◌+◌, ◌-◌, ◌*◌, ◌/◌, ◌%◌, ◌≤◌, ◌<◌}
+use Prim.Native.Nat.{ℕ, zero, suc, ◌+◌, ◌*◌, ◌/◌, ◌%◌, ◌≤◌, ◌<◌}
 use mathlib.Core.Path.{◌≡◌, refl, sym, ap, subst, ◌∙◌}
-use mathlib.Core.Bool.{Bool, true, false, cond, not}
+use mathlib.Core.Bool.{Bool, true, false, cond, not, not-not}
 use mathlib.Core.List.{List, [], ◌∷◌, ◌++◌, append-nil}
 use mathlib.Core.Logic.{⊎_elim}
 use native.Mathlib.Omega.{arith}
 use native.Mathlib.Nat.{zero-add}
-use lib.ListN.{length, length-append}
-use borrow.Rule.Slice.PartMut.{put_mid}
-use Rattle.store.specs.Numbers.{cut, put, zeros, all}
+use lib.ListN.{length, take, drop, length-append}
+use Rattle.std.proofs.Common.{drop-drop}
+use Rattle.store.specs.Numbers.{put, zeros, all}
 use Rattle.store.specs.Page.{View, view, fresh, sound}
 use Rattle.store.specs.Segment.{SegView, page_of}
 use Rattle.store.specs.Repair.{
@@ -31,11 +31,11 @@ use Rattle.store.specs.Repair.{
 use Rattle.store.specs.Laws.Lent.{Within}
 use Rattle.store.proofs.Laws.Cases.{lt_or_le}
 use Rattle.store.proofs.Laws.RepairMixed.{mixed_length, mixed_sound, mixed_next, told_next}
-use Rattle.store.proofs.Laws.Numbers.{lent, put_own, put_nil}
-use Rattle.store.proofs.Laws.Segments.{length_page, lent_part_lem}
+use Rattle.store.proofs.Laws.Numbers.{put_own, put_nil, put_parts}
+use Rattle.store.proofs.Laws.Segments.{length_page}
 use Rattle.store.proofs.Laws.Repair.{standing_page}
 use Rattle.store.proofs.Laws.RepairBytes.{page_length}
-use Rattle.store.proofs.Laws.RepairQuiet.{lost_many, lost_none, lost_bytes, lost_entries, fresh_bytes, fresh_entries, used_bytes, used_entries, quiet_page}
+use Rattle.store.proofs.Laws.RepairQuiet.{lost_bytes, lost_entries, fresh_bytes, fresh_entries, used_bytes, used_entries, quiet_page}
 use Rattle.store.proofs.Laws.RepairQuiet.{quiet_written}
 use Rattle.store.specs.declared.Deed.{Deed}
 use Rattle.layout.specs.Run.{head_of}
@@ -46,24 +46,22 @@ use Rattle.segment_repair.specs.Words.{Written}
 use Rattle.segment_repair.proofs.CountLaws.{deeds_are, codable_deeds}
 use Rattle.segment_repair.proofs.TellLaws.{put_more}
 
--- page p as the code lends it
-abbrev pub lent_part : List ℕ → ℕ → List ℕ
-lent_part s p = cut s (p * 16384) ((p + 1) * 16384 - p * 16384)
+-- page p of s as the code lends it to be written: the segment is split in front of it, and it is the first page of the rest
+pub record Lends (s : List ℕ) (p : ℕ) (front rest page : List ℕ) : Type 0 where
+  pub before : front ≡ take (p * 16384) s
+  pub behind : rest ≡ drop (p * 16384) s
+  pub first : page ≡ take 16384 rest
 
--- page p lent and given back as the definition has it
-abbrev pub back_part : List ℕ → ℕ → List ℕ → List ℕ
-back_part s p out = put_mid (p * 16384) ((p + 1) * 16384 - p * 16384) s out
+pub lent_is : {s : List ℕ} {p : ℕ} {front rest page : List ℕ} → Lends s p front rest page → page ≡ page_of s p
+lent_is l = l.first ∙ ap (take 16384) l.behind
 
 module _ (s : List ℕ) (p : ℕ) (fits : Within s p) where
-  pub lent_whole : length (lent_part s p) ≡ 16384
-  lent_whole = ap length (lent_part_lem s p) ∙ length_page s p fits
-
-  lent_back : (out : List ℕ) → out ≡ page_bytes (standing s) p (page_of s p)
-      → back_part s p out ≡ put s (p * 16384) (page_bytes (standing s) p (page_of s p))
-  lent_back out e =
-      let l : length out ≡ (p + 1) * 16384 - p * 16384 =
-      ap length e ∙ page_length (standing s) p (page_of s p) ∙ length_page s p fits ∙ omega arith in
-      lent s (p * 16384) ((p + 1) * 16384) out (omega arith) (omega arith) l ∙ ap (put s (p * 16384)) e
+  -- another page in its place
+  lent_back : {front rest page : List ℕ} → Lends s p front rest page → (out : List ℕ) → out ≡ page_bytes (standing s) p (page_of s p)
+      → front ++ (out ++ drop 16384 rest) ≡ put s (p * 16384) (page_bytes (standing s) p (page_of s p))
+  lent_back l out e =
+      let n : length out ≡ 16384 = ap length e ∙ page_length (standing s) p (page_of s p) ∙ length_page s p fits in
+      rw (l.before, l.behind, drop-drop) (sym (put_parts s (p * 16384) out (omega (arith, n)) ∙ rw n)) ∙ ap (put s (p * 16384)) e
 
   -- ---- a page that is lost
 
@@ -71,13 +69,14 @@ module _ (s : List ℕ) (p : ℕ) (fits : Within s p) where
   unfolding head_of
   zero_head = refl
 
-  pub written_lost : lost (view (page_of s p)) ≡ true → (l l' out : List ℕ) (at : ℕ) → out ≡ put (lent_part s p) 0 (head_of 0 0 0 0)
-      → l' ≡ put l (3 * at) (p ∷ 65535 ∷ 5 ∷ []) → Written s (back_part s p out) l l' p at (at + 1)
-  written_lost h l l' out at e f =
+  pub written_lost : lost (view (page_of s p)) ≡ true → {front rest page : List ℕ} → Lends s p front rest page → (l l' out : List ℕ) (at : ℕ)
+      → out ≡ put page 0 (head_of 0 0 0 0) → l' ≡ put l (3 * at) (words (entry p 65535 5 ∷ []))
+      → Written s (front ++ (out ++ drop 16384 rest)) l l' p at (at + 1)
+  written_lost h lends l l' out at e f =
       let g : lost ((standing s).page p) ≡ true = ap lost (standing_page s p) ∙ h in
       let es = lost_entries (standing s) p g in
       record {
-        seg = lent_back out (e ∙ ap (λ (q : List ℕ). put q 0 (head_of 0 0 0 0)) (lent_part_lem s p) ∙ ap (put (page_of s p) 0) zero_head
+        seg = lent_back lends out (e ∙ ap (λ (q : List ℕ). put q 0 (head_of 0 0 0 0)) (lent_is lends) ∙ ap (put (page_of s p) 0) zero_head
             ∙ sym (lost_bytes (standing s) p g (page_of s p)));
         list = f ∙ ap (λ (x : List Entry). put l (3 * at) (words x)) (sym es);
         told = ap (λ (x : List Entry). at + length x) (sym es);
@@ -114,96 +113,75 @@ module _ (s : List ℕ) (p : ℕ) (fits : Within s p) where
         told = omega (arith, ap length es);
       }
 
--- by what is read of the page, q: its count, n, and whether it is fresh
-module _ (s : List ℕ) (p : ℕ) (q : List ℕ) (n : ℕ) (e : q ≡ page_of s p) (c : n ≡ (view q).slot_count) where
-  pub counted_on : n ≡ (view (page_of s p)).slot_count
-  counted_on = c ∙ ap (λ (r : List ℕ). (view r).slot_count) e
-
-  pub many_lost : 2046 < n → lost (view (page_of s p)) ≡ true
-  many_lost h = lost_many (view (page_of s p)) (omega (arith, counted_on))
-
-  pub none_lost : n ≡ 0 → fresh (view (page_of s p)) ≡ false → lost (view (page_of s p)) ≡ true
-  none_lost h f = lost_none (view (page_of s p)) (sym counted_on ∙ h) f
-
-pub fresh_is : (s : List ℕ) (p : ℕ) (q : List ℕ) → q ≡ page_of s p → (r b : Bool) → r ≡ fresh (view q) → r ≡ b → fresh (view (page_of s p)) ≡ b
-fresh_is s p q e r b f g = ap (λ (t : List ℕ). fresh (view t)) (sym e) ∙ sym f ∙ g
-
 -- ---- a page in use
 
 abbrev pub head_same : (ℕ → Deed) → View → Bool
 head_same d v = same_head v (mended_by d v)
 
-module _ (s : List ℕ) (p n : ℕ) (h : UsedPageOn s p n) (ds : List ℕ) (js : Deeds (deed (standing s) p) ds) where
+module _ (s : List ℕ) (p n : ℕ) (h : UsedPageOn s p n) (ds : List Deed) (js : Deeds (deed (standing s) p) ds) where
   same_deeds : deeds_of ds ≡ deed (standing s) p
   same_deeds = deeds_are (deed (standing s) p) ds js
-
-  pub own_deeds : Deeds (deeds_of ds) ds
-  own_deeds = subst (λ (d : ℕ → Deed). Deeds d ds) (sym same_deeds) js
 
   count_is : n ≡ ((standing s).page p).slot_count
   count_is = h.is ∙ ap (λ (v : View). v.slot_count) (sym (standing_page s p))
 
-  lent_view : view (lent_part s p) ≡ (standing s).page p
-  lent_view = ap view (lent_part_lem s p) ∙ sym (standing_page s p)
-
-  entries_are : page_entries (standing s) p ≡ slot_entries (deeds_of ds) p n ++ cond (head_same (deeds_of ds) (view (lent_part s p))) [] (entry p 65535 4 ∷ [])
+  entries_are : page_entries (standing s) p ≡ slot_entries (deeds_of ds) p n ++ cond (head_same (deeds_of ds) (view (page_of s p))) [] (entry p 65535 4 ∷ [])
   entries_are =
-      rw (same_deeds, count_is, lent_view) (used_entries (standing s) p (omega (arith, count_is, h.some)) (omega (arith, count_is, h.few)))
+      rw (same_deeds, count_is, ← standing_page s p) (used_entries (standing s) p (omega (arith, count_is, h.some)) (omega (arith, count_is, h.few)))
 
   pub room_slots : (at m : ℕ) → 3 * (at + length (page_entries (standing s) p)) ≤ m → 3 * (at + length (slot_entries (deeds_of ds) p n)) ≤ m
   room_slots at m r = omega (arith, simp length-append at (ap length entries_are))
 
-  pub lent_counted : CountedPage (lent_part s p) n
-  lent_counted =
-      record {
-        whole = lent_whole s p h.within;
-        counted = count_is ∙ ap (λ (v : View). v.slot_count) (sym lent_view);
-        few = h.few;
-      }
+  -- q is the page as it is lent
+  module _ {q : List ℕ} (e : q ≡ page_of s p) where
+    pub lent_asks : CountedPage q n × CodableBy (deeds_of ds) (view q)
+    lent_asks = (record { counted = h.is ∙ ap (λ (x : List ℕ). (view x).slot_count) (sym e); few = h.few }, codable_deeds h js e)
 
-  pub lent_codable : CodableBy (deeds_of ds) (view (lent_part s p))
-  lent_codable = codable_deeds h js (lent_part_lem s p)
+    -- whether its header is written
+    pub head_told : {r : Bool} → r ≡ not (head_same (deeds_of ds) (view q)) → not r ≡ head_same (deeds_of ds) (view (page_of s p))
+    head_told f = ap not f ∙ not-not (head_same (deeds_of ds) (view q)) ∙ ap (λ (x : List ℕ). head_same (deeds_of ds) (view x)) e
 
-  written_seg : (out : List ℕ) → out ≡ put_mended (deeds_of ds) (view (lent_part s p)) (lent_part s p)
-      → back_part s p out ≡ put s (p * 16384) (page_bytes (standing s) p (page_of s p))
-  written_seg out e =
-      lent_back s p h.within out
-      (e ∙ rw (same_deeds, lent_view, lent_part_lem s p)
-      (sym (used_bytes (standing s) p (omega (arith, count_is, h.some)) (omega (arith, count_is, h.few)) (page_of s p))))
+  module _ {front rest page : List ℕ} (lends : Lends s p front rest page) where
+    written_seg : (out : List ℕ) → out ≡ put_mended (deeds_of ds) (view page) page
+        → front ++ (out ++ drop 16384 rest) ≡ put s (p * 16384) (page_bytes (standing s) p (page_of s p))
+    written_seg out e =
+        lent_back s p h.within lends out
+        (e ∙ rw (lent_is lends, same_deeds, ← standing_page s p)
+        (sym (used_bytes (standing s) p (omega (arith, count_is, h.some)) (omega (arith, count_is, h.few)) (page_of s p))))
 
-  -- the header stays
-  pub written_slots : head_same (deeds_of ds) (view (lent_part s p)) ≡ true → (l l' out : List ℕ) (at next : ℕ)
-      → out ≡ put_mended (deeds_of ds) (view (lent_part s p)) (lent_part s p)
-      → next ≡ at + length (slot_entries (deeds_of ds) p n)
-      → l' ≡ put l (3 * at) (words (slot_entries (deeds_of ds) p n))
-      → Written s (back_part s p out) l l' p at next
-  written_slots b l l' out at next e f g =
-      let es : page_entries (standing s) p ≡ slot_entries (deeds_of ds) p n =
-      entries_are ∙ rw b (append-nil (slot_entries (deeds_of ds) p n)) in
-      record {
-        seg = written_seg out e;
-        list = g ∙ ap (λ (x : List Entry). put l (3 * at) (words x)) (sym es);
-        told = f ∙ ap (λ (x : List Entry). at + length x) (sym es);
-      }
+    -- the header stays
+    pub written_slots : true ≡ head_same (deeds_of ds) (view (page_of s p)) → (l l' out : List ℕ) (at next : ℕ)
+        → out ≡ put_mended (deeds_of ds) (view page) page
+        → next ≡ at + length (slot_entries (deeds_of ds) p n)
+        → l' ≡ put l (3 * at) (words (slot_entries (deeds_of ds) p n))
+        → Written s (front ++ (out ++ drop 16384 rest)) l l' p at next
+    written_slots b l l' out at next e f g =
+        let es : page_entries (standing s) p ≡ slot_entries (deeds_of ds) p n =
+        entries_are ∙ rw (← b) (append-nil (slot_entries (deeds_of ds) p n)) in
+        record {
+          seg = written_seg out e;
+          list = g ∙ ap (λ (x : List Entry). put l (3 * at) (words x)) (sym es);
+          told = f ∙ ap (λ (x : List Entry). at + length x) (sym es);
+        }
 
   -- the header is written
-  module _ (b : head_same (deeds_of ds) (view (lent_part s p)) ≡ false) where
+  module _ (b : false ≡ head_same (deeds_of ds) (view (page_of s p))) where
     all_told : page_entries (standing s) p ≡ slot_entries (deeds_of ds) p n ++ (entry p 65535 4 ∷ [])
-    all_told = entries_are ∙ rw b refl
+    all_told = entries_are ∙ rw (← b) refl
 
     pub room_head : (at next m : ℕ) → next ≡ at + length (slot_entries (deeds_of ds) p n) → 3 * (at + length (page_entries (standing s) p)) ≤ m
         → 3 * next + 3 ≤ m
     room_head at next m e r = omega (arith, simp length-append at (ap length all_told))
 
-    pub written_head : (l l' l'' out : List ℕ) (at next : ℕ)
-        → out ≡ put_mended (deeds_of ds) (view (lent_part s p)) (lent_part s p)
+    pub written_head : {front rest page : List ℕ} → Lends s p front rest page → (l l' l'' out : List ℕ) (at next : ℕ)
+        → out ≡ put_mended (deeds_of ds) (view page) page
         → next ≡ at + length (slot_entries (deeds_of ds) p n)
         → l' ≡ put l (3 * at) (words (slot_entries (deeds_of ds) p n))
-        → l'' ≡ put l' (3 * next) (p ∷ 65535 ∷ 4 ∷ [])
-        → Written s (back_part s p out) l l'' p at (next + 1)
-    written_head l l' l'' out at next e f g k =
+        → l'' ≡ put l' (3 * next) (words (entry p 65535 4 ∷ []))
+        → Written s (front ++ (out ++ drop 16384 rest)) l l'' p at (next + 1)
+    written_head lends l l' l'' out at next e f g k =
         record {
-          seg = written_seg out e;
+          seg = written_seg lends out e;
           list = k ∙ rw (g, f, all_told) (put_more l at (slot_entries (deeds_of ds) p n) (entry p 65535 4 ∷ []));
           told = rw (all_told, length-append) (omega arith);
         }
@@ -231,7 +209,6 @@ module _ (s : List ℕ) (whole : length s % 16384 ≡ 0) (p : ℕ) (l : p < leng
   mixed_known bits k =
       let e = mixed_length s whole p l in
       record {
-        words = k.words;
         few = rw e k.few;
         told = λ q h m. let j : q < length s / 16384 = rw e at h in mixed_sound s whole p l q j (k.told q j m);
       }

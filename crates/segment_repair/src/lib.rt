@@ -3,6 +3,7 @@
 #![tactic(auto)]
 
 mod count;
+mod state;
 mod tell;
 mod write;
 
@@ -10,38 +11,40 @@ ghost use Rattle.std.specs.Prelude.{◌≡◌};
 ghost use Rattle.store.specs.Repair.{repair_step};
 ghost use Rattle.store.specs.Answers.{repaired};
 
-use store::{AT_INVENTORY, PAGE_SIZE, Repair};
-
-// One bit for each page that a segment can have.
-const WORDS: usize = 509;
+use segment_judge::Judge;
+use store::{PAGE_SIZE, RepairRefusal};
+use tell::What;
 
 // "Refusals: 1, then 11 ROOM when the entry list is too short for all changes, nothing changed."
-pub fn repair(segment: &mut [u8], inventory: &mut [u8], entries: &mut [u64]) -> Repair
+pub fn repair(
+    segment: &mut [u8],
+    inventory: &mut [u8],
+    entries: &mut [u64],
+) -> Result<usize, RepairRefusal>
     ensures { repaired result segment.new inventory.new entries.new
         ≡ repair_step segment.old inventory.old entries.old }
 {
     if !segment_pages::sizes_ok(segment, inventory) {
-        return Repair::Size;
+        return Err(RepairRefusal::Size);
     }
-    let mut sound = [0usize; WORDS];
-    segment_judge::check_pages(segment, &mut sound);
-    let mut after = [0u8; PAGE_SIZE];
-    let mut count = crate::count::count_pages(segment, &sound, &mut after);
-    let same = crate::count::same_inventory(inventory, &after);
+    let sound = segment_judge::check_pages(segment);
+    let mut after = [0; PAGE_SIZE];
+    let mut count = crate::count::count_pages(Judge::new(segment, &sound), &mut after);
+    let same = crate::count::same_inventory(inventory.as_array().unwrap(), &after);
     if !same {
         count += 1;
     }
     if count == 0 {
-        return Repair::Done { count };
+        return Ok(0);
     }
     if entries.len() / 3 < count {
-        return Repair::Room { count };
+        return Err(RepairRefusal::Room { count });
     }
     let at = crate::write::write_pages(segment, &sound, entries);
     if !same {
         let n = segment.len() / PAGE_SIZE;
-        tell::tell(entries, at, n, AT_INVENTORY, tell::INVENTORY_WORKED_OUT);
-        layout_runs::copy_in(inventory, 0, &after);
+        tell::tell(entries, at, n, What::InventoryWorkedOut);
+        inventory.copy_from_slice(&after);
     }
-    Repair::Done { count }
+    Ok(count)
 }

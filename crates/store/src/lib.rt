@@ -83,7 +83,7 @@ pub struct Step {
 }
 
 // What repair does to a slot.
-#[derive(Clone, Copy)]
+#[derive(Clone, Copy, Debug, PartialEq, Eq)]
 pub enum Deed {
     Stays,
     RecordFreed,

@@ -1,10 +1,11 @@
-use mathlib.Core.Path.{◌≡◌, refl, sym, ap, ◌∙◌}
+use Prim.Native.Nat.{ℕ, ◌/◌}
+use mathlib.Core.List.{List}
+use mathlib.Core.Path.{◌≡◌, sym, ap, ◌∙◌}
 use mathlib.Core.Bool.{true, false, ◌&&◌}
 use native.Mathlib.Omega.{arith}
 use lib.ListN.{length}
 use Rattle.store.specs.Segment.{size_ok, inv_ok}
-use Rattle.store.specs.Repair.{standing, entries}
-use Rattle.page_check.proofs.MapLaws.{blank_words}
+use Rattle.store.specs.Repair.{standing, seg_entries, true_of, same_inv, entries}
 use Rattle.segment_repair.proofs.RepairLaws.{wrong_size_lem, right_size, one_page, length_true, Passed, passed_same, count_same, count_other, count_small}
 use Rattle.segment_repair.proofs.RepairLaws.{nothing_done, no_place_lem, pages_done, pages_room, last_room, all_done}
 use Rattle.segment_repair.proofs.repair.Goals.{After-same_inventory-same, then-not-same, else-not-same}
@@ -18,7 +19,13 @@ passed : (x : After-same_inventory-same) →
     Passed x.args.segment.now x.args.inventory.now x.count_pages-count.new.inventory x.same_inventory-same.result x.count_pages-count.result
 passed x =
     let n = x.count_pages-count in
-    record { is = n.ensures.1; same = x.same_inventory-same.ensures; pages = n.ensures.0 }
+    let e = x.new.ensures in
+    let lent = (rw x.unwrap.ensures at x.as_array.ensures.cases).same in
+    record {
+      is = n.ensures.1 ∙ ap (λ (s : List ℕ). true_of (standing s)) e;
+      same = x.same_inventory-same.ensures ∙ ap (λ (v : List ℕ). same_inv v n.new.inventory) lent;
+      pages = n.ensures.0 ∙ ap (λ (s : List ℕ). length (seg_entries (standing s) (length s / 16384))) e;
+    }
 
 -- the count
 is_count : (c : Joined-not-same) → c.if-not-same.count ≡ length (entries (standing c.args.segment.now) c.args.inventory.now)
@@ -31,16 +38,9 @@ is_count c =
 pub returns-then-not-sizes_ok : goal.returns-then-not-sizes_ok
 returns-then-not-sizes_ok c = wrong_size_lem c.args.segment.now c.args.inventory.now c.args.entries.now (sym c.sizes_ok.ensures ∙ c.if-not-sizes_ok.true)
 
-pub check_pages-requires : goal.check_pages-requires
-check_pages-requires c =
-    (omega (arith, (right_size c.args.segment.now c.args.inventory.now (right (goal.at.check_pages-requires c).Else-not-sizes_ok)).few), refl, blank_words 509)
-
-pub same_inventory-same-requires : goal.same_inventory-same-requires
-same_inventory-same-requires c = (
-  one_page c.args.segment.now c.args.inventory.now (right (goal.at.same_inventory-same-requires c).Else-not-sizes_ok),
-  ap length
-      c.count_pages-count.ensures.1 ∙ length_true c.args.segment.now c.args.inventory.now,
-)
+pub check_pages-sound-requires : goal.check_pages-sound-requires
+check_pages-sound-requires c =
+    omega (arith, (right_size c.args.segment.now c.args.inventory.now (right (goal.at.check_pages-sound-requires c).Else-not-sizes_ok)).few)
 
 pub overflow_add-count : goal.overflow_add-count
 overflow_add-count c =
@@ -62,7 +62,7 @@ returns-then-entries-count c =
 
 pub write_pages-at-requires : goal.write_pages-at-requires
 write_pages-at-requires c = (
-  c.check_pages.ensures.known,
+  c.check_pages-sound.ensures.known,
   (right_size c.args.segment.now c.args.inventory.now (right (goal.at.write_pages-at-requires c).Else-not-sizes_ok)).whole,
   pages_room c.args.segment.now c.args.inventory.now c.args.entries.now (right (goal.at.write_pages-at-requires c).Else-not-sizes_ok) c.if-not-same.count
       (is_count (goal.at.write_pages-at-requires c).Joined-not-same) c.if-entries-count.false,
@@ -78,22 +78,18 @@ tell-requires c =
       c.write_pages-at.auto.entries,
     )
 
-pub copy_in-requires : goal.copy_in-requires
-copy_in-requires c =
-    omega (
-      arith,
-      ap length (passed (goal.at.copy_in-requires c).After-same_inventory-same).is,
-      length_true c.args.segment.now c.args.inventory.now,
-      one_page c.args.segment.now c.args.inventory.now (right (goal.at.copy_in-requires c).Else-not-sizes_ok),
-    )
+pub copy_from_slice-requires : goal.copy_from_slice-requires
+copy_from_slice-requires c =
+    one_page c.args.segment.now c.args.inventory.now (right (goal.at.copy_from_slice-requires c).Else-not-sizes_ok)
+    ∙ sym (ap length (passed (goal.at.copy_from_slice-requires c).After-same_inventory-same).is ∙ length_true c.args.segment.now c.args.inventory.now)
 
 pub returns-then-not-same-2 : goal.returns-then-not-same-2
 returns-then-not-same-2 c =
     let b = passed_same (passed (goal.at.returns-then-not-same-2 c).After-same_inventory-same) false c.if-not-same-2.true in
     all_done c.args.segment.now c.args.inventory.now c.args.entries.now (right (goal.at.returns-then-not-same-2 c).Else-not-sizes_ok) c.if-not-same.count
     (is_count (goal.at.returns-then-not-same-2 c).Joined-not-same) c.if-entries-count.false b c.write_pages-at.result c.write_pages-at.ensures.2
-    c.write_pages-at.new.segment c.copy_in.new.page c.count_pages-count.new.inventory c.write_pages-at.new.entries c.tell.new.entries c.write_pages-at.ensures.0
-    c.write_pages-at.ensures.1 c.tell.ensures (passed (goal.at.returns-then-not-same-2 c).After-same_inventory-same).is c.copy_in.ensures
+    c.write_pages-at.new.segment c.copy_from_slice.new.self c.count_pages-count.new.inventory c.write_pages-at.new.entries c.tell.new.entries c.write_pages-at.ensures.0
+    c.write_pages-at.ensures.1 c.tell.ensures (passed (goal.at.returns-then-not-same-2 c).After-same_inventory-same).is c.copy_from_slice.ensures.after
 
 pub returns-else-not-same-2 : goal.returns-else-not-same-2
 returns-else-not-same-2 c =

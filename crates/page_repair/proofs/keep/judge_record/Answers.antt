@@ -2,13 +2,14 @@ use Prim.Native.Nat.{◌<◌}
 use mathlib.Core.Path.{◌≡◌, sym, ap, ◌∙◌}
 use mathlib.Core.Bool.{Bool, true, false}
 use native.Mathlib.Omega.{arith}
+use borrow.Author.Rules.{rules}
 use Rattle.store.specs.Slots.{is_record}
 use Rattle.store.specs.Page.{view}
 use Rattle.store.specs.Repair.{lies_in, lies}
 use Rattle.page_check.specs.Fit.{Runs}
 use Rattle.page_check.proofs.SlotLaws.{not_both}
 use Rattle.page_repair.proofs.KeepLaws.{runs_at, no_record, lies_ill, overlaps, claims, no_bytes}
-use Rattle.page_repair.proofs.keep.judge_record.Goals.{After-is_record, After-len_of-l, After-lies_in, Start}
+use Rattle.page_repair.proofs.keep.judge_record.Goals.{After-is_record, After-len-l, After-lies_in, Start}
 use Rattle.page_repair.proofs.keep.judge_record.Goals as goal
 
 -- ---- the slot is read and asked whether it holds a record, how it lies, and where
@@ -26,19 +27,19 @@ lie c b e =
     let at = c.get_slot-s.ensures.0 in
     sym (λ i. lies_in (c.requires.counted_page.0.counted i) (at i)) ∙ sym c.lies_in.ensures ∙ e
 
-lies_well_lem : (c : After-len_of-l) → lies (view c.args.page.now) c.args.k ≡ true
-lies_well_lem c = lie (goal.at.After-len_of-l c).After-lies_in true c.if-not-lies_in.false
+lies_well_lem : (c : After-len-l) → lies (view c.args.page.now) c.args.k ≡ true
+lies_well_lem c = lie (goal.at.After-len-l c).After-lies_in true c.if-not-lies_in.false
 
-runs : (c : After-len_of-l) → Runs ((view c.args.page.now).at c.args.k) 16384 c.off_of-o.result c.len_of-l.result
+runs : (c : After-len-l) → Runs ((view c.args.page.now).at c.args.k) 16384 c.offset-o.result c.len-l.result
 runs c =
     let v = view c.args.page.now in
-    runs_at v.slot_count c.off_of-o.result c.len_of-l.result c.get_slot-s.result (v.at c.args.k) c.get_slot-s.ensures.0
-    c.off_of-o.ensures c.len_of-l.ensures (lies_well_lem c)
+    runs_at v.slot_count c.offset-o.result c.len-l.result c.get_slot-s.result (v.at c.args.k) c.get_slot-s.ensures.0
+    c.offset-o.ensures c.len-l.ensures (lies_well_lem c)
 
 -- ---- the goals
 pub get_slot-s-requires : goal.get_slot-s-requires
 get_slot-s-requires c =
-    (c.requires.counted_page.0.whole, below (goal.at.get_slot-s-requires c).Start, omega (arith, c.requires.counted_page.0.few))
+    (below (goal.at.get_slot-s-requires c).Start, omega (arith, c.requires.counted_page.0.few))
 
 pub returns-then-not-is_record : goal.returns-then-not-is_record
 returns-then-not-is_record c =
@@ -56,32 +57,34 @@ returns-then-not-lies_in c =
 pub returns-then-l-eq0 : goal.returns-then-l-eq0
 returns-then-l-eq0 c =
     let at = goal.at.returns-then-l-eq0 c in
-    no_bytes _ _ _ (below at.Start) c.requires.kept_marks (record_at_lem at.After-lies_in) _ _ (runs at.After-len_of-l)
-    (lies_well_lem at.After-len_of-l) c.if-l-eq0.true
+    no_bytes _ _ _ (below at.Start) c.requires.kept_marks (record_at_lem at.After-lies_in) _ _ (runs at.After-len-l)
+    (lies_well_lem at.After-len-l) c.if-l-eq0.true
 
 pub overflow_add-o : goal.overflow_add-o
-overflow_add-o c = omega (arith, (runs (goal.at.overflow_add-o c).After-len_of-l).down)
+overflow_add-o c = omega (arith, (runs (goal.at.overflow_add-o c).After-len-l).down)
 
 pub is_clear-requires : goal.is_clear-requires
 is_clear-requires c =
-    (c.requires.kept_marks.words, omega (arith, c.if-l-eq0.false), (runs (goal.at.is_clear-requires c).After-len_of-l).down)
+    (omega (arith, c.if-l-eq0.false), (runs (goal.at.is_clear-requires c).After-len-l).down)
 
 pub returns-then-not-is_clear : goal.returns-then-not-is_clear
 returns-then-not-is_clear c =
     let at = goal.at.returns-then-not-is_clear c in
-    overlaps _ _ _ (below at.Start) c.requires.kept_marks (record_at_lem at.After-lies_in) _ _ (runs at.After-len_of-l)
+    overlaps _ _ _ (below at.Start) c.requires.kept_marks (record_at_lem at.After-lies_in) _ _ (runs at.After-len-l)
     (λ e. not_both (c.is_clear.ensures.back e) c.if-not-is_clear.true)
 
 pub overflow_add-o-2 : goal.overflow_add-o-2
-overflow_add-o-2 c = omega (arith, (runs (goal.at.overflow_add-o-2 c).After-len_of-l).down)
+overflow_add-o-2 c = omega (arith, (runs (goal.at.overflow_add-o-2 c).After-len-l).down)
 
 pub claim-requires : goal.claim-requires
 claim-requires c =
-    (c.requires.kept_marks.words, omega (arith, c.if-l-eq0.false), (runs (goal.at.claim-requires c).After-len_of-l).down)
+    let down = (runs (goal.at.claim-requires c).After-len-l).down in
+    let some = c.if-l-eq0.false in
+    search (rules, down, some)
 
 pub returns : goal.returns
 returns c =
     let at = goal.at.returns c in
     let clear = c.is_clear.ensures.yes c.if-not-is_clear.false in
-    claims _ _ _ (below at.Start) c.requires.kept_marks (record_at_lem at.After-lies_in) _ _ (runs at.After-len_of-l)
-    (lies_well_lem at.After-len_of-l) _ (omega (arith, c.requires.kept_marks.words)) (c.claim.ensures.claimed (c.claim.ensures.tells.back clear))
+    claims _ _ _ (below at.Start) c.requires.kept_marks (record_at_lem at.After-lies_in) _ _ (runs at.After-len-l)
+    (lies_well_lem at.After-len-l) _ (c.claim.ensures.claimed (c.claim.ensures.tells.back clear))

@@ -55,27 +55,3 @@ returns c =
     let mask = mask_and at.m c.bits_to.result v.b 64 b v.mask c.bits_to.ensures (omega arith) in
     let s = subst (λ (x : ℕ). Clear a.used.now a.o (64 * x + v.b)) e v.clear in
     clear_word a.used.now a.o last v.b b _ mask (omega arith) (omega arith) a.end (omega arith) (omega arith) (omega arith) s
-
-pub overflow_sub-last : goal.overflow_sub-last
-overflow_sub-last c = omega arith
-
-pub offset_bounds-used-i : goal.offset_bounds-used-i
-offset_bounds-used-i c = omega arith
-
-pub bounds-used-i : goal.bounds-used-i
-bounds-used-i c = omega arith
-
-pub overflow_add-i : goal.overflow_add-i
-overflow_add-i c = omega arith
-
-pub loop-i-smaller : goal.loop-i-smaller
-loop-i-smaller c = omega arith
-
-pub offset_bounds-used-last : goal.offset_bounds-used-last
-offset_bounds-used-last c = omega arith
-
-pub bounds-used-last : goal.bounds-used-last
-bounds-used-last c = omega arith
-
-pub overflow_sub-end : goal.overflow_sub-end
-overflow_sub-end c = omega arith

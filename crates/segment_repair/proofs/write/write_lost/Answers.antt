@@ -1,6 +1,12 @@
 use lib.ListN.{length}
-use Rattle.segment_repair.proofs.WriteLaws.{room_lost, written_lost}
+use Rattle.segment_repair.proofs.WriteLaws.{Lends, room_lost, written_lost}
+use Rattle.segment_repair.proofs.write.write_lost.Goals.{After-unwrap}
 use Rattle.segment_repair.proofs.write.write_lost.Goals as goal
+
+lends : (c : After-unwrap) → Lends c.args.segment.now c.args.p c.split_at_mut-rest.result.0.now c.split_at_mut-rest.result.1.now c.unwrap.result.now
+lends c =
+    let s = c.split_at_mut-rest.ensures in
+    record { before = s.front; behind = s.back; first = (rw c.unwrap.ensures at c.first_chunk_mut.ensures.cases).same }
 
 pub tell-requires : goal.tell-requires
 tell-requires c =
@@ -10,5 +16,5 @@ tell-requires c =
 pub returns : goal.returns
 returns c =
     let a = c.args in
-    written_lost a.segment.now a.p c.requires.within.0 c.requires.within.1 a.entries.now c.tell.new.entries c.set_header.new.page a.at
-    c.set_header.ensures c.tell.ensures
+    written_lost a.segment.now a.p c.requires.within.0 c.requires.within.1 (lends (goal.at.returns c).After-unwrap) a.entries.now c.tell.new.entries
+    c.set_header.new.page a.at c.set_header.ensures c.tell.ensures

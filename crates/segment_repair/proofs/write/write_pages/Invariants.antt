@@ -1,4 +1,3 @@
-use Prim.Native.Nat.{◌-◌, ◌/◌, ◌≤◌}
 use mathlib.Core.Path.{◌≡◌}
 use lib.ListN.{length}
 use Rattle.store.specs.Numbers.{put}
@@ -7,10 +6,6 @@ use Rattle.segment_repair.proofs.write.write_pages.Given as goal
 
 abbrev pub invariant-loop-p : goal.invariant-loop-p
 invariant-loop-p l =
-    (l.p ≤ l.n) × (l.n ≡ length l.initial.segment / 16384) × (l.segment ≡ seg_bytes (standing l.initial.segment) l.p l.initial.segment)
+    (l.segment ≡ seg_bytes (standing l.initial.segment) l.p l.initial.segment)
     × (l.entries ≡ put l.initial.entries 0 (words (seg_entries (standing l.initial.segment) l.p)))
     × (l.at ≡ length (seg_entries (standing l.initial.segment) l.p))
-    × (length l.entries ≡ length l.initial.entries)
-
-abbrev pub decreases-loop-p : goal.decreases-loop-p
-decreases-loop-p l = l.n - l.p
