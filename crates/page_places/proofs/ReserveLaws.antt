@@ -17,9 +17,9 @@ use Rattle.store.proofs.Laws.Views.{upd_same}
 use Rattle.store.proofs.Laws.Compactify.{Kept}
 use Rattle.store.specs.declared.Slot.{Slot}
 use Rattle.store.specs.declared.Slot.TheVariants.{Ordinary}
-use Rattle.store.specs.declared.Place.TheVariants.{At, NoRoom}
 use Rattle.layout.specs.Run.{head_of}
-use Rattle.page_places.specs.Words.{unfilled, page_bare}
+use Rattle.page_places.specs.Words.{unfilled, page_bare, place_at}
+use Rattle.std.specs.Prelude.{None}
 use Rattle.page_places.proofs.BareLaws.{run_bare}
 
 -- ---- the next free slot
@@ -61,7 +61,7 @@ module _ (v : View) (size c f n m : ℕ) (ec : c ≡ v.slot_count) (ef : f ≡ v
   cost_is : cost v size ≡ size + m
   cost_is = rw (em, ec, ef) (new_cost (is_new v) size)
 
-  pub reserve_none : (p : List ℕ) → n < size + m → (p ≡ page_bare (allocate v size) p) × (given_place NoRoom ≡ allotted (allocate v size))
+  pub reserve_none : (p : List ℕ) → n < size + m → (p ≡ page_bare (allocate v size) p) × (given_place None ≡ allotted (allocate v size))
   unfolding allocate
   reserve_none p h =
       let t : ltb v.free_space (cost v size) ≡ true = lt-ltb v.free_space (cost v size) (omega (arith, cost_is)) in
@@ -88,7 +88,7 @@ module _ (v : View) (size c f n m : ℕ) (ec : c ≡ v.slot_count) (ef : f ≡ v
       → q₁ ≡ run (make_room v (size + m)).edits p → r ≡ (make_room v (size + m)).after.data_start
       → q₂ ≡ put q₁ 0 (head_of (c + m / 8) next (r - size) (n - (size + m)))
       → q₃ ≡ put q₂ (12 + 8 * f) (slot_bytes (Ordinary (r - size) size))
-      → (q₃ ≡ page_bare (allocate v size) p) × (given_place (At f (r - size)) ≡ allotted (allocate v size))
+      → (q₃ ≡ page_bare (allocate v size) p) × (given_place (place_at f (r - size)) ≡ allotted (allocate v size))
   unfolding allocate
   reserve_done s r next p q₁ q₂ q₃ h ex e₁ er e₂ e₃ =
       let t : ltb v.free_space (cost v size) ≡ false = le-ltb v.free_space (cost v size) (omega (arith, cost_is)) in
@@ -96,4 +96,4 @@ module _ (v : View) (size c f n m : ℕ) (ec : c ≡ v.slot_count) (ef : f ≡ v
       let k : Kept v w = roomy_kept v (size + m) s in
       let j : off (upd w.at w.first_free (Ordinary (w.data_start - size) size) v.first_free) ≡ r - size =
       rw k.first_free (ap off (upd_same w.at v.first_free (Ordinary (w.data_start - size) size)) ∙ rw er) in
-      rw (t, cost_is) (entry_done w k (make_room v (size + m)).edits r next p q₁ q₂ q₃ er ex e₁ e₂ e₃, λ i. given_place (At (ef i) (sym j i)))
+      rw (t, cost_is) (entry_done w k (make_room v (size + m)).edits r next p q₁ q₂ q₃ er ex e₁ e₂ e₃, λ i. given_place (place_at (ef i) (sym j i)))

@@ -1,9 +1,8 @@
 -- Words for the place of a new record, before its bytes are written.
-use Rattle.std.specs.Prelude.{List, [], ◌∷◌, ℕ, ◌+◌, ◌*◌, ◌≤◌}
+use Rattle.std.specs.Prelude.{List, [], ◌∷◌, ℕ, ◌+◌, ◌*◌, ◌≤◌, Option, Some, None}
 use Rattle.store.specs.Slots.{off}
 use Rattle.store.specs.PageSteps.{Edit, head, move, commit, fill, run, with_slot, Alloc, no_room, got}
 use Rattle.store.specs.declared.Place.{Place}
-use Rattle.store.specs.declared.Place.TheVariants.{At, NoRoom}
 
 -- what is left to do once room is made for a record: the plan's last edit but for its bytes
 abbrev pub bare : Edit → Edit
@@ -22,15 +21,18 @@ abbrev pub page_bare : Alloc → List ℕ → List ℕ
 page_bare no_room p = p
 page_bare (got k a) p = run (unfilled a.edits) p
 
-abbrev pub place_of : Alloc → Place
-place_of no_room = NoRoom
-place_of (got k a) = At k (off (a.after.at k))
+abbrev pub place_at : ℕ → ℕ → Option Place
+place_at k o = Some (record { slot = k; offset = o })
+
+abbrev pub place_of : Alloc → Option Place
+place_of no_room = None
+place_of (got k a) = place_at k (off (a.after.at k))
 
 -- the record lies in the page, and past its entry
-abbrev pub Inside : Place → ℕ → Type 0
-Inside (At k o) n = o + n ≤ 16384
-Inside NoRoom n = Unit {0}
+abbrev pub Inside : Option Place → ℕ → Type 0
+Inside (Some x) n = x.offset + n ≤ 16384
+Inside None n = Unit {0}
 
-abbrev pub PastEntry : Place → Type 0
-PastEntry (At k o) = 20 + 8 * k ≤ o
-PastEntry NoRoom = Unit {0}
+abbrev pub PastEntry : Option Place → Type 0
+PastEntry (Some x) = 20 + 8 * x.slot ≤ x.offset
+PastEntry None = Unit {0}

@@ -6,7 +6,7 @@ ghost use Rattle.store.specs.PageSteps.{next_free, allocate};
 ghost use Rattle.store.specs.Laws.Lent.{UsedPage};
 ghost use Rattle.page_places.specs.Words.{page_bare, Inside, PastEntry};
 
-use store::{Place, Slot, Page};
+use store::{Page, Place, Slot};
 
 // The lowest free slot from k on, or the count.
 fn next_free(page: &Page, k: usize, c: usize) -> usize
@@ -36,7 +36,7 @@ fn added_for(f: usize, c: usize) -> usize
 }
 
 // Allocate but for the record's bytes: room is made, and the header and the slot's entry are written.
-pub fn reserve(page: &mut Page, size: usize) -> Place
+pub fn reserve(page: &mut Page, size: usize) -> Option<Place>
     requires used_page { UsedPage page.old }
     requires size_bound { size ≤ 16384 }
     ensures { (page.new ≡ page_bare (allocate (view page.old) size) page.old)
@@ -47,7 +47,7 @@ pub fn reserve(page: &mut Page, size: usize) -> Place
     let n = layout::header::get_free_space(page);
     let more = added_for(f, c);
     if n < size + more {
-        return Place::NoRoom;
+        return None;
     }
     let next = next_free(page, f + 1, c);
     let d = page_compactify::room::make_room(page, size + more) - size;
@@ -60,5 +60,5 @@ pub fn reserve(page: &mut Page, size: usize) -> Place
             length: size,
         },
     );
-    Place::At { slot: f, offset: d }
+    Some(Place { slot: f, offset: d })
 }

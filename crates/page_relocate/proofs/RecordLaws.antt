@@ -25,7 +25,7 @@ use Rattle.store.proofs.Laws.Relocate.{Answered, relocate_answer}
 use Rattle.store.proofs.Laws.Fit.{length_fit, fit_cut, fit_filled, fit_none, fit_add}
 use Rattle.store.specs.declared.Slot.{Slot}
 use Rattle.store.specs.declared.Slot.TheVariants.{Ordinary, Free, Redirect, Target}
-use Rattle.store.specs.declared.Place.TheVariants.{At}
+use Rattle.page_places.specs.Words.{place_at}
 use Rattle.layout.specs.Run.{head_of}
 use Rattle.store.proofs.Laws.Writes.{write_append}
 use Rattle.page_compactify.proofs.PackLaws.{shown_bytes}
@@ -34,7 +34,10 @@ use Rattle.page_relocate.specs.Words.{shrink_plan, grow_plan, alloc_of, page_mov
 use Rattle.page_places.proofs.PlaceLaws.{given_is}
 use Rattle.page_places.proofs.BareLaws.{commit_writes, run_bare}
 use Rattle.slotted_page.proofs.FillLaws.{Ends, Ended, ends_by, commit_ends, written_done, fill_done}
-use Rattle.page_relocate.proofs.MovedLaws.{moved_done, refilled_done}
+use Rattle.page_relocate.proofs.MovedLaws.{moved_done, refused_done, refilled_done}
+use Rattle.std.specs.Prelude.{Option, Some, None}
+use Rattle.std.specs.Option.{is_some}
+use Rattle.store.specs.declared.Place.{Place}
 
 length_head : (c f d n : ℕ) → length (head_of c f d n) ≡ 12
 unfolding head_of
@@ -201,10 +204,10 @@ module _ (p : List ℕ) (k n : ℕ) (used : UsedSlot p k) where
   abbrev R : Relocated
   R = relocate (view p) k n
 
-  module _ (j d : ℕ) (q₁ q₂ : List ℕ) (e : given_place (At j d) ≡ allotted (alloc_of k (relocate (view p) k n)))
+  module _ (j d : ℕ) (q₁ q₂ : List ℕ) (e : given_place (place_at j d) ≡ allotted (alloc_of k (relocate (view p) k n)))
       (e₁ : q₁ ≡ page_bare (alloc_of k (relocate (view p) k n)) p) where
-    there : At j d ≡ place_of (alloc_of k (relocate (view p) k n))
-    there = given_is (At j d) (alloc_of k R) e
+    there : place_at j d ≡ place_of (alloc_of k (relocate (view p) k n))
+    there = given_is (place_at j d) (alloc_of k R) e
 
     pub bytes_done_lem : (bs : List ℕ) → length bs ≡ n → q₂ ≡ put q₁ d bs
         → (q₂ ≡ page_moved (refilled (relocate (view p) k n) k bs) p) × (true ≡ was_moved (relocate (view p) k n))
@@ -214,9 +217,6 @@ module _ (p : List ℕ) (k n : ℕ) (used : UsedSlot p k) where
     pub old_done : q₂ ≡ put q₁ d (fit n ((view p).bytes k)) → (q₂ ≡ page_moved (relocate (view p) k n) p) × (true ≡ was_moved (relocate (view p) k n))
     old_done e₂ = moved_done k p q₂ R j d there (written_done j d (fit n ((view p).bytes k)) p q₁ q₂ (alloc_of k R) relocate_ended there e₁ e₂)
 
-    pub settle_done : n ≤ len ((view p).at k) → (q₁ ≡ page_moved (relocate (view p) k n) p) × (true ≡ was_moved (relocate (view p) k n))
-    settle_done h = moved_done k p q₁ R j d there (e₁ ∙ stands h)
-
     -- the old bytes moved from o, and zeros behind them
     pub grow_done : (o l : ℕ) (q₃ : List ℕ) → o ≡ off ((view p).at k) → l ≡ len ((view p).at k) → l ≤ n → n ≤ gap (view p)
         → q₂ ≡ put q₁ d (cut q₁ o l) → q₃ ≡ put q₂ (d + l) (zeros (n - l)) → q₃ ≡ put q₁ d (fit n ((view p).bytes k))
@@ -225,6 +225,13 @@ module _ (p : List ℕ) (k n : ℕ) (used : UsedSlot p k) where
         let b : length bs ≡ l = used.sound.lens k ∙ sym el in
         let a : cut q₁ o l ≡ bs = rw (e₁, eo, el) (stays g (omega arith)) in
         e₃ ∙ rw (e₂, a, fit_filled n bs (omega arith), ← b) (sym (write_append d bs (zeros (n - length bs)) q₁))
+
+  -- a size that is not larger: moved or refused, there is nothing more to write
+  pub settle_done : (r : Option Place) (q : List ℕ) → given_place r ≡ allotted (alloc_of k (relocate (view p) k n))
+      → q ≡ page_bare (alloc_of k (relocate (view p) k n)) p → n ≤ len ((view p).at k)
+      → (q ≡ page_moved (relocate (view p) k n) p) × (is_some r ≡ was_moved (relocate (view p) k n))
+  settle_done (Some x) q e e₁ h = moved_done k p q R x.slot x.offset (there x.slot x.offset q q e e₁) (e₁ ∙ stands h)
+  settle_done None q e e₁ h = let y = refused_done p q k R e e₁ in (y.0, y.1)
 
   -- the same with the bytes written again: the plan's own
   same_bytes_lem : (r : Relocated) (own : List ℕ) → Ended p own (alloc_of k r) → page_moved r p ≡ page_moved (refilled r k own) p

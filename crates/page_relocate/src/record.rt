@@ -6,7 +6,7 @@ ghost use Rattle.store.specs.PageSteps.{relocate};
 ghost use Rattle.store.specs.Laws.Lent.{UsedSlot};
 ghost use Rattle.page_relocate.specs.Words.{page_moved, was_moved, refilled};
 
-use store::{Place, Page};
+use store::{Page, Place};
 
 // Slot k's record becomes these bytes, cut off or filled up with zeros to `size`; from a redirect too.
 pub fn rewrite(page: &mut Page, k: usize, bytes: &[u8], size: usize) -> bool
@@ -15,14 +15,11 @@ pub fn rewrite(page: &mut Page, k: usize, bytes: &[u8], size: usize) -> bool
         page.old)
         × (result ≡ was_moved (relocate (view page.old) k size)) }
 {
-    let place = crate::relocation::move_slot(page, k, size);
-    match place {
-        Place::At { slot: _, offset } => {
-            layout_runs::fit_in(page, offset, bytes, size);
-            true
-        }
-        Place::NoRoom => false,
-    }
+    let Some(Place { offset, .. }) = crate::relocation::move_slot(page, k, size) else {
+        return false;
+    };
+    layout_runs::fit_in(page, offset, bytes, size);
+    true
 }
 
 // Slot k's record keeps its bytes.
@@ -44,15 +41,12 @@ pub fn rewrite_target(page: &mut Page, k: usize, id: usize, bytes: &[u8]) -> boo
         page.old)
         × (result ≡ was_moved (relocate (view page.old) k (length bytes.now + 8))) }
 {
-    let place = crate::relocation::move_slot(page, k, bytes.len() + 8);
-    match place {
-        Place::At { slot: _, offset } => {
-            layout::put_u64(page, offset, id);
-            layout_runs::copy_in(page, offset + 8, bytes);
-            true
-        }
-        Place::NoRoom => false,
-    }
+    let Some(Place { offset, .. }) = crate::relocation::move_slot(page, k, bytes.len() + 8) else {
+        return false;
+    };
+    layout::put_u64(page, offset, id);
+    layout_runs::copy_in(page, offset + 8, bytes);
+    true
 }
 
 // A target's record keeps its bytes behind the id of its root.

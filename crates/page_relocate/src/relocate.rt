@@ -6,7 +6,7 @@ ghost use Rattle.store.specs.PageSteps.{gap, relocate};
 ghost use Rattle.store.specs.Laws.Lent.{UsedSlot};
 ghost use Rattle.page_relocate.specs.Words.{page_moved, was_moved};
 
-use store::{PAGE_SIZE, Place, Slot, Page};
+use store::{PAGE_SIZE, Page, Place, Slot};
 
 // Relocate to a larger size, where the page is compactified: "the growing record's old bytes are saved by value".
 fn grow_packed(page: &mut Page, k: usize, s: Slot, size: usize) -> bool
@@ -18,14 +18,11 @@ fn grow_packed(page: &mut Page, k: usize, s: Slot, size: usize) -> bool
     let n = s.len();
     let mut saved = [0u8; PAGE_SIZE];
     layout_runs::save(page, s.offset(), n, &mut saved);
-    let place = crate::relocation::move_slot(page, k, size);
-    match place {
-        Place::At { slot: _, offset } => {
-            layout_runs::fit_in(page, offset, &saved[..n], size);
-            true
-        }
-        Place::NoRoom => false,
-    }
+    let Some(Place { offset, .. }) = crate::relocation::move_slot(page, k, size) else {
+        return false;
+    };
+    layout_runs::fit_in(page, offset, &saved[..n], size);
+    true
 }
 
 // Relocate to a larger size, where the gap holds it: the old bytes stand where they stood.
@@ -36,15 +33,12 @@ fn grow(page: &mut Page, k: usize, s: Slot, size: usize) -> bool
         × (result ≡ was_moved (relocate (view page.old) k size)) }
 {
     let n = s.len();
-    let place = crate::relocation::move_slot(page, k, size);
-    match place {
-        Place::At { slot: _, offset } => {
-            layout_runs::move_within(page, s.offset(), n, offset);
-            layout_runs::zero_fill(page, offset + n, size - n);
-            true
-        }
-        Place::NoRoom => false,
-    }
+    let Some(Place { offset, .. }) = crate::relocation::move_slot(page, k, size) else {
+        return false;
+    };
+    layout_runs::move_within(page, s.offset(), n, offset);
+    layout_runs::zero_fill(page, offset + n, size - n);
+    true
 }
 
 // Relocate to a size that is not larger: the old bytes stay where they stand.
@@ -54,11 +48,7 @@ fn settle(page: &mut Page, k: usize, size: usize) -> bool
     ensures { (page.new ≡ page_moved (relocate (view page.old) k size) page.old)
         × (result ≡ was_moved (relocate (view page.old) k size)) }
 {
-    let place = crate::relocation::move_slot(page, k, size);
-    match place {
-        Place::At { slot: _, offset: _ } => true,
-        Place::NoRoom => false,
-    }
+    crate::relocation::move_slot(page, k, size).is_some()
 }
 
 // "Larger: refused if growth exceeds free space": before any byte is saved.

@@ -11,7 +11,7 @@ ghost use Rattle.layout.specs.Run.{head_of};
 ghost use Rattle.page_places.specs.Words.{unfilled, page_bare, Inside};
 ghost use Rattle.page_relocate.specs.Words.{under_page, shrink_plan, home_of, alloc_of};
 
-use store::{Place, Slot, Page};
+use store::{Page, Place, Slot};
 
 // The record at another place, of the same kind.
 fn placed_slot(s: Slot, d: usize, n: usize) -> Slot
@@ -96,7 +96,7 @@ fn park(page: &mut Page, k: usize, len: usize)
 }
 
 // Slot k's record s gets room for `size` bytes; its place.
-fn resize_slot(page: &mut Page, k: usize, s: Slot, size: usize) -> Place
+fn resize_slot(page: &mut Page, k: usize, s: Slot, size: usize) -> Option<Place>
     requires used_slot { UsedSlot page.old k }
     requires s_value { (s ≡ (view page.old).at k) × (is_record s ≡ true) }
     ensures { (page.new ≡ page_bare (alloc_of k (resized (view page.old) k size)) page.old)
@@ -105,48 +105,48 @@ fn resize_slot(page: &mut Page, k: usize, s: Slot, size: usize) -> Place
     let n = s.len();
     let offset = s.offset();
     if size == n {
-        return Place::At { slot: k, offset };
+        return Some(Place { slot: k, offset });
     }
     if size < n {
         shrink(page, k, s, size);
-        return Place::At { slot: k, offset };
+        return Some(Place { slot: k, offset });
     }
     let room = layout::header::get_free_space(page);
     if room < size - n {
-        return Place::NoRoom;
+        return None;
     }
     park(page, k, n);
     let d = put_under(page, k, s, size);
-    Place::At { slot: k, offset: d }
+    Some(Place { slot: k, offset: d })
 }
 
 // Slot k, a redirect, gets a record of `size` bytes; its place.
-fn home_slot(page: &mut Page, k: usize, size: usize) -> Place
+fn home_slot(page: &mut Page, k: usize, size: usize) -> Option<Place>
     requires { UsedSlot page.old k }
     ensures { (page.new ≡ page_bare (alloc_of k (home_of (view page.old) k size)) page.old)
         × (given_place result ≡ allotted (alloc_of k (home_of (view page.old) k size))) × Inside result size }
 {
     let room = layout::header::get_free_space(page);
     if room < size {
-        return Place::NoRoom;
+        return None;
     }
     let home = Slot::Ordinary {
         offset: 0,
         length: 0,
     };
     let d = put_under(page, k, home, size);
-    Place::At { slot: k, offset: d }
+    Some(Place { slot: k, offset: d })
 }
 
 // Relocate but for the record's bytes; the record's place.
-pub fn move_slot(page: &mut Page, k: usize, size: usize) -> Place
+pub fn move_slot(page: &mut Page, k: usize, size: usize) -> Option<Place>
     requires { UsedSlot page.old k }
     ensures { (page.new ≡ page_bare (alloc_of k (relocate (view page.old) k size)) page.old)
         × (given_place result ≡ allotted (alloc_of k (relocate (view page.old) k size))) × Inside result size }
 {
     let s = layout::slots::get_slot(page, k);
     if s.is_free() {
-        return Place::NoRoom;
+        return None;
     }
     if s.is_record() {
         return resize_slot(page, k, s, size);

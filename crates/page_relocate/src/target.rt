@@ -3,7 +3,7 @@ ghost use Rattle.std.specs.Prelude.{◌≡◌, ◌++◌, ◌+◌, ◌*◌, ◌�
 ghost use Rattle.store.specs.Numbers.{put, to_be, fit};
 ghost use Rattle.store.specs.Slots.{slot_bytes};
 
-use store::{Slot, Page};
+use store::{Page, Slot};
 
 // "A new target of size + 8" at the place that `allocate` answered: its entry is a target's; then come the id of its root and the
 // bytes, cut off or filled up with zeros to `size`.

@@ -7,15 +7,15 @@ use native.Mathlib.Omega.{arith}
 use native.Mathlib.Decide.{ℕ_discrete, dec_lt}
 use lib.ListN.{length, get_or, set, length-set, length-replicate, get_or-replicate, get_or-eq_default}
 use lib.Seq.{get_or-set_same, get_or-set_other}
-use Rattle.store.specs.Numbers.{zeros, fit}
+use Rattle.store.specs.Numbers.{zeros}
 use Rattle.store.specs.Page.{sound}
 use Rattle.store.specs.PageSteps.{Alloc, no_room, got, allocate}
 use Rattle.store.specs.Segment.{SegView, seg_view, OnPage, Out, Result, result, carried, taken, inserted}
 use Rattle.store.proofs.Laws.Plans.{length_carried}
 use Rattle.store.proofs.Laws.Segments.{AllExact, carried_seen, settled_sound}
 use Rattle.store.specs.Laws.Lent.{SoundOn}
-use Rattle.store.specs.declared.Named.TheVariants.{At}
-use Rattle.segment_insert.specs.Words.{sized_on, KnownSound}
+use Rattle.std.proofs.Common.{Some}
+use Rattle.segment_insert.specs.Words.{named_on, KnownSound}
 use Rattle.segment_insert.proofs.Placed.{took_place}
 
 -- ---- none
@@ -45,21 +45,21 @@ more_known s ks k j p l h = record { long = length-set ks j (p + 1) ∙ k.long; 
 
 -- ---- after a row: its own page is left sound, and the others as they were
 
-module _ (s v bs : List ℕ) (n p : ℕ) (h : SoundOn s p) where
+module _ (s v bs : List ℕ) (p : ℕ) (h : SoundOn s p) where
   abbrev place : Alloc
-  place = allocate ((seg_view s).page p) n
+  place = allocate ((seg_view s).page p) (length bs)
 
   abbrev planned : Alloc → Out
-  planned x = inserted (seg_view s) v (fit n bs) (taken p x)
+  planned x = inserted (seg_view s) v bs (taken p x)
 
-  is_planned : sized_on s v bs n (At p) ≡ result s (planned place)
+  is_planned : named_on s v bs (Some p) ≡ result s (planned place)
   is_planned = rw h.sound refl
 
   exact : (x : Alloc) → place ≡ x → AllExact s (planned x).steps
   exact no_room e = tt
-  exact (got k a) e = ((took_place s v bs n p h k a e _ refl).exact, tt)
+  exact (got k a) e = ((took_place s v bs p h k a e _ refl).exact, tt)
 
-  pub still_known : (t : List ℕ) → t ≡ (sized_on s v bs n (At p)).seg → (ks : List ℕ) → KnownSound s ks → KnownSound t ks
+  pub still_known : (t : List ℕ) → t ≡ (named_on s v bs (Some p)).seg → (ks : List ℕ) → KnownSound s ks → KnownSound t ks
   unfolding result
   still_known t e ks k = record {
     long = k.long;

@@ -13,15 +13,17 @@ use Rattle.store.specs.Numbers.{put}
 use Rattle.store.specs.Segment.{Result, size_ok, inv_ok, insert_step}
 use Rattle.store.specs.ManyRows.{Rows, no_row, and_row, insert_all, rows_of, total, list_ok, placed}
 use Rattle.store.specs.ManyRowsTold.{of_row}
-use Rattle.store.specs.Answers.{answer_no, outcome, told}
+use Rattle.store.specs.Answers.{outcome, told}
+use Rattle.store.specs.Refusals.{number_of}
+use Rattle.store.proofs.Laws.Roots.{refusal_some}
 use Rattle.store.specs.Calls.{insert}
 use Rattle.store.proofs.Laws.Cases.{never}
 use Rattle.store.proofs.Laws.Numbers.{put_set, put_nil}
 use Rattle.store.proofs.Laws.ManyRows.{row_in, row_refused, no_row_lem, insert_own}
 use Rattle.store.proofs.Promises.Refused.{refused_keeps, length_kept, inventory_kept, sizes_kept}
-use Rattle.store.specs.declared.Answer.{Answer}
-use Rattle.store.specs.declared.Answer.TheVariants.{Done, Size, NoPage, Long, Damaged, NoRecord, Forwarded, Full, Stale}
-use Rattle.store.specs.declared.Inserted.TheVariants as many
+use Rattle.std.proofs.Common.{Ok, Err}
+use Rattle.store.specs.declared.Refusal.{Refusal}
+use Rattle.store.specs.declared.ListRefusal.TheVariants as many
 use Rattle.segment_insert.specs.Words.{KnownSound}
 
 -- ---- the lengths from number k on
@@ -40,19 +42,6 @@ own_above : (a : ℕ) → of_row a ≡ true → a ≢ 0 → 1 < a
 own_above zero e n = absurd (n refl)
 own_above (suc zero) e n = never e refl
 own_above (suc (suc a)) e n = omega arith
-
--- ---- an answer that is not Done
-
-pub not_done : (r : Answer) → ((i : ℕ) → r ≡ Done i → ⊥) → answer_no r ≢ 0
-not_done (Done i) h e = h i refl
-not_done Size h e = omega (arith, e)
-not_done NoPage h e = omega (arith, e)
-not_done Long h e = omega (arith, e)
-not_done Damaged h e = omega (arith, e)
-not_done NoRecord h e = omega (arith, e)
-not_done Forwarded h e = omega (arith, e)
-not_done Full h e = omega (arith, e)
-not_done Stale h e = omega (arith, e)
 
 -- ---- one row of the fold
 
@@ -108,7 +97,7 @@ module _ (s₀ v₀ bs ls is₀ : List ℕ) where
 
   module _ (s v is ks : List ℕ) (at k : ℕ) (g : RowsLeft s₀ v₀ bs ls is₀ s v is ks at k) where
     -- behind the last
-    pub left_none : length ls ≤ k → told (many.Done k) is s v ≡ placed is₀ (insert_all s₀ v₀ (rows_of bs ls))
+    pub left_none : length ls ≤ k → told (Ok k) is s v ≡ placed is₀ (insert_all s₀ v₀ (rows_of bs ls))
     left_none h =
         sym (place_none k 0 is s v) ∙ ap (placed_from k is) (sym (no_row_lem s v))
         ∙ ap (λ (q : List ℕ). placed_from k is (insert_all s v (rows_of (drop at bs) q))) (sym (drop_of_length-le ls h)) ∙ g.gives
@@ -124,11 +113,11 @@ module _ (s₀ v₀ bs ls is₀ : List ℕ) where
       whole = ap (λ (xs : List (List ℕ)). placed_from k is (insert_all s v xs)) (sym (rows_next bs ls at k h)) ∙ g.gives
 
       -- the row is refused
-      pub left_stop : (a : Answer) → outcome a s' v' ≡ here → answer_no a ≢ 0
-          → (told (many.Stopped k a) is s' v' ≡ placed is₀ (insert_all s₀ v₀ (rows_of bs ls))) × (1 < answer_no a)
-      left_stop a e n =
-          let same : answer_no a ≡ here.answer = λ j. (e j).answer in
-          let q : here.answer ≢ 0 = λ z. n (same ∙ z) in
+      pub left_stop : (a : Refusal) → outcome (Err a) s' v' ≡ here
+          → (told (Err (many.Stopped k a)) is s' v' ≡ placed is₀ (insert_all s₀ v₀ (rows_of bs ls))) × (1 < number_of a)
+      left_stop a e =
+          let same : number_of a ≡ here.answer = λ j. (e j).answer in
+          let q : here.answer ≢ 0 = λ z. refusal_some a (same ∙ z) in
           let kept = refused_keeps (insert (row bs ls at k)) s v q in
           let seg : s' ≡ s = (λ j. (e j).seg) ∙ kept.0 in
           let inv : v' ≡ v = (λ j. (e j).inv) ∙ kept.1 in (
@@ -138,7 +127,7 @@ module _ (s₀ v₀ bs ls is₀ : List ℕ) where
           )
 
       -- it goes in
-      pub left_next : (i : ℕ) → outcome (Done i) s' v' ≡ here → (ks' : List ℕ) → KnownSound s' ks'
+      pub left_next : (i : ℕ) → outcome (Ok i) s' v' ≡ here → (ks' : List ℕ) → KnownSound s' ks'
           → RowsLeft s₀ v₀ bs ls is₀ s' v' (set is k i) ks' (at + get_or ls k 0) (k + 1)
       left_next i e ks' w =
           let c = insert (row bs ls at k) in

@@ -2,8 +2,7 @@
 //
 // A page is not looked at anew for each row. A step leaves a sound page sound and changes no other page, in damaged segments too; so the
 // answers are those of one at a time.
-ghost use Rattle.std.specs.Prelude.{◌≡◌, true, ◌&&◌, ◌++◌, ◌≤◌, length, eqb};
-ghost use Rattle.store.specs.Numbers.{to_be};
+ghost use Rattle.std.specs.Prelude.{◌≡◌, true, ◌&&◌, ◌≤◌, length, eqb};
 ghost use Rattle.store.specs.Page.{sound};
 ghost use Rattle.store.specs.Segment.{seg_view, size_ok, inv_ok, insert_step};
 ghost use Rattle.store.specs.ManyRows.{insert_all, rows_of, total, placed, insert_rows_step};
@@ -11,14 +10,15 @@ ghost use Rattle.store.specs.Answers.{outcome, told, ByRow};
 ghost use Rattle.store.specs.Laws.Lent.{Within};
 ghost use Rattle.segment_insert.specs.Words.{KnownSound};
 
-use store::{Answer, Inserted, LONGEST, Named, PAGE_SIZE};
+use crate::row::{Bytes, Row};
+use store::{LONGEST, ListRefusal, PAGE_SIZE, Refusal};
 
 // How many pages a call remembers. The inventory has 15 entries, so rows of any lengths go to at most 15 pages in turn.
 pub const REMEMBERED: usize = 16;
 
 // Whether page p is sound: it is looked at unless this call has found it sound before. `known` has, at its place, a page's number and 1;
 // 0 is none.
-fn known_sound(segment: &[u8], known: &mut [usize], p: usize) -> bool
+fn known_sound(segment: &[u8], known: &mut [usize; REMEMBERED], p: usize) -> bool
     requires within { Within segment.now p }
     requires known_sound { KnownSound segment.now known.old }
     ensures { (result ≡ sound ((seg_view segment.now).page p)) × KnownSound segment.now known.new }
@@ -34,56 +34,30 @@ fn known_sound(segment: &[u8], known: &mut [usize], p: usize) -> bool
 }
 
 // One row, where the sizes have been tested.
-pub fn insert_row(
+pub fn insert_row<R: Row>(
     segment: &mut [u8],
     inventory: &mut [u8],
-    known: &mut [usize],
-    bytes: &[u8],
-) -> Answer
+    known: &mut [usize; REMEMBERED],
+    row: &R,
+) -> Result<usize, Refusal>
     requires inventory_value { (size_ok segment.old && inv_ok inventory.old) ≡ true }
     requires known_sound { KnownSound segment.old known.old }
     ensures { (outcome result segment.new inventory.new
-        ≡ insert_step segment.old inventory.old bytes.now)
+        ≡ insert_step segment.old inventory.old (R.bytes row.now))
         × KnownSound segment.new known.new }
 {
-    let size = bytes.len();
+    let size = row.len();
     if LONGEST < size {
-        return Answer::Long;
+        return Err(Refusal::Long);
     }
-    let named = free_space_inventory::find_page(inventory, segment.len() / PAGE_SIZE, size + 8);
-    let Named::At { page } = named else {
-        return Answer::Full;
+    let n = segment.len() / PAGE_SIZE;
+    let Some(page) = free_space_inventory::find_page(inventory, n, size + 8) else {
+        return Err(Refusal::Full);
     };
     if !known_sound(segment, known, page) {
-        return Answer::Damaged;
+        return Err(Refusal::Damaged);
     }
-    crate::insert_sound_at(segment, inventory, page, bytes, size)
-}
-
-// One row of a number's eight bytes and these, which is not too long.
-pub fn insert_headed(
-    segment: &mut [u8],
-    inventory: &mut [u8],
-    known: &mut [usize],
-    head: usize,
-    bytes: &[u8],
-) -> Answer
-    requires inventory_value { (size_ok segment.old && inv_ok inventory.old) ≡ true }
-    requires bytes_len_bound { length bytes.now ≤ 16356 }
-    requires known_sound { KnownSound segment.old known.old }
-    ensures { (outcome result segment.new inventory.new
-        ≡ insert_step segment.old inventory.old (to_be 8 head ++ bytes.now))
-        × KnownSound segment.new known.new }
-{
-    let size = 8 + bytes.len();
-    let named = free_space_inventory::find_page(inventory, segment.len() / PAGE_SIZE, size + 8);
-    let Named::At { page } = named else {
-        return Answer::Full;
-    };
-    if !known_sound(segment, known, page) {
-        return Answer::Damaged;
-    }
-    crate::insert_headed_at(segment, inventory, page, head, bytes)
+    crate::insert_sound_at(segment, inventory, page, row)
 }
 
 // "At the first refusal it stops, tells how many rows went in, and those rows stay; id places past them are not written."
@@ -93,7 +67,7 @@ fn insert_rows(
     rows: &[u8],
     lengths: &[u64],
     ids: &mut [u64],
-) -> Inserted
+) -> Result<usize, ListRefusal>
     requires inventory_value { (size_ok segment.old && inv_ok inventory.old) ≡ true }
     requires lengths_value { (total lengths.now ≡ length rows.now) × (length lengths.now ≤ length ids.old) }
     ensures { (told result ids.new segment.new inventory.new
@@ -102,18 +76,18 @@ fn insert_rows(
 {
     let mut known = [0usize; REMEMBERED];
     let mut at = 0;
-    let mut k = 0;
-    while k < lengths.len() {
+    for k in 0..lengths.len() {
         let end = at + lengths[k] as usize;
-        let answer = insert_row(segment, inventory, &mut known, &rows[at..end]);
-        let Answer::Done { id } = answer else {
-            return Inserted::Stopped { rows: k, answer };
+        let row = Bytes {
+            bytes: &rows[at..end],
         };
-        ids[k] = id as u64;
+        match insert_row(segment, inventory, &mut known, &row) {
+            Ok(id) => ids[k] = id as u64,
+            Err(refusal) => return Err(ListRefusal::Stopped { rows: k, refusal }),
+        }
         at = end;
-        k += 1;
     }
-    Inserted::Done { rows: k }
+    Ok(lengths.len())
 }
 
 // Whether the lengths sum to n. Their sum may be any number: what is left of n is counted down.
@@ -121,14 +95,12 @@ fn sum_to(lengths: &[u64], n: usize) -> bool
     ensures { result ≡ eqb (total lengths.now) n }
 {
     let mut left = n;
-    let mut k = 0;
-    while k < lengths.len() {
-        let l = lengths[k] as usize;
+    for l in lengths {
+        let l = *l as usize;
         if left < l {
             return false;
         }
         left -= l;
-        k += 1;
     }
     left == 0
 }
@@ -140,19 +112,19 @@ pub fn insert_records(
     rows: &[u8],
     lengths: &[u64],
     ids: &mut [u64],
-) -> Inserted
+) -> Result<usize, ListRefusal>
     ensures { (told result ids.new segment.new inventory.new
         ≡ insert_rows_step segment.old inventory.old rows.now lengths.now ids.old)
         × ByRow result }
 {
     if !segment_pages::sizes_ok(segment, inventory) {
-        return Inserted::Size;
+        return Err(ListRefusal::Size);
     }
     if ids.len() < lengths.len() {
-        return Inserted::List;
+        return Err(ListRefusal::List);
     }
     if !sum_to(lengths, rows.len()) {
-        return Inserted::List;
+        return Err(ListRefusal::List);
     }
     insert_rows(segment, inventory, rows, lengths, ids)
 }

@@ -4,8 +4,7 @@ use mathlib.Core.Path.{◌≡◌, refl, sym, ap, subst, ◌∙◌}
 use mathlib.Core.Bool.{Bool, true, false}
 use mathlib.Core.List.{List, [], ◌∷◌, ◌++◌}
 use native.Mathlib.Omega.{arith}
-use lib.ListN.{length, length-append}
-use borrow.Rule.Slice.PartMut.{put_mid}
+use lib.ListN.{length, drop, length-append}
 use Rattle.store.specs.Numbers.{put, to_be}
 use Rattle.store.specs.Slots.{off, len, is_free, is_target}
 use Rattle.store.specs.Page.{View, view}
@@ -23,7 +22,7 @@ use Rattle.store.specs.declared.Slot.{Slot}
 use Rattle.store.specs.declared.Slot.TheVariants.{Redirect, Target}
 use Rattle.slotted_page.specs.Words.{target_plan, redirect_plan}
 use Rattle.page_relocate.specs.Words.{page_moved, was_moved, refilled}
-use Rattle.segment_steps.proofs.Lent.{lent_part, lent_step, lent_answer}
+use Rattle.segment_steps.proofs.Lent.{Lends, lent_step, lent_answer}
 use Rattle.segment_steps.proofs.After.{Took, place_made}
 
 -- ---- one page lent on: the slot's record at another size
@@ -33,19 +32,18 @@ pub length_moved : (r : Relocated) (q : List ℕ) → length (page_moved r q) �
 length_moved refused q = refl
 length_moved (moved a) q = length_run a.edits q
 
-module _ (s : List ℕ) (p k : ℕ) (h : TakenOn s p k) where
+module _ {s : List ℕ} {p : ℕ} {front rest page : List ℕ} (l : Lends s p front rest page) (k : ℕ) (h : TakenOn s p k) where
   -- the slot's record at another size n: what is left and answered, where the bytes written are told from the page
   pub lent_moved : (n : ℕ) (bs : View → List ℕ) (out : List ℕ) (r : Bool)
-      → (out ≡ page_moved (refilled (relocate (view (lent_part s p)) k n) k (bs (view (lent_part s p)))) (lent_part s p))
-      × (r ≡ was_moved (relocate (view (lent_part s p)) k n))
-      → (put_mid (p * 16384) ((p + 1) * 16384 - p * 16384) s out
+      → (out ≡ page_moved (refilled (relocate (view page) k n) k (bs (view page))) page) × (r ≡ was_moved (relocate (view page) k n))
+      → (front ++ (out ++ drop 16384 rest)
       ≡ put s (p * 16384) (page_moved (refilled (relocate ((seg_view s).page p) k n) k (bs ((seg_view s).page p))) (page_of s p)))
       × (r ≡ was_moved (relocate ((seg_view s).page p) k n))
   lent_moved n bs out r e =
       let o = page_ok s p k h.whole h.sound h.taken in (
-        lent_step s p h.whole view o.seen (λ (v : View) (q : List ℕ). page_moved (refilled (relocate v k n) k (bs v)) q)
+        lent_step l h.whole view o.seen (λ (v : View) (q : List ℕ). page_moved (refilled (relocate v k n) k (bs v)) q)
             (λ (v : View) (q : List ℕ). length_moved (refilled (relocate v k n) k (bs v)) q) out e.0,
-        lent_answer s p h.whole view o.seen (λ (v : View). was_moved (relocate v k n)) r e.1,
+        lent_answer l h.whole view o.seen (λ (v : View). was_moved (relocate v k n)) r e.1,
       )
 
 -- ---- which way it went, from what it answered

@@ -12,6 +12,8 @@ ghost use Rattle.page_relocate.specs.Words.{was_moved, refilled};
 ghost use Rattle.segment_steps.specs.Words.{seen};
 ghost use Rattle.segment_moves.specs.Words.{relocated_on};
 
+use store::PAGE_SIZE;
+
 // Slot k's record, of page p, becomes these bytes, cut off or filled up with zeros to `size`; from a redirect too. A refusal changes nothing.
 pub fn rewrite_on(segment: &mut [u8], p: usize, k: usize, bytes: &[u8], size: usize) -> bool
     requires { TakenOn segment.old p k }
@@ -19,7 +21,8 @@ pub fn rewrite_on(segment: &mut [u8], p: usize, k: usize, bytes: &[u8], size: us
         ≡ relocated_on segment.old p (refilled (relocate (seen segment.old p) k size) k (fit size bytes.now)))
         × (result ≡ was_moved (relocate (seen segment.old p) k size)) }
 {
-    page_relocate::record::rewrite(&mut segment[p * 16384..(p + 1) * 16384], k, bytes, size)
+    let rest = segment.split_at_mut(p * PAGE_SIZE).1;
+    page_relocate::record::rewrite(rest.first_chunk_mut().unwrap(), k, bytes, size)
 }
 
 // Slot k's record keeps its bytes, cut off or filled up with zeros to `size`.
@@ -30,7 +33,8 @@ pub fn resize_on(segment: &mut [u8], p: usize, k: usize, size: usize) -> bool
         (refilled (relocate (seen segment.old p) k size) k (fit size ((seen segment.old p).bytes k))))
         × (result ≡ was_moved (relocate (seen segment.old p) k size)) }
 {
-    page_relocate::record::resize(&mut segment[p * 16384..(p + 1) * 16384], k, size)
+    let rest = segment.split_at_mut(p * PAGE_SIZE).1;
+    page_relocate::record::resize(rest.first_chunk_mut().unwrap(), k, size)
 }
 
 // A target's record becomes the id of its root and these bytes.
@@ -42,7 +46,8 @@ pub fn rewrite_target_on(segment: &mut [u8], p: usize, k: usize, id: usize, byte
         (refilled (relocate (seen segment.old p) k (length bytes.now + 8)) k (to_be 8 id ++ bytes.now)))
         × (result ≡ was_moved (relocate (seen segment.old p) k (length bytes.now + 8))) }
 {
-    page_relocate::record::rewrite_target(&mut segment[p * 16384..(p + 1) * 16384], k, id, bytes)
+    let rest = segment.split_at_mut(p * PAGE_SIZE).1;
+    page_relocate::record::rewrite_target(rest.first_chunk_mut().unwrap(), k, id, bytes)
 }
 
 // A target's record keeps its bytes behind the id of its root.
@@ -55,7 +60,8 @@ pub fn resize_target_on(segment: &mut [u8], p: usize, k: usize, id: usize, size:
         (to_be 8 id ++ fit size (drop 8 ((seen segment.old p).bytes k)))))
         × (result ≡ was_moved (relocate (seen segment.old p) k (size + 8))) }
 {
-    page_relocate::record::resize_target(&mut segment[p * 16384..(p + 1) * 16384], k, id, size)
+    let rest = segment.split_at_mut(p * PAGE_SIZE).1;
+    page_relocate::record::resize_target(rest.first_chunk_mut().unwrap(), k, id, size)
 }
 
 // Slot k of page p, which is not free, becomes a redirect to the id.
@@ -64,7 +70,8 @@ pub fn erase_for_redirect_on(segment: &mut [u8], p: usize, k: usize, id: usize)
     requires id_bound { id < 2 ^ 62 }
     ensures { segment.new ≡ carried_on (on p (erase_for_redirect (seen segment.old p) k id)) segment.old }
 {
-    slotted_page::erase::erase_for_redirect(&mut segment[p * 16384..(p + 1) * 16384], k, id);
+    let rest = segment.split_at_mut(p * PAGE_SIZE).1;
+    slotted_page::erase::erase_for_redirect(rest.first_chunk_mut().unwrap(), k, id);
 }
 
 // Slot k of page p, a redirect already, names this id: its entry alone.
@@ -73,5 +80,6 @@ pub fn set_redirect_on(segment: &mut [u8], p: usize, k: usize, id: usize)
     requires id_bound { id < 2 ^ 62 }
     ensures { segment.new ≡ carried_on (on p (redirect_plan (seen segment.old p) k id)) segment.old }
 {
-    slotted_page::erase::set_redirect(&mut segment[p * 16384..(p + 1) * 16384], k, id);
+    let rest = segment.split_at_mut(p * PAGE_SIZE).1;
+    slotted_page::erase::set_redirect(rest.first_chunk_mut().unwrap(), k, id);
 }

@@ -2,28 +2,27 @@
 use Prim.Native.Nat.{ℕ, ◌+◌, ◌-◌, ◌≤◌}
 use mathlib.Core.Path.{◌≡◌, refl, sym, ap, subst, ◌∙◌}
 use mathlib.Core.Bool.{Bool, true, false, cond}
-use mathlib.Core.List.{List, []}
+use mathlib.Core.List.{List}
 use native.Mathlib.Omega.{arith}
 use lib.ListN.{length, drop}
 use lib.Dec.{eqb}
 use Rattle.store.specs.Numbers.{cut, page_no, slot_no}
 use Rattle.store.specs.Slots.{is_target}
-use Rattle.store.specs.Segment.{SegView, seg_view, size_ok, points_back, Read, no_read, read_by, read_plan, read_step, Part, no_part, part_on, part_by}
+use Rattle.store.specs.declared.Part.{Part}
+use Rattle.store.specs.Segment.{SegView, seg_view, size_ok, points_back, Read, no_read, read_by, read_plan, read_step, no_part, part_on, part_by}
 use Rattle.store.specs.Segment.{Located, held}
 use Rattle.store.specs.Segment.{root_of, by_root, locate_step}
-use Rattle.store.specs.Refusals.{DONE, SIZE, DAMAGED}
-use Rattle.store.proofs.Laws.Roots.{by_root_lem}
+use Rattle.store.specs.Refusals.{DONE, SIZE, DAMAGED, number_of}
+use Rattle.store.proofs.Laws.Roots.{by_root_lem, refused_no}
 use Rattle.store.specs.Laws.Lent.{SoundOn}
-use Rattle.store.specs.Answers.{reading_no, reading_part, located}
+use Rattle.store.specs.Answers.{located}
 use Rattle.store.proofs.Laws.Cases.{by_test}
 use Rattle.store.proofs.Laws.Calls.{back_ok, page_below}
 use Rattle.store.proofs.Promises.Parts.{part_read}
-use Rattle.store.specs.declared.Root.{Root}
-use Rattle.store.specs.declared.Root.TheVariants as root
+use Rattle.std.proofs.Common.{Result, Ok, Err}
+use Rattle.store.specs.declared.Refusal.{Refusal}
 use Rattle.store.specs.declared.Slot.{Slot}
 use Rattle.store.specs.declared.Slot.TheVariants.{Ordinary, Free, Redirect, Target}
-use Rattle.store.specs.declared.Reading.{Reading}
-use Rattle.store.specs.declared.Reading.TheVariants.{At, Size, NoPage, Damaged, NoRecord}
 use Rattle.segment_read.specs.Parts.{found_at, not_found, followed, locate_by}
 use Rattle.segment_pages.proofs.Seen.{slot_high, target_long}
 use Rattle.segment_pages.proofs.Root.{root_is, back_taken}
@@ -53,11 +52,10 @@ module _ (s : List ℕ) (i : ℕ) where
   locate_size e = rw e
 
   -- by what the id's own page answers
-  pub locate_root : size_ok s ≡ true → (r : Root) → r ≡ root_of (seg_view s) i → by_root not_found (locate_by (seg_view s) i) r ≡ locate_step s i
+  pub locate_root : size_ok s ≡ true → (r : Result Slot Refusal) → r ≡ root_of (seg_view s) i → by_root not_found (locate_by (seg_view s) i) r ≡ locate_step s i
   unfolding locate_step read_step read_plan
-  locate_root z root.NoPage e = rw (z, ← e)
-  locate_root z root.Damaged e = rw (z, ← e)
-  locate_root z (root.Entry x) e =
+  locate_root z (Err x) e = rw (z, ← e, refused_no x)
+  locate_root z (Ok x) e =
       rw (z, ← e)
       (by_slot (seg_view s) i x ∙ ap (λ (y : Slot). part_if (read_by (seg_view s) i x) (part_by (seg_view s) i y)) (sym (root_is s i x (sym e)).entry))
 
@@ -100,31 +98,25 @@ module _ (s : List ℕ) where
 
 -- ---- the part's bytes are what is read
 
-module _ (s : List ℕ) (i : ℕ) (r : Reading) (e : located r ≡ locate_step s i) (n : ℕ) (number : n ≡ reading_no r) where
-  read_by_lem : (bs : List ℕ) → bs ≡ held s (reading_part r) → ◌≡◌ {A = Read} (record { answer = n; bytes = bs }) (read_step s i)
+module _ (s : List ℕ) (i : ℕ) (r : Result Part Refusal) (e : located r ≡ locate_step s i) where
+  same_read : (n : ℕ) (bs : List ℕ) → n ≡ (located r).answer → bs ≡ held s (located r).part → ◌≡◌ {A = Read} (record { answer = n; bytes = bs }) (read_step s i)
   unfolding locate_step
-  read_by_lem bs q =
-      let a : n ≡ (read_step s i).answer = number ∙ ap (λ (d : Located). d.answer) e in
+  same_read n bs m q =
+      let a : n ≡ (read_step s i).answer = m ∙ ap (λ (d : Located). d.answer) e in
       let b : bs ≡ (read_step s i).bytes = q ∙ ap (λ (d : Located). held s d.part) e ∙ part_read s i in
       λ j. record { answer = a j; bytes = b j }
 
-  pub read_part : (o l : ℕ) → r ≡ At o l → ◌≡◌ {A = Read} (record { answer = n; bytes = cut s o (o + l - o) }) (read_step s i)
-  read_part o l q =
-      let k : o + l - o ≡ l = omega arith in
-      read_by_lem (cut s o (o + l - o)) (ap (cut s o) k ∙ ap (λ (x : Reading). held s (reading_part x)) (sym q))
+  pub read_part : (d : Part) → r ≡ Ok d → ◌≡◌ {A = Read} (record { answer = DONE; bytes = cut s d.offset (d.offset + d.length - d.offset) }) (read_step s i)
+  read_part d q =
+      let k : d.offset + d.length - d.offset ≡ d.length = omega arith in
+      same_read _ _ (ap (λ (x : Result Part Refusal). (located x).answer) (sym q))
+      (ap (cut s d.offset) k ∙ ap (λ (x : Result Part Refusal). held s (located x).part) (sym q))
 
-  pub read_nothing : ((o l : ℕ) → r ≡ At o l → ⊥) → ◌≡◌ {A = Read} (record { answer = n; bytes = [] }) (read_step s i)
-  read_nothing h = read_by_lem [] (go r h)
-    where
-      go : (x : Reading) → ((o l : ℕ) → x ≡ At o l → ⊥) → [] ≡ held s (reading_part x)
-      go (At o l) h = absurd (h o l refl)
-      go Size h = refl
-      go NoPage h = refl
-      go Damaged h = refl
-      go NoRecord h = refl
+  pub read_refused : (x : Refusal) → r ≡ Err x → no_read (number_of x) ≡ read_step s i
+  read_refused x q = same_read _ _ (ap (λ (y : Result Part Refusal). (located y).answer) (sym q)) (ap (λ (y : Result Part Refusal). held s (located y).part) (sym q))
 
-  pub read_inside : (o l : ℕ) → r ≡ At o l → o + l ≤ length s
-  read_inside o l q = subst (Inside s) (sym e ∙ ap located q) (locate_inside s i)
+  pub read_inside : (d : Part) → r ≡ Ok d → d.offset + d.length ≤ length s
+  read_inside d q = subst (Inside s) (sym e ∙ ap located q) (locate_inside s i)
 
 -- ---- a redirect followed
 

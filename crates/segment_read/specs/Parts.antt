@@ -2,7 +2,8 @@
 use Rattle.std.specs.Prelude.{ℕ, cond}
 use Rattle.store.specs.Numbers.{page_no, slot_no}
 use Rattle.store.specs.Refusals.{DONE, DAMAGED, NONE}
-use Rattle.store.specs.Segment.{SegView, points_back, Part, no_part, part_on, Located}
+use Rattle.store.specs.declared.Part.{Part}
+use Rattle.store.specs.Segment.{SegView, points_back, no_part, part_on, Located}
 use Rattle.store.specs.declared.Slot.{Slot}
 use Rattle.store.specs.declared.Slot.TheVariants.{Ordinary, Free, Redirect, Target}
 

@@ -21,9 +21,9 @@ use Rattle.store.proofs.Laws.Calls.{PageOk, page_ok, erase_on, AllocOk, alloc_ok
 use Rattle.store.proofs.Laws.SoundPage.{and_both}
 use Rattle.store.proofs.Laws.SoundSegment.{seen_page, seen_pages, sized}
 use Rattle.store.specs.declared.Place.{Place}
-use Rattle.store.specs.declared.Place.TheVariants.{At, NoRoom}
+use Rattle.std.specs.Prelude.{Option, Some, None}
 use Rattle.segment_steps.specs.Words.{Sizes}
-use Rattle.slotted_page.specs.Words.{page_after, place_of, target_at}
+use Rattle.slotted_page.specs.Words.{page_after, place_at, place_of, target_at}
 
 -- ---- sizes
 
@@ -119,15 +119,15 @@ pub record GotAt (x : Alloc) (j : ℕ) : Type 0 where
   pub to : Plan
   pub is : x ≡ got j to
 
-abbrev slot_in : Place → ℕ
-slot_in (At k o) = suc k
-slot_in NoRoom = 0
+abbrev slot_in : Option Place → ℕ
+slot_in (Some x) = suc x.slot
+slot_in None = 0
 
-pub got_at : (x : Alloc) (j o : ℕ) → place_of x ≡ At j o → GotAt x j
+pub got_at : (x : Alloc) (j o : ℕ) → place_of x ≡ place_at j o → GotAt x j
 got_at no_room j o e = let z : 0 ≡ suc j = ap slot_in e in absurd (omega arith)
 got_at (got k a) j o e = let z : suc k ≡ suc j = ap slot_in e in let y : k ≡ j = omega arith in record { to = a; is = ap (λ (i : ℕ). got i a) y }
 
-pub got_none : (x : Alloc) → place_of x ≡ NoRoom → x ≡ no_room
+pub got_none : (x : Alloc) → place_of x ≡ None → x ≡ no_room
 got_none no_room e = refl
 got_none (got k a) e = let z : suc k ≡ 0 = ap slot_in e in absurd (omega arith)
 

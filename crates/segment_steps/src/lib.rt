@@ -14,13 +14,14 @@ ghost use Rattle.segment_steps.specs.Words.{seen, allocated_on};
 use store::{PAGE_SIZE, Place};
 
 // A place for a record of `size` bytes on page p, fresh or in use; its bytes are left to be written there.
-pub fn allocate_on(segment: &mut [u8], p: usize, size: usize) -> Place
+pub fn allocate_on(segment: &mut [u8], p: usize, size: usize) -> Option<Place>
     requires sound_on { SoundOn segment.old p }
     requires size_bound { size ≤ 16364 }
     ensures { (segment.new ≡ allocated_on segment.old p (allocate (seen segment.old p) size))
         × (given_place result ≡ allotted (allocate (seen segment.old p) size)) × Inside result size × PastEntry result }
 {
-    slotted_page::allocate::allocate(&mut segment[p * 16384..(p + 1) * 16384], size)
+    let rest = segment.split_at_mut(p * PAGE_SIZE).1;
+    slotted_page::allocate::allocate(rest.first_chunk_mut().unwrap(), size)
 }
 
 // Slot k of page p, which is not free, is freed.
@@ -28,7 +29,8 @@ pub fn erase_on(segment: &mut [u8], p: usize, k: usize)
     requires { TakenOn segment.old p k }
     ensures { segment.new ≡ carried_on (on p (erase (seen segment.old p) k)) segment.old }
 {
-    slotted_page::erase::erase(&mut segment[p * 16384..(p + 1) * 16384], k);
+    let rest = segment.split_at_mut(p * PAGE_SIZE).1;
+    slotted_page::erase::erase(rest.first_chunk_mut().unwrap(), k);
 }
 
 // The inventory's class of page p, from the free space that its header says.

@@ -14,11 +14,11 @@ use Rattle.store.proofs.Laws.Views.{upd_same}
 use Rattle.store.proofs.Laws.Exact.{run_append}
 use Rattle.store.specs.declared.Slot.{Slot}
 use Rattle.store.specs.declared.Slot.TheVariants.{Target}
-use Rattle.store.specs.declared.Place.TheVariants.{At, NoRoom}
-use Rattle.page_places.specs.Words.{unfilled, page_bare, place_of}
+use Rattle.std.specs.Prelude.{None}
+use Rattle.page_places.specs.Words.{unfilled, page_bare, place_at, place_of}
 use Rattle.slotted_page.specs.Words.{page_after, filled_at, target_at}
 use Rattle.page_places.proofs.BareLaws.{commit_writes, run_bare}
-pub use Rattle.page_places.proofs.PlaceLaws.{given_is}
+pub use Rattle.page_places.proofs.PlaceLaws.{given_is, same_slot, same_offset}
 
 -- ---- the bytes written afterwards
 
@@ -65,37 +65,37 @@ commit_ends p es w k s own =
 -- ---- what the code finds: the place, and the page without the bytes
 
 module _ (k o : ℕ) (own p q₁ q₂ : List ℕ) where
-  pub written_done : (a : Alloc) → Ended p own a → At k o ≡ place_of a → q₁ ≡ page_bare a p → q₂ ≡ put q₁ o own → q₂ ≡ page_after a p
+  pub written_done : (a : Alloc) → Ended p own a → place_at k o ≡ place_of a → q₁ ≡ page_bare a p → q₂ ≡ put q₁ o own → q₂ ≡ page_after a p
   written_done no_room f e e₁ e₂ = let z : ◌≡◌ {A = ℕ} 0 1 = cc in absurd (omega arith)
-  written_done (got j a) f e e₁ e₂ = let x : o ≡ off (a.after.at j) = cc in e₂ ∙ rw (e₁, x) (sym f.written)
+  written_done (got j a) f e e₁ e₂ = let x : o ≡ off (a.after.at j) = same_offset e in e₂ ∙ rw (e₁, x) (sym f.written)
 
-  pub fill_done : (a : Alloc) (bs : List ℕ) → Ended p own a → length bs ≡ length own → At k o ≡ place_of a → q₁ ≡ page_bare a p → q₂ ≡ put q₁ o bs
+  pub fill_done : (a : Alloc) (bs : List ℕ) → Ended p own a → length bs ≡ length own → place_at k o ≡ place_of a → q₁ ≡ page_bare a p → q₂ ≡ put q₁ o bs
       → q₂ ≡ page_after (filled_at a bs) p
   fill_done no_room bs f l e e₁ e₂ = let z : ◌≡◌ {A = ℕ} 0 1 = cc in absurd (omega arith)
-  fill_done (got j a) bs f l e e₁ e₂ = let x : o ≡ off (a.after.at j) = cc in e₂ ∙ rw (e₁, x) (sym (f.fills bs l))
+  fill_done (got j a) bs f l e e₁ e₂ = let x : o ≡ off (a.after.at j) = same_offset e in e₂ ∙ rw (e₁, x) (sym (f.fills bs l))
 
   -- its entry a target's, of the same place and length
-  pub target_done : (a : Alloc) (n : ℕ) (bs q₃ : List ℕ) → Ended p own a → Sized n a → length bs ≡ length own → 20 + 8 * k ≤ o → At k o ≡ place_of a
+  pub target_done : (a : Alloc) (n : ℕ) (bs q₃ : List ℕ) → Ended p own a → Sized n a → length bs ≡ length own → 20 + 8 * k ≤ o → place_at k o ≡ place_of a
       → q₁ ≡ page_bare a p
       → q₂ ≡ put q₁ (12 + 8 * k) (slot_bytes (Target o n)) → q₃ ≡ put q₂ o bs → q₃ ≡ page_after (target_at a bs) p
   target_done no_room n bs q₃ f s l h e e₁ e₂ e₃ = let z : ◌≡◌ {A = ℕ} 0 1 = cc in absurd (omega arith)
   target_done (got j a) n bs q₃ f s l h e e₁ e₂ e₃ =
       let v : View = a.after in
-      let same_slot : k ≡ j = cc in
-      let same_offset : o ≡ off (v.at j) = cc in
+      let es : k ≡ j = same_slot e in
+      let eo : o ≡ off (v.at j) = same_offset e in
       let i : 12 + 8 * k + 8 ≤ o = omega arith in
       let x : Slot = Target o n in
-      let w : run a.edits p ≡ put q₁ o own = f.written ∙ rw (e₁, same_offset) in
+      let w : run a.edits p ≡ put q₁ o own = f.written ∙ rw (e₁, eo) in
       let g : put (put (put q₁ o own) (12 + 8 * k) (slot_bytes x)) o bs ≡ q₃ =
       ap (λ (q : List ℕ). put q o bs) (put_swap q₁ (12 + 8 * k) o (slot_bytes x) own i)
       ∙ put_over (put q₁ (12 + 8 * k) (slot_bytes x)) o own bs (omega arith) ∙ sym (rw (e₃, e₂)) in
       sym (run_append a.edits (move j (with_slot v j (Target (off (v.at j)) (len (v.at j))) bs) ∷ []) p
-      ∙ move_writes v j (Target (off (v.at j)) (len (v.at j))) bs (run a.edits p) ∙ rw (s, w, ← same_offset, ← same_slot) g)
+      ∙ move_writes v j (Target (off (v.at j)) (len (v.at j))) bs (run a.edits p) ∙ rw (s, w, ← eo, ← es) g)
 
 -- ---- a refusal leaves the page
 
 module _ (p q : List ℕ) where
-  pub none_done : (a : Alloc) → NoRoom ≡ place_of a → q ≡ page_bare a p
+  pub none_done : (a : Alloc) → None ≡ place_of a → q ≡ page_bare a p
       → (q ≡ page_after a p) × ((bs : List ℕ) → (q ≡ page_after (filled_at a bs) p) × (q ≡ page_after (target_at a bs) p))
   none_done no_room e e₁ = (e₁, λ bs. (e₁, e₁))
   none_done (got j a) e e₁ = let z : ◌≡◌ {A = ℕ} 0 1 = cc in absurd (omega arith)

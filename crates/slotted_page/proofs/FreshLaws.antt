@@ -21,6 +21,7 @@ use Rattle.store.proofs.Laws.SoundPage.{used_not_fresh, sound_none, sound_init, 
 use Rattle.store.specs.declared.Slot.{Slot}
 use Rattle.store.specs.declared.Slot.TheVariants.{Ordinary}
 use Rattle.store.specs.declared.Place.{Place}
+use Rattle.std.specs.Prelude.{Option}
 use Rattle.layout.specs.Run.{head_of}
 use Rattle.page_places.specs.Words.{page_bare}
 use Rattle.page_places.proofs.BareLaws.{run_bare}
@@ -49,7 +50,7 @@ init_reserve p n h =
 
 module _ (p : List ℕ) (n : ℕ) where
   -- on a sound page without slots
-  pub fresh_done : (q₁ q₂ : List ℕ) (r : Place) → (view p).slot_count ≡ 0 → sound (view p) ≡ true → length p ≡ 16384 → n ≤ 16364 → q₁ ≡ put_head initialised p
+  pub fresh_done : (q₁ q₂ : List ℕ) (r : Option Place) → (view p).slot_count ≡ 0 → sound (view p) ≡ true → length p ≡ 16384 → n ≤ 16364 → q₁ ≡ put_head initialised p
       → (q₂ ≡ page_bare (allocate (view q₁) n) q₁) × (given_place r ≡ allotted (allocate (view q₁) n))
       → (q₂ ≡ page_bare (allocate (opened (view p)) n) p) × (given_place r ≡ allotted (allocate (opened (view p)) n))
   fresh_done q₁ q₂ r z t whole h e₁ e₂ =
@@ -57,7 +58,7 @@ module _ (p : List ℕ) (n : ℕ) where
       let s : view q₁ ≡ initialised = ap view e₁ ∙ init_view p whole in
       rw f (e₂.0 ∙ rw (s, e₁) (init_reserve p n h), e₂.1 ∙ rw s)
 
-  pub used_done : (q : List ℕ) (r : Place) → (view p).slot_count ≢ 0
+  pub used_done : (q : List ℕ) (r : Option Place) → (view p).slot_count ≢ 0
       → (q ≡ page_bare (allocate (view p) n) p) × (given_place r ≡ allotted (allocate (view p) n))
       → (q ≡ page_bare (allocate (opened (view p)) n) p) × (given_place r ≡ allotted (allocate (opened (view p)) n))
   used_done q r some e = rw (used_not_fresh (view p) some) e

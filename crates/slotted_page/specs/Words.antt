@@ -4,7 +4,7 @@ use Rattle.store.specs.Slots.{off, len}
 use Rattle.store.specs.Page.{View}
 use Rattle.store.specs.PageSteps.{move, Plan, run, with_slot, filled, and_then, Alloc, no_room, got, plan}
 use Rattle.store.specs.declared.Slot.TheVariants.{Redirect, Target}
-pub use Rattle.page_places.specs.Words.{unfilled, page_bare, place_of, Inside, PastEntry}
+pub use Rattle.page_places.specs.Words.{unfilled, page_bare, place_at, place_of, Inside, PastEntry}
 
 -- ---- allocate
 

@@ -5,7 +5,7 @@ ghost use Rattle.store.specs.Answers.{given_place, allotted};
 ghost use Rattle.store.specs.PageSteps.{opened, put_head, initialised, allocate};
 ghost use Rattle.page_places.specs.Words.{page_bare, Inside, PastEntry};
 
-use store::{PAGE_SIZE, Place, ROOM, Page};
+use store::{PAGE_SIZE, Page, Place, ROOM};
 
 // The header of a page just initialised.
 fn initialize(page: &mut Page)
@@ -15,7 +15,7 @@ fn initialize(page: &mut Page)
 }
 
 // On a sound page a count of 0 says that it is fresh. A size of at most 16,364 finds room there, so a refusal never leaves one initialised.
-pub fn allocate(page: &mut Page, size: usize) -> Place
+pub fn allocate(page: &mut Page, size: usize) -> Option<Place>
     requires { (sound (view page.old) ≡ true) × (size ≤ 16364) }
     ensures { (page.new ≡ page_bare (allocate (opened (view page.old)) size) page.old)
         × (given_place result ≡ allotted (allocate (opened (view page.old)) size)) × Inside result size × PastEntry result }

@@ -6,7 +6,7 @@ ghost use Rattle.store.specs.PageSteps.{free_below, pruned, erase_for_redirect, 
 ghost use Rattle.store.specs.Laws.Lent.{UsedSlot};
 ghost use Rattle.slotted_page.specs.Words.{redirect_plan};
 
-use store::{Slot, Page};
+use store::{Page, Slot};
 
 // Data start once the record at o of n bytes is gone.
 fn start_without(o: usize, n: usize, d: usize) -> usize

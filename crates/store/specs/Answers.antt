@@ -2,8 +2,7 @@
 -- these.
 use Rattle.std.specs.Prelude.{ℕ, ◌<◌, true, false, List, [], ◌∷◌, Option, Some, None, Ok, Err}
 use Rattle.std.specs.Prelude.{Result as ResultOf}
-use Rattle.store.specs.Numbers.{cut}
-use Rattle.store.specs.Segment.{Result, Read, no_read, no_part, Located}
+use Rattle.store.specs.Segment.{Result, Read, no_read, Part, no_part, held, Located}
 use Rattle.store.specs.Scan.{Scanned, over_page}
 use Rattle.store.specs.Slots.{off}
 use Rattle.store.specs.PageSteps.{Alloc, no_room, got}
@@ -13,7 +12,6 @@ use Rattle.store.specs.Report.{Report}
 use Rattle.store.specs.Refusals.{DONE, SIZE, DAMAGED, FULL, STALE, TALLY, LIST, ROOM, number_of}
 use Rattle.store.specs.declared.Refusal.{Refusal}
 use Rattle.store.specs.declared.Place.{Place}
-use Rattle.store.specs.declared.Part.{Part}
 use Rattle.store.specs.declared.Record.{Record}
 use Rattle.store.specs.declared.Step.{Step}
 use Rattle.store.specs.declared.ListRefusal.{ListRefusal}
@@ -29,14 +27,18 @@ abbrev pub told_no : {T E : Type 0} → (E → ℕ) → ResultOf T E → ℕ
 told_no f (Ok x) = DONE
 told_no f (Err r) = f r
 
+-- what is told beside it: the answer itself, or what goes with the refusal
+abbrev pub told_count : {E : Type 0} → (E → ℕ) → ResultOf ℕ E → ℕ
+told_count f (Ok n) = n
+told_count f (Err r) = f r
+
 -- ---- the calls that write
 
 abbrev pub answer_no : ResultOf ℕ Refusal → ℕ
 answer_no r = told_no number_of r
 
 abbrev pub answer_id : ResultOf ℕ Refusal → ℕ
-answer_id (Ok i) = i
-answer_id (Err r) = 0
+answer_id r = told_count (λ _. 0) r
 
 -- what a call answered and left: the left side of every promise
 abbrev pub outcome : ResultOf ℕ Refusal → List ℕ → List ℕ → Result
@@ -52,11 +54,13 @@ list_number (many.Stopped n r) = number_of r
 abbrev pub inserted_no : ResultOf ℕ ListRefusal → ℕ
 inserted_no r = told_no list_number r
 
+abbrev pub list_rows : ListRefusal → ℕ
+list_rows many.Size = 0
+list_rows many.List = 0
+list_rows (many.Stopped n r) = n
+
 abbrev pub inserted_rows : ResultOf ℕ ListRefusal → ℕ
-inserted_rows (Ok n) = n
-inserted_rows (Err many.Size) = 0
-inserted_rows (Err many.List) = 0
-inserted_rows (Err (many.Stopped n r)) = n
+inserted_rows r = told_count list_rows r
 
 -- what the call answered and left: the id places, segment and inventory
 abbrev pub told : ResultOf ℕ ListRefusal → List ℕ → List ℕ → List ℕ → Rows
@@ -75,7 +79,7 @@ abbrev pub reading_no : {T : Type 0} → ResultOf T Refusal → ℕ
 reading_no r = told_no number_of r
 
 abbrev pub located : ResultOf Part Refusal → Located
-located (Ok d) = record { answer = DONE; part = record { offset = d.offset; length = d.length } }
+located (Ok d) = record { answer = DONE; part = d }
 located (Err r) = record { answer = number_of r; part = no_part }
 
 -- the same by the record's bytes, as the caller sees them
@@ -91,8 +95,8 @@ step_of (Some x) p k s =
       answer = DONE;
       some = true;
       id = x.id;
-      bytes = cut s x.offset x.length;
-      part = record { offset = x.offset; length = x.length };
+      bytes = held s x.part;
+      part = x.part;
       page = p;
       slot = k;
     }
@@ -111,10 +115,12 @@ repair_number (repair.Room n) = ROOM
 abbrev pub repair_no : ResultOf ℕ RepairRefusal → ℕ
 repair_no r = told_no repair_number r
 
+abbrev pub repair_entries : RepairRefusal → ℕ
+repair_entries repair.Size = 0
+repair_entries (repair.Room n) = n
+
 abbrev pub repair_count : ResultOf ℕ RepairRefusal → ℕ
-repair_count (Ok n) = n
-repair_count (Err repair.Size) = 0
-repair_count (Err (repair.Room n)) = n
+repair_count r = told_count repair_entries r
 
 -- what it answered and left: segment, inventory and list
 abbrev pub repaired : ResultOf ℕ RepairRefusal → List ℕ → List ℕ → List ℕ → Repaired

@@ -12,6 +12,7 @@ use Rattle.store.specs.PageSteps.{opened, move, run, Plan, plan, and_then, with_
 use Rattle.store.specs.PageSteps.{Relocated, refused, moved, relocate, filled}
 use Rattle.std.specs.Prelude.{Option, Some, None, Ok, Err}
 use Rattle.std.specs.Prelude.{Result as ResultOf}
+pub use Rattle.store.specs.declared.Part.{Part}
 use Rattle.store.specs.declared.Refusal.{Refusal}
 use Rattle.store.specs.declared.Refusal.TheVariants.{NoPage, Damaged}
 use Rattle.store.specs.declared.Slot.{Slot}
@@ -285,10 +286,6 @@ unfoldable pub read_step : List ℕ → ℕ → Read
 read_step s i = cond (size_ok s) (read_plan (seg_view s) i) (no_read SIZE)
 
 -- "A read answers the part of the lent segment that is the record": on page p as the slot says, a target's without its 8 bytes
-pub record Part : Type 0 where
-  pub offset : ℕ
-  pub length : ℕ
-
 abbrev pub no_part : Part
 no_part = record { offset = 0; length = 0 }
 

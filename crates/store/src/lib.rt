@@ -61,7 +61,7 @@ pub struct Place {
 }
 
 // The part of a segment that is a record.
-#[derive(Clone, Copy)]
+#[derive(Clone, Copy, Default)]
 pub struct Part {
     pub offset: usize,
     pub length: usize,
@@ -71,8 +71,7 @@ pub struct Part {
 #[derive(Clone, Copy)]
 pub struct Record {
     pub id: usize,
-    pub offset: usize,
-    pub length: usize,
+    pub part: Part,
 }
 
 // A step of the scan: a record, or none where the scan is over, and the next position.

@@ -1,11 +1,12 @@
 use Prim.Native.Nat.{◌<◌, ◌^◌}
-use mathlib.Core.Path.{◌≡◌, sym, ◌∙◌}
+use mathlib.Core.Path.{◌≡◌, sym, ap, ◌∙◌}
 use mathlib.Core.Bool.{true}
 use native.Mathlib.Omega.{arith}
 use Rattle.store.specs.Numbers.{page_no}
 use Rattle.store.specs.Segment.{seg_view, points_back}
 use Rattle.segment_pages.proofs.Seen.{few_slots, not_target}
 use Rattle.segment_pages.proofs.Root.{back_taken}
+use Rattle.segment_read.specs.Parts.{found_at}
 use Rattle.segment_read.proofs.Locate.{follow_none, follow_other, follow_target, target_inside}
 use Rattle.segment_read.proofs.follow.Goals.{Else-not-points_back}
 use Rattle.segment_read.proofs.follow.Goals as goal
@@ -41,5 +42,6 @@ target_part-requires c =
 pub returns : goal.returns
 returns c =
     let a = c.args in
-    c.target_part.ensures ∙ follow_target a.segment.now a.i a.t (points (goal.at.returns c).Else-not-points_back) _ c.slot_on.ensures.0 _ _
+    ap found_at c.target_part.ensures
+    ∙ follow_target a.segment.now a.i a.t (points (goal.at.returns c).Else-not-points_back) _ c.slot_on.ensures.0 _ _
     c.in-Target.is

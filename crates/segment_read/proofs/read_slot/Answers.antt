@@ -1,9 +1,9 @@
 use Prim.Native.Nat.{◌<◌, ◌^◌}
-use mathlib.Core.Path.{refl, ◌∙◌}
+use mathlib.Core.Path.{refl, ap, ◌∙◌}
 use native.Mathlib.Omega.{arith}
 use Rattle.store.specs.Numbers.{page_no, slot_no}
 use Rattle.segment_pages.proofs.Seen.{slot_high, target_long}
-use Rattle.segment_read.specs.Parts.{locate_by}
+use Rattle.segment_read.specs.Parts.{found_at, locate_by}
 use Rattle.segment_read.proofs.read_slot.Goals as goal
 
 pub overflow_add-result : goal.overflow_add-result
@@ -37,4 +37,4 @@ returns-in-Redirect c = rw c.in-Redirect.is c.follow.ensures
 
 pub returns-in-Target : goal.returns-in-Target
 unfolding locate_by
-returns-in-Target c = rw c.in-Target.is c.target_part.ensures
+returns-in-Target c = rw c.in-Target.is (ap found_at c.target_part.ensures)

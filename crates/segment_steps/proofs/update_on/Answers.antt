@@ -6,13 +6,8 @@ use lib.ListN.{length}
 use Rattle.store.specs.Page.{view}
 use Rattle.store.specs.Inventory.{update}
 use Rattle.store.specs.Segment.{page_of}
-use Rattle.store.proofs.Laws.Segments.{length_page}
 use Rattle.segment_steps.proofs.update_on.Goals.{After-get_free_space-free}
 use Rattle.segment_steps.proofs.update_on.Goals as goal
-
-pub get_free_space-free-requires : goal.get_free_space-free-requires
-get_free_space-free-requires c =
-    ap length c.page_of.ensures ∙ length_page c.args.segment.now c.args.p c.requires.within.0
 
 -- the free space that was read is the page's
 freed : (c : After-get_free_space-free)

@@ -102,7 +102,7 @@ pub located_single : (r r' : ResultOf Part Refusal) → located r ≡ located r'
 located_single = undone located answer back
   where
     answer : Located → ResultOf Part Refusal
-    answer d = answer_at (record { offset = d.part.offset; length = d.part.length }) d.answer
+    answer d = answer_at d.part d.answer
 
     back : (r : ResultOf Part Refusal) → answer (located r) ≡ r
     back (Ok d) = refl
@@ -114,7 +114,7 @@ pub scanned_single : (s : List ℕ) (r r' : ResultOf Step Refusal) → scanned_o
 scanned_single s = undone (λ r. scanned_of r s) answer back
   where
     record_in : Scanned → Option Record
-    record_in d = cond d.some (Some (record { id = d.id; offset = d.part.offset; length = d.part.length })) None
+    record_in d = cond d.some (Some (record { id = d.id; part = d.part })) None
 
     answer : Scanned → ResultOf Step Refusal
     answer d = answer_at (record { found = record_in d; page = d.page; slot = d.slot }) d.answer

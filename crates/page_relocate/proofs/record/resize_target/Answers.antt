@@ -28,17 +28,17 @@ module _ (c : Then-relocate) where
       target_kept page c.args.k c.args.size c.relocate.new.page c.requires.used_slot c.relocate.ensures.0 was_moved_lem
 
 pub get_slot-s-requires : goal.get_slot-s-requires
-get_slot-s-requires c = let x = kept (goal.at.get_slot-s-requires c).Then-relocate in (x.whole, x.counted.0, x.counted.1)
+get_slot-s-requires c = let x = kept (goal.at.get_slot-s-requires c).Then-relocate in x.counted
 
 pub put_u64-requires : goal.put_u64-requires
 put_u64-requires c =
     let x = kept (goal.at.put_u64-requires c).Then-relocate in
-    omega (arith, x.whole, x.high, c.off_of.ensures, ap off c.get_slot-s.ensures.0)
+    omega (arith, x.whole, x.high, c.offset.ensures, ap off c.get_slot-s.ensures.0)
 
 pub returns-then-relocate : goal.returns-then-relocate
 returns-then-relocate c =
     let a = c.args in
-    let f = c.off_of.ensures ∙ ap off c.get_slot-s.ensures.0 in (
+    let f = c.offset.ensures ∙ ap off c.get_slot-s.ensures.0 in (
       (kept (goal.at.returns-then-relocate c).Then-relocate).done (to_be 8 a.id) c.put_u64.new.page refl (c.put_u64.ensures ∙ rw f),
       was_moved_lem
           (goal.at.returns-then-relocate c).Then-relocate,

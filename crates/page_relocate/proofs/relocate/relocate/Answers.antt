@@ -3,22 +3,22 @@ use native.Mathlib.Omega.{arith}
 use Rattle.store.specs.Slots.{len}
 use Rattle.store.specs.Page.{view}
 use Rattle.page_relocate.proofs.RecordLaws.{relocate_refused}
-use Rattle.page_relocate.proofs.relocate.relocate.Goals.{After-len_of-n}
+use Rattle.page_relocate.proofs.relocate.relocate.Goals.{After-len-n}
 use Rattle.page_relocate.proofs.relocate.relocate.Goals as goal
 
-length_is : (c : After-len_of-n) → c.len_of-n.result ≡ len ((view c.args.page.now).at c.args.k)
-length_is c = c.len_of-n.ensures ∙ ap len c.get_slot-s.ensures.0
+length_is : (c : After-len-n) → c.len-n.result ≡ len ((view c.args.page.now).at c.args.k)
+length_is c = c.len-n.ensures ∙ ap len c.get_slot-s.ensures.0
 
 pub settle-requires : goal.settle-requires
 settle-requires c =
-    record { used_slot = c.requires; size_bound = omega (arith, length_is (goal.at.settle-requires c).After-len_of-n, c.if-size-n.true) }
+    record { used_slot = c.requires; size_bound = omega (arith, length_is (goal.at.settle-requires c).After-len-n, c.if-size-n.true) }
 
 pub returns-then-room-size : goal.returns-then-room-size
 returns-then-room-size c =
     let a = c.args in
-    let e = length_is (goal.at.returns-then-room-size c).After-len_of-n in
+    let e = length_is (goal.at.returns-then-room-size c).After-len-n in
     rw (relocate_refused a.page.now a.k a.size c.requires (omega arith) (omega arith)) (refl, refl)
 
 pub grow-requires : goal.grow-requires
 grow-requires c =
-    record { used_slot = c.requires; s_value = (c.get_slot-s.ensures.0, omega (arith, c.len_of-n.ensures), omega arith) }
+    record { used_slot = c.requires; s_value = (c.get_slot-s.ensures.0, omega (arith, c.len-n.ensures), omega arith) }

@@ -11,7 +11,7 @@ page_lent c = c.args.page.now
 
 pub reserve-requires : goal.reserve-requires
 reserve-requires c = record {
-  used_page = init_sound (page_lent (goal.at.reserve-requires c).After-get_slot_count) c.initialize.new.page c.requires.0 c.initialize.ensures;
+  used_page = init_sound (page_lent (goal.at.reserve-requires c).After-get_slot_count) c.initialize.new.page c.told-page c.initialize.ensures;
   size_bound = omega arith;
 }
 
@@ -19,14 +19,14 @@ pub returns-then-get_slot_count-eq0 : goal.returns-then-get_slot_count-eq0
 returns-then-get_slot_count-eq0 c =
     let y = fresh_done (page_lent (goal.at.returns-then-get_slot_count-eq0 c).After-get_slot_count) c.args.size c.initialize.new.page c.reserve.new.page
     c.reserve.result
-    (sym c.get_slot_count.ensures.0 ∙ c.if-get_slot_count-eq0.true) c.requires.1 c.requires.0 c.requires.2 c.initialize.ensures
+    (sym c.get_slot_count.ensures.0 ∙ c.if-get_slot_count-eq0.true) c.requires.0 c.told-page c.requires.1 c.initialize.ensures
     (c.reserve.ensures.0, c.reserve.ensures.1) in
     (y.0, y.1, c.reserve.ensures.2, c.reserve.ensures.3)
 
 pub reserve-requires-2 : goal.reserve-requires-2
 reserve-requires-2 c = record {
   used_page = used_sound (page_lent (goal.at.reserve-requires-2 c).After-get_slot_count)
-      (λ e. c.if-get_slot_count-eq0.false (c.get_slot_count.ensures.0 ∙ e)) c.requires.0 c.requires.1;
+      (λ e. c.if-get_slot_count-eq0.false (c.get_slot_count.ensures.0 ∙ e)) c.told-page c.requires.0;
   size_bound = omega arith;
 }
 

@@ -24,12 +24,12 @@ pub returns : goal.returns
 returns c =
     let a = c.args in
     let v = view a.page.now in
-    erase_done v a.k c.get_slot_count-c.result c.get_free_space-n.result c.len_of-len.result c.pruned_by-m.result
+    erase_done v a.k c.get_slot_count-c.result c.get_free_space-n.result c.len-len.result c.pruned_by-m.result
     c.start_without-up.result c.lower.result
     a.page.now c.set_header.new.page c.write_slot.new.page
-    c.get_slot_count-c.ensures.0 c.get_free_space-n.ensures.0 (c.len_of-len.ensures ∙ ap len c.get_slot-s.ensures.0)
-    (start_done v a.k c.off_of.result c.len_of-len.result c.get_data_start-d.result c.start_without-up.result
-    c.get_slot-s.result c.get_slot-s.ensures.0 c.off_of.ensures c.len_of-len.ensures c.get_data_start-d.ensures.0
+    c.get_slot_count-c.ensures.0 c.get_free_space-n.ensures.0 (c.len-len.ensures ∙ ap len c.get_slot-s.ensures.0)
+    (start_done v a.k c.offset.result c.len-len.result c.get_data_start-d.result c.start_without-up.result
+    c.get_slot-s.result c.get_slot-s.ensures.0 c.offset.ensures c.len-len.ensures c.get_data_start-d.ensures.0
     c.start_without-up.ensures)
     c.pruned_by-m.ensures.0 (c.lower.ensures ∙ ap (λ (x : ℕ). min x a.k) c.get_first_free_slot-f.ensures.0)
     c.set_header.ensures c.write_slot.ensures

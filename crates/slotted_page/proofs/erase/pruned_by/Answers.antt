@@ -3,7 +3,7 @@ use borrow.Author.Tests.{eq-eqb, ne_eqb}
 use Rattle.slotted_page.proofs.erase.pruned_by.Goals as goal
 
 pub returns-then-k-c : goal.returns-then-k-c
-returns-then-k-c c = (rw (← c.requires.1, eq-eqb _ _ c.if-k-c.true) c.free_below.ensures.0, omega arith)
+returns-then-k-c c = (rw (← c.requires.0, eq-eqb _ _ c.if-k-c.true) c.free_below.ensures.0, omega arith)
 
 pub returns : goal.returns
-returns c = (rw (← c.requires.1, ne_eqb _ _ c.if-k-c.false), omega arith)
+returns c = (rw (← c.requires.0, ne_eqb _ _ c.if-k-c.false), omega arith)

@@ -3,7 +3,7 @@ use mathlib.Core.List.{List, ◌++◌}
 use Prim.Native.Nat.{ℕ, ◌+◌}
 use Rattle.store.specs.Numbers.{put, to_be}
 use Rattle.store.proofs.Laws.Writes.{write_append}
-use Rattle.segment_insert.proofs.head_in.Goals as goal
+use Rattle.segment_insert.proofs.row.HeadedRow.put.Goals as goal
 
 -- two writes, one right behind the other
 both : (p q r : List ℕ) (at i : ℕ) (bs : List ℕ) → q ≡ put p at (to_be 8 i) → r ≡ put q (at + 8) bs → r ≡ put p at (to_be 8 i ++ bs)
@@ -12,5 +12,5 @@ both p q r at i bs d e = e ∙ ap (λ (l : List ℕ). put l (at + 8) bs) d ∙ s
 pub returns : goal.returns
 returns c =
     let a = c.args in
-    both a.page.now c.put_u64.new.page c.copy_in.new.page a.at a.head a.bytes.now c.put_u64.ensures
+    both a.page.now c.put_u64.new.page c.copy_in.new.page a.at a.self.now.head a.self.now.bytes.now c.put_u64.ensures
     c.copy_in.ensures
