@@ -1,6 +1,6 @@
 -- What the code's answers mean: the number of each, and what it tells.
 use Rattle.std.specs.Prelude.{ℕ, ◌<◌, List, Result, Ok, Err}
-use Rattle.store.specs.Refusals.{DONE, SIZE, LONG, DAMAGED, ROOM, number_of}
+use Rattle.store.specs.Refusals.{SIZE, LONG, DAMAGED, ROOM, number_of}
 use Rattle.store.specs.Answers.{told_no}
 use Rattle.exchange.specs.Exchange.{MARK, SHORT, Import, Export}
 use Rattle.exchange.specs.declared.ImportRefusal.{ImportRefusal}

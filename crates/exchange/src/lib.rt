@@ -15,7 +15,8 @@ ghost use Rattle.exchange.specs.Told.{imported, ByInsert, exported};
 ghost use Rattle.exchange.specs.Words.{of_fault, fault_of};
 
 use format::Fault;
-use segment_insert::rows::REMEMBERED;
+use segment_insert::row::Headed;
+use segment_insert::rows::{REMEMBERED, insert_row};
 use store::Refusal;
 
 // Why an import is refused: the whole file; or where it stopped, after so many records, with that insert's refusal.
@@ -71,14 +72,11 @@ fn insert_file(
     let mut at = 0;
     let mut records = 0;
     while let Some(record) = format::record_at(file, at)? {
-        let inserted = segment_insert::rows::insert_headed(
-            segment,
-            inventory,
-            &mut known,
-            record.head,
-            &file[record.data..record.end],
-        );
-        if let Err(refusal) = inserted {
+        let row = Headed {
+            head: record.head,
+            bytes: &file[record.data..record.end],
+        };
+        if let Err(refusal) = insert_row(segment, inventory, &mut known, &row) {
             return Err(ImportRefusal::Stopped { records, refusal });
         }
         at = record.end;
@@ -88,11 +86,7 @@ fn insert_file(
 }
 
 // "Refusals: 1, then record by record in file order .., all before any insert; then each insert's own."
-pub fn import(
-    segment: &mut [u8],
-    inventory: &mut [u8],
-    file: &[u8],
-) -> Result<usize, ImportRefusal>
+pub fn import(segment: &mut [u8], inventory: &mut [u8], file: &[u8]) -> Result<usize, ImportRefusal>
     ensures { (imported result segment.new inventory.new
         ≡ import_step segment.old inventory.old file.now)
         × ByInsert result }

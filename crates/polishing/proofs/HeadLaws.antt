@@ -12,8 +12,7 @@ use Rattle.exchange.specs.declared.parts.Part.{Part}
 use Rattle.exchange.specs.declared.parts.Part.TheVariants as part
 use Rattle.polishing.specs.Polishing.{mirror_of, reading_of, row_of}
 use Rattle.polishing.specs.Words.{head_of, part_head}
-use Rattle.polishing.specs.declared.heads.Row.{Row}
-use Rattle.std.specs.Prelude.{Option, Some, None}
+use Rattle.std.specs.Prelude.{Some, None}
 
 module _ (p : List ℕ) (o n : ℕ) (headed : 8 ≤ n) where
   mirror_at : mirror_of (cut p o n) ≡ be (cut p o 4)

@@ -1,15 +1,15 @@
 -- Words for the contracts: the head of a record, the passes over readings, and the rule by its two counts.
-use Rattle.std.specs.Prelude.{ℕ, zero, suc, ◌+◌, ◌/◌, ◌%◌, ◌^◌, ◌<◌, ◌≡◌, Bool, true, false, Option, Some, None, Result, Ok, Err, cond, ◌&&◌, length, get_or, set, eqb, ltb, leb}
+use Rattle.std.specs.Prelude.{ℕ, zero, suc, ◌+◌, ◌/◌, ◌%◌, ◌^◌, ◌≡◌, Bool, true, false, Option, Some, None, Result, Ok, Err, cond, ◌&&◌, length, get_or, set, eqb, ltb, leb}
 use mathlib.Core.List.{List, foldl}
 use Rattle.std.specs.Int.Bits.{bit_and, bit_or}
 use Rattle.store.specs.Numbers.{cut, zeros}
 use Rattle.store.specs.Page.{sound, view}
 use Rattle.store.specs.Records.{records}
-use Rattle.store.specs.Segment.{SegView}
+use Rattle.store.specs.Segment.{SegView, seg_view}
 use Rattle.exchange.specs.Exchange.{readings}
 use Rattle.exchange.specs.declared.parts.Part.{Part}
 use Rattle.exchange.specs.declared.parts.Part.TheVariants as part
-use Rattle.polishing.specs.Polishing.{mirror_of, reading_of, row_of, counted, met, demands_of}
+use Rattle.polishing.specs.Polishing.{mirror_of, reading_of, row_of, counted, met, demands_of, rows_named}
 use Rattle.store.specs.Report.{all_sound}
 use Rattle.polishing.specs.declared.RuleRefusal.{RuleRefusal}
 use Rattle.polishing.specs.declared.RuleRefusal.TheVariants as refusal
@@ -98,6 +98,13 @@ edition_number edition.Second = 2
 abbrev pub EditionOf : ℕ → Result Edition RuleRefusal → Type 0
 EditionOf n (Ok e) = n ≡ edition_number e
 EditionOf n (Err r) = (r ≡ refusal.Rule) × (leb 1 n && leb n 2 ≡ false)
+
+-- a refusal of a segment of right size by the rows or by a page
+abbrev pub RefusedBy : List ℕ → ℕ → RuleRefusal → Type 0
+RefusedBy s rows refusal.Rule = rows_named rows ≡ false
+RefusedBy s rows refusal.Damaged = (rows_named rows ≡ true) × (all_sound (seg_view s) ≡ false)
+RefusedBy s rows refusal.Size = ⊥
+RefusedBy s rows refusal.Room = ⊥
 
 -- these are the edition's demands, whatever is whole
 abbrev pub Says : ℕ → Demands → Type 0

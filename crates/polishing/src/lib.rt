@@ -38,12 +38,7 @@ pub fn cleared(
         return Err(RuleRefusal::Size);
     }
     let edition = Edition::try_from(edition)?;
-    if !rule::rows_named(rows) {
-        return Err(RuleRefusal::Rule);
-    }
-    let Some(readings) = Readings::of(segment, mirror as usize, rows) else {
-        return Err(RuleRefusal::Damaged);
-    };
+    let readings = Readings::of(segment, mirror as usize, rows)?;
     Ok(readings.are_enough(edition))
 }
 
@@ -59,12 +54,7 @@ pub fn whole_readings(
     if !segment_pages::is_segment(segment) {
         return Err(RuleRefusal::Size);
     }
-    if !rule::rows_named(rows) {
-        return Err(RuleRefusal::Rule);
-    }
-    let Some(readings) = Readings::of(segment, mirror as usize, rows) else {
-        return Err(RuleRefusal::Damaged);
-    };
+    let readings = Readings::of(segment, mirror as usize, rows)?;
     if place.len() < WINDOWS {
         return Err(RuleRefusal::Room);
     }

@@ -1,14 +1,15 @@
 // A mirror's whole readings, window by window: the pages are checked and the windows marked once, and a window without a mark takes no pass.
-ghost use Rattle.std.specs.Prelude.{◌≡◌, true, false, ◌≤◌, ◌<◌, length, IfSome, IsNone};
+ghost use Rattle.std.specs.Prelude.{◌≡◌, true, ◌≤◌, ◌<◌, length, IfOk, IfErr};
 ghost use Rattle.store.specs.Numbers.{put};
 ghost use Rattle.store.specs.Report.{all_sound};
 ghost use Rattle.store.specs.Segment.{seg_view, size_ok};
 ghost use Rattle.polishing.specs.Polishing.{whole_in, words, word, rows_named, met, demands_of};
-ghost use Rattle.polishing.specs.Words.{windows_of, edition_number};
+ghost use Rattle.polishing.specs.Words.{windows_of, edition_number, RefusedBy};
 
-use crate::rows::Wanted;
+use crate::RuleRefusal;
+use crate::rows::{MOST_ROWS, Wanted};
 use crate::rule::{Counts, Edition};
-use crate::windows::WINDOWS;
+use crate::windows::{WINDOWS, marked_windows};
 
 // The segment, whose pages are sound, and the windows in which the mirror has a record.
 #[derive(Drop)]
@@ -24,14 +25,19 @@ pub struct Readings<'a> {
 }
 
 impl<'a> Readings<'a> {
-    // None where a page is not sound.
-    pub fn of(segment: &'a [u8], mirror: usize, rows: usize) -> Option<Readings<'a>>
-        requires { (size_ok segment.now ≡ true) × (rows_named rows ≡ true) }
-        ensures some { IfSome result (λ r. (r.segment.now ≡ segment.now) × (r.mirror ≡ mirror) × (r.rows ≡ rows)) }
-        ensures none { IsNone result → all_sound (seg_view segment.now) ≡ false }
+    // "14 RULE for .. rows outside 1 to 2,048", and then 4 for a page that is not sound.
+    pub fn of(segment: &'a [u8], mirror: usize, rows: usize) -> Result<Readings<'a>, RuleRefusal>
+        requires { size_ok segment.now ≡ true }
+        ensures of { IfOk result (λ r. (r.segment.now ≡ segment.now) × (r.mirror ≡ mirror) × (r.rows ≡ rows)) }
+        ensures refused { IfErr result (RefusedBy segment.now rows) }
     {
-        let marked = crate::windows::marked_windows(segment, mirror)?;
-        Some(Readings {
+        if !(1..=MOST_ROWS).contains(&rows) {
+            return Err(RuleRefusal::Rule);
+        }
+        let Some(marked) = marked_windows(segment, mirror) else {
+            return Err(RuleRefusal::Damaged);
+        };
+        Ok(Readings {
             segment,
             marked,
             mirror,

@@ -1,17 +1,9 @@
 // The rule sheet: "Our rule sheet changed and old mirrors stay under the old sheet". What an edition demands is a line.
 ghost use Rattle.std.specs.Prelude.{◌≡◌, ◌+◌, ◌≤◌, ◌<◌, ◌^◌, ◌*◌};
 ghost use Rattle.std.specs.Int.Count.{ones};
-ghost use Rattle.polishing.specs.Polishing.{rows_named};
 ghost use Rattle.polishing.specs.Words.{EditionOf, edition_number, Says, met_by, WithWindow};
 
 use crate::RuleRefusal;
-
-// "rows outside 1 to 2,048"
-pub fn rows_named(rows: usize) -> bool
-    ensures { result ≡ rows_named rows }
-{
-    (1..=crate::rows::MOST_ROWS).contains(&rows)
-}
 
 #[derive(Clone, Copy)]
 pub enum Edition {

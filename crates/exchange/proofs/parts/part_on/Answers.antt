@@ -1,5 +1,4 @@
-use mathlib.Core.Path.{◌≡◌, sym, ap, subst, ◌∙◌}
-use Rattle.store.specs.Page.{view}
+use mathlib.Core.Path.{sym, ap, subst, ◌∙◌}
 use Rattle.exchange.specs.Words.{OnPage, part_of_slot}
 use Rattle.exchange.proofs.Laws.Left.{slot_few, slot_target, part_lies}
 use Rattle.exchange.proofs.parts.part_on.Goals as goal

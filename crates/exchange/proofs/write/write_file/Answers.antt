@@ -8,7 +8,6 @@ use Rattle.store.specs.Page.{View, view, sound}
 use Rattle.store.specs.PageSteps.{opened}
 use Rattle.store.specs.Segment.{seg_view}
 use Rattle.store.proofs.Laws.Report.{each_sound}
-use Rattle.store.proofs.Laws.Segments.{length_page}
 use Rattle.store.proofs.Laws.SoundSegment.{seen_pages, seen_page}
 use Rattle.exchange.specs.Words.{page_file}
 use Rattle.exchange.proofs.LeftLaws.{pages_file, pages_all, pages_next, pages_none}
