@@ -7,26 +7,29 @@ use mathlib.Core.Logic.{◌≢◌}
 use native.Mathlib.Omega.{arith}
 use lib.ListN.{length, drop, length-take}
 use Rattle.store.specs.Numbers.{cut, to_be}
-use Rattle.store.specs.Refusals.{DONE, LONG}
+use Rattle.store.specs.Refusals.{DONE, LONG, number_of}
 use Rattle.store.specs.Segment.{size_ok, inv_ok, Result}
 use Rattle.store.specs.Segment.{insert_step}
 use Rattle.store.specs.ManyRows.{Rows, no_row, and_row, insert_all}
-use Rattle.store.specs.Answers.{answer_no, outcome}
+use Rattle.store.specs.Answers.{outcome}
 use Rattle.store.specs.Calls.{insert}
 use Rattle.store.proofs.Laws.Cases.{never}
 use Rattle.store.proofs.Laws.ManyRows.{row_in, row_refused, no_row_lem}
 use Rattle.store.proofs.Promises.Refused.{refused_keeps, length_kept, inventory_kept, sizes_kept}
-use Rattle.store.specs.declared.Answer.{Answer}
-use Rattle.store.specs.declared.Answer.TheVariants.{Done}
+use Rattle.std.specs.Prelude.{Some, Ok, Err}
+use Rattle.store.proofs.Laws.Roots.{refusal_some}
+use Rattle.store.specs.declared.Refusal.{Refusal}
 use Rattle.segment_insert.specs.Words.{KnownSound}
 use Rattle.exchange.specs.Exchange.{Parsed, holds, and_record, parse, Import, without_ids, insert_parsed, import_step}
-use Rattle.exchange.specs.Told.{imported}
-use Rattle.exchange.specs.Words.{follows, Inside, fault_of}
+use Rattle.exchange.specs.Told.{imported, ByInsert}
+use Rattle.exchange.specs.Words.{follows, Inside, fault_of, fault_number, of_fault}
 use Rattle.exchange.specs.FileTold.{of_insert}
 use Rattle.exchange.proofs.Laws.Import.{by_file, insert_short}
 use Rattle.exchange.proofs.Laws.Parse.{fault_behind, fault_is, held, parse_holds}
-use Rattle.exchange.specs.declared.Imported.TheVariants as import
-use Rattle.exchange.specs.declared.format.Next.TheVariants.{Record}
+use Rattle.exchange.specs.declared.ImportRefusal.TheVariants as import
+use Rattle.exchange.specs.declared.format.Fault.{Fault}
+use Rattle.exchange.specs.declared.format.Fault.TheVariants as fault
+use Rattle.exchange.specs.declared.format.Record.{Record}
 
 -- ---- a record of at most 16,364 bytes is refused by 4, 7 or 8 alone
 
@@ -72,14 +75,17 @@ module _ (s₀ v₀ f : List ℕ) where
 
   module _ (s v ks : List ℕ) (at k : ℕ) (g : FileLeft s₀ v₀ f s v ks at k) where
     -- behind the last
-    pub left_none : parse (drop at f) ≡ holds [] → imported (import.Done k) s v ≡ without_ids (insert_parsed s₀ v₀ (parse f))
+    pub left_none : parse (drop at f) ≡ holds [] → imported (Ok k) s v ≡ without_ids (insert_parsed s₀ v₀ (parse f))
     left_none e =
         sym (count_none k 0 s v) ∙ ap (counted_from k) (sym (no_row_lem s v)) ∙ ap (λ (p : Parsed). counted_from k (insert_parsed s v p)) (sym e) ∙ g.gives
 
     -- a record stands there
-    module _ (h d e : ℕ) (is : parse (drop at f) ≡ follows f (Record h d e)) (i : Inside f at d e) (s' v' : List ℕ) where
+    module _ (r : Record) (is : parse (drop at f) ≡ follows f (Ok (Some r))) (i : Inside f at r.data r.end) (s' v' : List ℕ) where
+      abbrev e : ℕ
+      e = r.end
+
       abbrev row : List ℕ
-      row = to_be 8 h ++ cut f d (e - d)
+      row = to_be 8 r.head ++ cut f r.data (e - r.data)
 
       abbrev here : Result
       here = insert_step s v row
@@ -94,14 +100,14 @@ module _ (s₀ v₀ f : List ℕ) where
       whole = ap (λ (p : Parsed). counted_from k (insert_parsed s v p)) (ap (and_record row) (sym (parse_holds (drop e f) still)) ∙ sym is) ∙ g.gives
 
       short : length row ≤ 16364
-      short = omega (arith, length-take (e - d) (drop d f), i.short)
+      short = omega (arith, length-take (e - r.data) (drop r.data f), i.short)
 
       -- it is refused
-      pub left_stop : (a : Answer) → outcome a s' v' ≡ here → answer_no a ≢ 0
-          → (imported (import.Stopped k a) s' v' ≡ without_ids (insert_parsed s₀ v₀ (parse f))) × (LONG < answer_no a)
-      left_stop a o n =
-          let same : answer_no a ≡ here.answer = λ j. (o j).answer in
-          let q : here.answer ≢ 0 = λ z. n (same ∙ z) in
+      pub left_stop : (a : Refusal) → outcome (Err a) s' v' ≡ here
+          → (imported (Err (import.Stopped k a)) s' v' ≡ without_ids (insert_parsed s₀ v₀ (parse f))) × (LONG < number_of a)
+      left_stop a o =
+          let same : number_of a ≡ here.answer = λ j. (o j).answer in
+          let q : here.answer ≢ 0 = λ z. refusal_some a (same ∙ z) in
           let kept = refused_keeps (insert row) s v q in
           let seg : s' ≡ s = (λ j. (o j).seg) ∙ kept.0 in
           let inv : v' ≡ v = (λ j. (o j).inv) ∙ kept.1 in (
@@ -111,7 +117,7 @@ module _ (s₀ v₀ f : List ℕ) where
           )
 
       -- it goes in
-      pub left_next : (n : ℕ) → outcome (Done n) s' v' ≡ here → (ks' : List ℕ) → KnownSound s' ks' → FileLeft s₀ v₀ f s' v' ks' e (k + 1)
+      pub left_next : (n : ℕ) → outcome (Ok n) s' v' ≡ here → (ks' : List ℕ) → KnownSound s' ks' → FileLeft s₀ v₀ f s' v' ks' e (k + 1)
       left_next n o ks' w =
           let c = insert row in
           record {
@@ -130,6 +136,12 @@ module _ (s₀ v₀ f : List ℕ) where
 -- ---- the call
 
 module _ (s v f : List ℕ) where
-  -- a fault of the file
-  pub import_wrong : (size_ok s && inv_ok v) ≡ true → (a : ℕ) → a ≡ fault_of (parse f) → a ≢ 0 → without_ids (no_row a s v) ≡ import_step s v f
+  import_wrong : (size_ok s && inv_ok v) ≡ true → (a : ℕ) → a ≡ fault_of (parse f) → a ≢ 0 → without_ids (no_row a s v) ≡ import_step s v f
   import_wrong e a w n = ap (λ (p : Parsed). without_ids (insert_parsed s v p)) (sym (fault_is (parse f) w n)) ∙ sym (by_file s v f e (parse f) refl)
+
+  -- a fault of the file
+  pub import_fault : (size_ok s && inv_ok v) ≡ true → (x : Fault) → fault_number x ≡ fault_of (parse f)
+      → (imported (Err (of_fault x)) s v ≡ import_step s v f) × ByInsert (Err (of_fault x))
+  import_fault e fault.Short w = (import_wrong e (fault_number fault.Short) w (λ z. omega arith), tt)
+  import_fault e fault.Mark w = (import_wrong e (fault_number fault.Mark) w (λ z. omega arith), tt)
+  import_fault e fault.Long w = (import_wrong e (fault_number fault.Long) w (λ z. omega arith), tt)

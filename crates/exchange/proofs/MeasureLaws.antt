@@ -1,6 +1,6 @@
 -- Measuring: what is counted so far and what is left give the whole, of a page and of a segment.
 use Prim.Native.Nat.{ℕ, ◌+◌, ◌*◌, ◌/◌, ◌^◌, ◌≤◌, ◌<◌}
-use mathlib.Core.Path.{◌≡◌, refl, sym, ap, ◌∙◌}
+use mathlib.Core.Path.{◌≡◌, sym, ap, ◌∙◌}
 use mathlib.Core.Bool.{true, false}
 use mathlib.Core.List.{List}
 use native.Mathlib.Omega.{arith}
@@ -10,28 +10,28 @@ use Rattle.store.specs.Page.{View, view, sound}
 use Rattle.store.specs.PageSteps.{opened}
 use Rattle.store.specs.Segment.{seg_view, page_of}
 use Rattle.store.specs.Records.{records}
-use Rattle.store.proofs.Laws.Cases.{never}
+use Rattle.store.specs.Report.{all_sound}
 use Rattle.store.proofs.Laws.Report.{sound_each, damaged}
 use Rattle.store.proofs.Laws.SoundPage.{sound_opened}
 use Rattle.store.proofs.Laws.SoundSegment.{seen_pages, seen_page}
 use Rattle.exchange.specs.Exchange.{passed_over}
-use Rattle.exchange.specs.Words.{part_of_slot, part_length, part_file, part_passed, page_file, page_passed, segment_file, PageSums, Measured}
+use Rattle.exchange.specs.Words.{part_of_slot, part_length, part_file, part_passed, page_file, page_passed, segment_file, PageSums, SegmentSums}
 use Rattle.exchange.proofs.Laws.Left.{part_lies}
 use Rattle.exchange.proofs.Laws.Room.{page_short, passed_few}
-use Rattle.exchange.specs.declared.measure.Sums.{Sums}
+use Rattle.exchange.specs.declared.Exported.{Exported}
 use Rattle.exchange.specs.declared.parts.Part.{Part}
 use Rattle.exchange.proofs.LeftLaws as left
 
 -- ---- the slots of a page, up to k
 
-pub record MeasuredTo (v : View) (k : ℕ) (m : Sums) : Type 0 where
+pub record MeasuredTo (v : View) (k : ℕ) (m : Exported) : Type 0 where
   pub length : m.length + length (left.file_from v k) ≡ length (page_file (opened v))
   pub passed : m.passed + left.passed_from v k ≡ page_passed (opened v)
 
-pub measured_none : (v : View) → MeasuredTo v 0 record { length = 0; passed = 0 }
-measured_none v = record { length = omega (arith, ap length (left.file_all v)); passed = omega (arith, left.passed_all v) }
+pub measured_none : (v : View) (m : Exported) → (m.length ≡ 0) × (m.passed ≡ 0) → MeasuredTo v 0 m
+measured_none v m e = record { length = omega (arith, ap length (left.file_all v)); passed = omega (arith, left.passed_all v) }
 
-module _ (p : List ℕ) (whole : length p ≡ 16384) (ok : sound (view p) ≡ true) (k : ℕ) (m : Sums) (h : MeasuredTo (view p) k m) where
+module _ (p : List ℕ) (whole : length p ≡ 16384) (ok : sound (view p) ≡ true) (k : ℕ) (m : Exported) (h : MeasuredTo (view p) k m) where
   -- a page's numbers are small
   short : (length (page_file (opened (view p))) ≤ 16372) × (page_passed (opened (view p)) ≤ 2046)
   short =
@@ -54,7 +54,7 @@ module _ (p : List ℕ) (whole : length p ≡ 16384) (ok : sound (view p) ≡ tr
     pub measured_room : (m.length + part_length a < 2 ^ 63) × (m.passed + part_passed a < 2 ^ 63)
     measured_room = let l = next_length in let n = next_passed in let s = short in (omega arith, omega arith)
 
-    pub measured_next : (r : Sums) → (r.length ≡ m.length + part_length a) × (r.passed ≡ m.passed + part_passed a) → MeasuredTo (view p) (k + 1) r
+    pub measured_next : (r : Exported) → (r.length ≡ m.length + part_length a) × (r.passed ≡ m.passed + part_passed a) → MeasuredTo (view p) (k + 1) r
     measured_next r e = let l = next_length in let n = next_passed in record { length = omega arith; passed = omega arith }
 
   pub measured_all : (view p).slot_count ≤ k → PageSums (opened (view p)) m
@@ -66,16 +66,16 @@ module _ (p : List ℕ) (whole : length p ≡ 16384) (ok : sound (view p) ≡ tr
 
 -- ---- the pages of a segment, up to p
 
-pub record PagesTo (s : List ℕ) (p l n : ℕ) : Type 0 where
+pub record PagesTo (s : List ℕ) (p : ℕ) (m : Exported) : Type 0 where
   pub sounds : (q : ℕ) → q < p → sound (view (page_of s q)) ≡ true
-  pub length : l + length (left.pages_file (seg_view s) p) ≡ length (segment_file (seg_view s))
-  pub passed : n + left.pages_passed (seg_view s) p ≡ passed_over (records (seg_view s))
-  pub short : l ≤ p * 16384
-  pub few : n ≤ p * 16384
+  pub length : m.length + length (left.pages_file (seg_view s) p) ≡ length (segment_file (seg_view s))
+  pub passed : m.passed + left.pages_passed (seg_view s) p ≡ passed_over (records (seg_view s))
+  pub short : m.length ≤ p * 16384
+  pub few : m.passed ≤ p * 16384
 
 module _ (s : List ℕ) where
-  pub pages_none : PagesTo s 0 0 0
-  pages_none =
+  pub pages_none : (t : Exported) → (t.length ≡ 0) × (t.passed ≡ 0) → PagesTo s 0 t
+  pages_none t e =
       let u = seg_view s in
       record {
         sounds = λ q l. absurd (omega arith);
@@ -85,9 +85,9 @@ module _ (s : List ℕ) where
         few = omega arith;
       }
 
-  pub pages_next : (p l n : ℕ) → PagesTo s p l n → p < length s / 16384 → sound (view (page_of s p)) ≡ true
-      → (m : Sums) → PageSums (opened (view (page_of s p))) m → PagesTo s (p + 1) (l + m.length) (n + m.passed)
-  pages_next p l n h below ok m g =
+  pub pages_next : (p : ℕ) (t : Exported) → PagesTo s p t → p < length s / 16384 → sound (view (page_of s p)) ≡ true
+      → (m : Exported) → PageSums (opened (view (page_of s p))) m → PagesTo s (p + 1) record { length = t.length + m.length; passed = t.passed + m.passed }
+  pages_next p t h below ok m g =
       let u = seg_view s in
       let w = seen_page s p in
       let inside : p < u.pages = omega (arith, seen_pages s) in
@@ -101,17 +101,15 @@ module _ (s : List ℕ) where
         few = omega arith;
       }
 
-  pub pages_stop : (p l n : ℕ) → p < length s / 16384 → sound (view (page_of s p)) ≡ false
-      → Measured (seg_view s) record { sound = false; length = l; passed = n }
-  pages_stop p l n below d =
-      record { sound = sym (damaged s record { on = p; below = below; unsound = d }); length = λ e. never e refl; passed = λ e. never e refl }
+  pub pages_stop : (p : ℕ) → p < length s / 16384 → sound (view (page_of s p)) ≡ false → all_sound (seg_view s) ≡ false
+  pages_stop p below d = damaged s record { on = p; below = below; unsound = d }
 
-  pub pages_all : (p l n : ℕ) → PagesTo s p l n → p ≡ length s / 16384 → Measured (seg_view s) record { sound = true; length = l; passed = n }
-  pages_all p l n h e =
+  pub pages_all : (p : ℕ) (t : Exported) → PagesTo s p t → p ≡ length s / 16384 → SegmentSums (seg_view s) t
+  pages_all p t h e =
       let u = seg_view s in
       let end : u.pages ≤ p = omega (arith, seen_pages s) in
       record {
-        sound = sym (sound_each s (λ q below. h.sounds q (omega arith)));
-        length = λ t. omega (arith, ap length (left.pages_none u p end));
-        passed = λ t. omega (arith, left.pages_passed_none u p end);
+        sound = sound_each s (λ q below. h.sounds q (omega arith));
+        length = omega (arith, ap length (left.pages_none u p end));
+        passed = omega (arith, left.pages_passed_none u p end);
       }

@@ -1,32 +1,42 @@
 -- Words for the contracts: what stands at a place of a file, and the readings and the file's bytes of a slot, a page and a segment.
-use Rattle.std.specs.Prelude.{ℕ, ◌+◌, ◌-◌, ◌≤◌, ◌≡◌, true, cond, List, [], ◌∷◌, ◌++◌, length, drop, ltb}
+use Rattle.std.specs.Prelude.{ℕ, ◌+◌, ◌-◌, ◌≤◌, ◌≡◌, true, false, Option, Some, None, Result, Ok, Err, cond, List, [], ◌∷◌, ◌++◌, length, drop, ltb}
 use Rattle.store.specs.Numbers.{cut, to_be}
 use Rattle.store.specs.Page.{View}
 use Rattle.store.specs.Refusals.{DONE, LONG}
 use Rattle.store.specs.Segment.{SegView}
 use Rattle.store.specs.Records.{page_entries, records, rows_in}
 use Rattle.store.specs.Report.{all_sound}
+use Rattle.store.specs.Answers.{told_no}
 use Rattle.store.specs.declared.Slot.{Slot}
 use Rattle.store.specs.declared.Slot.TheVariants.{Ordinary, Free, Redirect, Target}
 use Rattle.exchange.specs.Exchange.{MARK, SHORT, Parsed, wrong, holds, and_record, parse, file_record, file_of, readings, passed_over}
-use Rattle.exchange.specs.declared.format.Next.{Next}
-use Rattle.exchange.specs.declared.format.Next.TheVariants as next
-use Rattle.exchange.specs.declared.format.Format.{Format}
-use Rattle.exchange.specs.declared.format.Format.TheVariants as format
+use Rattle.exchange.specs.declared.format.Record.{Record}
+use Rattle.exchange.specs.declared.format.Fault.{Fault}
+use Rattle.exchange.specs.declared.format.Fault.TheVariants as fault
+use Rattle.exchange.specs.declared.ImportRefusal.{ImportRefusal}
+use Rattle.exchange.specs.declared.ImportRefusal.TheVariants as import
 use Rattle.exchange.specs.declared.parts.Part.{Part}
 use Rattle.exchange.specs.declared.parts.Part.TheVariants as part
-use Rattle.exchange.specs.declared.measure.Sums.{Sums}
-use Rattle.exchange.specs.declared.measure.Measure.{Measure}
+use Rattle.exchange.specs.declared.Exported.{Exported}
 
 -- ---- reading
 
+-- the number of a file's refusal, and the refusal that an import answers
+abbrev pub fault_number : Fault → ℕ
+fault_number fault.Short = SHORT
+fault_number fault.Mark = MARK
+fault_number fault.Long = LONG
+
+abbrev pub of_fault : Fault → ImportRefusal
+of_fault fault.Short = import.Short
+of_fault fault.Mark = import.Mark
+of_fault fault.Long = import.Long
+
 -- what a file holds from a place on, by what stands there
-abbrev pub follows : List ℕ → Next → Parsed
-follows f (next.Record h d e) = and_record (to_be 8 h ++ cut f d (e - d)) (parse (drop e f))
-follows f next.End = holds []
-follows f next.Short = wrong SHORT
-follows f next.Mark = wrong MARK
-follows f next.Long = wrong LONG
+abbrev pub follows : List ℕ → Result (Option Record) Fault → Parsed
+follows f (Ok (Some r)) = and_record (to_be 8 r.head ++ cut f r.data (r.end - r.data)) (parse (drop r.end f))
+follows f (Ok None) = holds []
+follows f (Err e) = wrong (fault_number e)
 
 -- the data of a record at `at` are the bytes of the file from d to e
 pub record Inside (f : List ℕ) (at d e : ℕ) : Type 0 where
@@ -35,23 +45,18 @@ pub record Inside (f : List ℕ) (at d e : ℕ) : Type 0 where
   pub short : e ≤ d + 16356
   pub within : e ≤ length f
 
-abbrev pub Lies : List ℕ → ℕ → Next → Type 0
-Lies f at (next.Record h d e) = Inside f at d e
-Lies f at next.End = Unit {0}
-Lies f at next.Short = Unit {0}
-Lies f at next.Mark = Unit {0}
-Lies f at next.Long = Unit {0}
+abbrev pub Lies : List ℕ → ℕ → Result (Option Record) Fault → Type 0
+Lies f at (Ok (Some r)) = Inside f at r.data r.end
+Lies f at (Ok None) = Unit {0}
+Lies f at (Err e) = Unit {0}
 
 -- 0, or the number of a file's refusal
 abbrev pub fault_of : Parsed → ℕ
 fault_of (wrong a) = a
 fault_of (holds rs) = DONE
 
-abbrev pub format_no : Format → ℕ
-format_no format.Whole = DONE
-format_no format.Short = SHORT
-format_no format.Mark = MARK
-format_no format.Long = LONG
+abbrev pub format_no : Result (Unit {0}) Fault → ℕ
+format_no r = told_no fault_number r
 
 -- ---- writing
 
@@ -111,14 +116,18 @@ abbrev pub segment_file : SegView → List ℕ
 segment_file u = file_of (readings (records u))
 
 -- they are measured; a page's file is no longer than its page
-pub record PageSums (v : View) (r : Sums) : Type 0 where
+pub record PageSums (v : View) (r : Exported) : Type 0 where
   pub length : r.length ≡ length (page_file v)
   pub passed : r.passed ≡ page_passed v
   pub short : r.length ≤ 16372
   pub few : r.passed ≤ 2046
 
--- of a segment, if its pages are sound; if they are not, its caller asks for no number
-pub record Measured (u : SegView) (r : Measure) : Type 0 where
-  pub sound : r.sound ≡ all_sound u
-  pub length : r.sound ≡ true → r.length ≡ length (segment_file u)
-  pub passed : r.sound ≡ true → r.passed ≡ passed_over (records u)
+-- of a segment, if its pages are sound
+pub record SegmentSums (u : SegView) (r : Exported) : Type 0 where
+  pub sound : all_sound u ≡ true
+  pub length : r.length ≡ length (segment_file u)
+  pub passed : r.passed ≡ passed_over (records u)
+
+abbrev pub Measured : SegView → Option Exported → Type 0
+Measured u (Some r) = SegmentSums u r
+Measured u None = all_sound u ≡ false

@@ -12,89 +12,63 @@ pub const AROUND: usize = 4;
 // The most data that a record has.
 const LONGEST_DATA: usize = 16356;
 
-// What stands at a place of the file: a record, by mirror, reading and row as one number, and the part of the file that is its data; the
-// file's end; or what is wrong with it.
+// A record of the file: mirror, reading and row as one number, and the part of the file that is its data.
 #[derive(Clone, Copy)]
-pub enum Next {
-    Record {
-        head: usize,
-        data: usize,
-        end: usize,
-    },
-    End,
+pub struct Record {
+    pub head: usize,
+    pub data: usize,
+    pub end: usize,
+}
+
+// What is wrong with a file.
+#[derive(Clone, Copy)]
+pub enum Fault {
     Short,
     Mark,
     Long,
 }
 
-// What is wrong with a file, if anything.
-#[derive(Clone, Copy)]
-pub enum Format {
-    Whole,
-    Short,
-    Mark,
-    Long,
-}
-
-// "13 SHORT when fewer than 12 bytes are left, 12 MARK for another mark, 3 for a length above 16,356, 13 again when the data is cut off"
-pub fn record_at(file: &[u8], at: usize) -> Next
+// The record at a place of the file, none at its end; or what is wrong there: "13 SHORT when fewer than 12 bytes are left, 12 MARK for
+// another mark, 3 for a length above 16,356, 13 again when the data is cut off".
+pub fn record_at(file: &[u8], at: usize) -> Result<Option<Record>, Fault>
     requires { at ≤ length file.now }
     ensures { (parse (drop at file.now) ≡ follows file.now result) × Lies file.now at result }
 {
     let left = file.len() - at;
     if left == 0 {
-        return Next::End;
+        return Ok(None);
     }
     if left < BEFORE {
-        return Next::Short;
+        return Err(Fault::Short);
     }
     if file[at] != 0x52 {
-        return Next::Mark;
+        return Err(Fault::Mark);
     }
     if file[at + 1] != 0x54 {
-        return Next::Mark;
+        return Err(Fault::Mark);
     }
     let length = layout::get_u16(file, at + 10);
     if LONGEST_DATA < length {
-        return Next::Long;
+        return Err(Fault::Long);
     }
     if left - BEFORE < length {
-        return Next::Short;
+        return Err(Fault::Short);
     }
     let data = at + BEFORE;
-    Next::Record {
+    Ok(Some(Record {
         head: layout::get_u64(file, at + 2),
         data,
         end: data + length,
-    }
+    }))
 }
 
 // "Import reads the file through before inserting anything".
-pub fn read_through(file: &[u8]) -> Format
+pub fn read_through(file: &[u8]) -> Result<(), Fault>
     ensures { format_no result ≡ fault_of (parse file.now) }
 {
     let mut at = 0;
-    loop {
-        match record_at(file, at) {
-            Next::Record {
-                head: _,
-                data: _,
-                end,
-            } => {
-                at = end;
-            }
-            Next::End => {
-                return Format::Whole;
-            }
-            Next::Short => {
-                return Format::Short;
-            }
-            Next::Mark => {
-                return Format::Mark;
-            }
-            Next::Long => {
-                return Format::Long;
-            }
-        }
+    while let Some(record) = record_at(file, at)? {
+        at = record.end;
     }
+    Ok(())
 }

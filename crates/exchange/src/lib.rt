@@ -12,34 +12,56 @@ ghost use Rattle.store.specs.Refusals.{DONE};
 ghost use Rattle.store.specs.Segment.{size_ok, inv_ok};
 ghost use Rattle.exchange.specs.Exchange.{parse, without_ids, insert_parsed, import_step, export_step};
 ghost use Rattle.exchange.specs.Told.{imported, ByInsert, exported};
-ghost use Rattle.exchange.specs.Words.{fault_of};
+ghost use Rattle.exchange.specs.Words.{of_fault, fault_of};
 
-use format::{Format, Next};
-use segment_insert::rows::REMEMBERED;
-use store::Answer;
+use format::Fault;
+use segment_insert::row::Headed;
+use segment_insert::rows::{REMEMBERED, insert_row};
+use store::Refusal;
 
-// What an import answers: how many records went in, or a refusal of the whole file; or where it stopped, with that insert's answer.
+// Why an import is refused: the whole file; or where it stopped, after so many records, with that insert's refusal.
 #[derive(Clone, Copy)]
-pub enum Imported {
-    Done { records: usize },
+pub enum ImportRefusal {
     Size,
     Short,
     Mark,
     Long,
-    Stopped { records: usize, answer: Answer },
+    Stopped { records: usize, refusal: Refusal },
 }
 
-// What an export answers: the file's length, and how many records are no readings.
+impl From<Fault> for ImportRefusal {
+    ghost from_gives = { λ f r. r ≡ of_fault f };
+
+    fn from(fault: Fault) -> ImportRefusal {
+        match fault {
+            Fault::Short => ImportRefusal::Short,
+            Fault::Mark => ImportRefusal::Mark,
+            Fault::Long => ImportRefusal::Long,
+        }
+    }
+}
+
+// What is exported: the file's length, and how many records are passed over, which are no readings.
+#[derive(Clone, Copy, Default)]
+pub struct Exported {
+    pub length: usize,
+    pub passed: usize,
+}
+
+// Why an export is refused; with what it would be, where the place is too short.
 #[derive(Clone, Copy)]
-pub enum Exported {
-    Done { length: usize, passed: usize },
+pub enum ExportRefusal {
     Size,
     Damaged,
-    Room { length: usize, passed: usize },
+    Room(Exported),
 }
 
 // The records of a file that was read through: "then goes on as Ask 2 does, without id places".
-fn insert_file(segment: &mut [u8], inventory: &mut [u8], file: &[u8]) -> Imported
+fn insert_file(
+    segment: &mut [u8],
+    inventory: &mut [u8],
+    file: &[u8],
+) -> Result<usize, ImportRefusal>
     requires inventory_value { (size_ok segment.old && inv_ok inventory.old) ≡ true }
     requires file_value { fault_of (parse file.now) ≡ DONE }
     ensures { (imported result segment.new inventory.new
@@ -48,60 +70,47 @@ fn insert_file(segment: &mut [u8], inventory: &mut [u8], file: &[u8]) -> Importe
 {
     let mut known = [0usize; REMEMBERED];
     let mut at = 0;
-    let mut k = 0;
-    loop {
-        let next = format::record_at(file, at);
-        let Next::Record { head, data, end } = next else {
-            return Imported::Done { records: k };
+    let mut records = 0;
+    while let Some(record) = format::record_at(file, at)? {
+        let row = Headed {
+            head: record.head,
+            bytes: &file[record.data..record.end],
         };
-        let answer = segment_insert::rows::insert_headed(
-            segment,
-            inventory,
-            &mut known,
-            head,
-            &file[data..end],
-        );
-        let Answer::Done { id: _ } = answer else {
-            return Imported::Stopped { records: k, answer };
-        };
-        at = end;
-        k += 1;
+        if let Err(refusal) = insert_row(segment, inventory, &mut known, &row) {
+            return Err(ImportRefusal::Stopped { records, refusal });
+        }
+        at = record.end;
+        records += 1;
     }
+    Ok(records)
 }
 
 // "Refusals: 1, then record by record in file order .., all before any insert; then each insert's own."
-pub fn import(segment: &mut [u8], inventory: &mut [u8], file: &[u8]) -> Imported
+pub fn import(segment: &mut [u8], inventory: &mut [u8], file: &[u8]) -> Result<usize, ImportRefusal>
     ensures { (imported result segment.new inventory.new
         ≡ import_step segment.old inventory.old file.now)
         × ByInsert result }
 {
     if !segment_pages::sizes_ok(segment, inventory) {
-        return Imported::Size;
+        return Err(ImportRefusal::Size);
     }
-    match format::read_through(file) {
-        Format::Whole => insert_file(segment, inventory, file),
-        Format::Short => Imported::Short,
-        Format::Mark => Imported::Mark,
-        Format::Long => Imported::Long,
-    }
+    format::read_through(file)?;
+    insert_file(segment, inventory, file)
 }
 
 // "Export: 1, then 4 for a page that is not sound, then 11 when the lent place is too short, and it writes nothing then."
-pub fn export(segment: &[u8], file: &mut [u8]) -> Exported
+pub fn export(segment: &[u8], file: &mut [u8]) -> Result<Exported, ExportRefusal>
     ensures { exported result file.new ≡ export_step segment.now file.old }
 {
     if !segment_pages::is_segment(segment) {
-        return Exported::Size;
+        return Err(ExportRefusal::Size);
     }
-    let m = measure::measure_segment(segment);
-    if !m.sound {
-        return Exported::Damaged;
-    }
-    let length = m.length;
-    let passed = m.passed;
-    if file.len() < length {
-        return Exported::Room { length, passed };
+    let Some(sums) = measure::measure_segment(segment) else {
+        return Err(ExportRefusal::Damaged);
+    };
+    if file.len() < sums.length {
+        return Err(ExportRefusal::Room(sums));
     }
     write::write_file(segment, file);
-    Exported::Done { length, passed }
+    Ok(sums)
 }

@@ -1,92 +1,60 @@
 // How long the file is: each page is checked and measured before a byte is written.
-ghost use Rattle.std.specs.Prelude.{◌≡◌, true, ◌+◌, ◌^◌, ◌<◌, length};
+ghost use Rattle.std.specs.Prelude.{◌≡◌, true, ◌+◌, ◌^◌, ◌<◌};
 ghost use Rattle.store.specs.Page.{view, sound};
 ghost use Rattle.store.specs.PageSteps.{opened};
 ghost use Rattle.store.specs.Segment.{seg_view, size_ok};
 ghost use Rattle.exchange.specs.Words.{part_length, part_passed, PageSums, Measured};
 
+use crate::Exported;
 use crate::format::AROUND;
-use crate::parts::Part;
+use crate::parts::{Part, part_on};
 use segment_pages::page_of;
-use store::PAGE_SIZE;
-
-// The bytes that readings take in the file, and how many records are passed over.
-#[derive(Clone, Copy)]
-pub struct Sums {
-    pub length: usize,
-    pub passed: usize,
-}
-
-// The same of a segment, if its pages are sound.
-#[derive(Clone, Copy)]
-pub struct Measure {
-    pub sound: bool,
-    pub length: usize,
-    pub passed: usize,
-}
+use store::{PAGE_SIZE, Page};
 
 // One slot more.
-fn with_part(m: Sums, part: Part) -> Sums
-    requires { (m.length + part_length part < 2 ^ 63) × (m.passed + part_passed part < 2 ^ 63) }
-    ensures { (result.length ≡ m.length + part_length part) × (result.passed ≡ m.passed + part_passed part) }
+fn with_part(sums: Exported, part: Part) -> Exported
+    requires { (sums.length + part_length part < 2 ^ 63) × (sums.passed + part_passed part < 2 ^ 63) }
+    ensures { (result.length ≡ sums.length + part_length part) × (result.passed ≡ sums.passed + part_passed part) }
 {
     match part {
-        Part::Reading { offset: _, length } => Sums {
-            length: m.length + (length + AROUND),
-            passed: m.passed,
+        Part::Reading { length, .. } => Exported {
+            length: sums.length + (length + AROUND),
+            ..sums
         },
-        Part::Passed => Sums {
-            length: m.length,
-            passed: m.passed + 1,
+        Part::Passed => Exported {
+            passed: sums.passed + 1,
+            ..sums
         },
-        Part::Nothing => m,
+        Part::Nothing => sums,
     }
 }
 
 // The slots of a page that is sound; a fresh one has none.
-fn measure_page(page: &[u8]) -> Sums
-    requires { (length page.now ≡ 16384) × (sound (view page.now) ≡ true) }
+fn measure_page(page: &Page) -> Exported
+    requires { sound (view page.now) ≡ true }
     ensures { PageSums (opened (view page.now)) result }
 {
-    let n = layout::header::get_slot_count(page);
-    let mut m = Sums {
-        length: 0,
-        passed: 0,
-    };
-    let mut k = 0;
-    while k < n {
-        m = with_part(m, crate::parts::part_of(layout::slots::get_slot(page, k)));
-        k += 1;
+    let mut sums = Exported::default();
+    for k in 0..layout::header::get_slot_count(page) {
+        sums = with_part(sums, part_on(page, k));
     }
-    m
+    sums
 }
 
-// Page by page, up to the first that is not sound.
-pub fn measure_segment(segment: &[u8]) -> Measure
+// Page by page; none where a page is not sound.
+pub fn measure_segment(segment: &[u8]) -> Option<Exported>
     requires { size_ok segment.now ≡ true }
     ensures { Measured (seg_view segment.now) result }
 {
-    let n = segment.len() / PAGE_SIZE;
-    let mut length = 0;
-    let mut passed = 0;
-    let mut p = 0;
-    while p < n {
+    let mut sums = Exported::default();
+    for p in 0..segment.len() / PAGE_SIZE {
         let page = page_of(segment, p);
         if !page_check::is_sound(page) {
-            return Measure {
-                sound: false,
-                length,
-                passed,
-            };
+            return None;
         }
-        let m = measure_page(page);
-        length += m.length;
-        passed += m.passed;
-        p += 1;
+        let more = measure_page(page);
+        sums.length += more.length;
+        sums.passed += more.passed;
     }
-    Measure {
-        sound: true,
-        length,
-        passed,
-    }
+    Some(sums)
 }

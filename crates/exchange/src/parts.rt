@@ -1,10 +1,11 @@
 // What of a page goes into the file: "A record shorter than 8 bytes is not a reading, and export passes over it".
-ghost use Rattle.std.specs.Prelude.{◌≡◌, true, ◌≤◌};
+ghost use Rattle.std.specs.Prelude.{◌≡◌, true, ◌≤◌, ◌<◌};
+ghost use Rattle.store.specs.Page.{view, sound};
 ghost use Rattle.store.specs.Slots.{len, is_target};
 ghost use Rattle.store.specs.Laws.Slots.{Codable};
-ghost use Rattle.exchange.specs.Words.{part_at, part_of_slot};
+ghost use Rattle.exchange.specs.Words.{part_at, part_of_slot, OnPage};
 
-use store::{BACK, Slot};
+use store::{BACK, Page, Slot};
 
 // Mirror, reading and row.
 pub const HEAD: usize = 8;
@@ -35,8 +36,15 @@ pub fn part_of(s: Slot) -> Part
 {
     match s {
         Slot::Ordinary { offset, length } => part_at(offset, length),
-        Slot::Free => Part::Nothing,
-        Slot::Redirect { id: _ } => Part::Nothing,
+        Slot::Free | Slot::Redirect { .. } => Part::Nothing,
         Slot::Target { offset, length } => part_at(offset + BACK, length - BACK),
     }
+}
+
+// Slot k of a page that is sound. For crates above, too.
+pub fn part_on(page: &Page, k: usize) -> Part
+    requires { (sound (view page.now) ≡ true) × (k < (view page.now).slot_count) }
+    ensures { (result ≡ part_of_slot ((view page.now).at k)) × OnPage page.now result }
+{
+    part_of(layout::slots::get_slot(page, k))
 }

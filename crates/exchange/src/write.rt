@@ -9,12 +9,12 @@ ghost use Rattle.exchange.specs.Exchange.{file_record};
 ghost use Rattle.exchange.specs.Words.{Reads, OnPage, part_length, part_file, page_file, segment_file};
 
 use crate::format::{AROUND, BEFORE};
-use crate::parts::{HEAD, Part};
+use crate::parts::{HEAD, Part, part_on};
 use segment_pages::page_of;
-use store::PAGE_SIZE;
+use store::{PAGE_SIZE, Page};
 
 // The reading of these bytes of the page.
-fn write_reading(file: &mut [u8], at: usize, page: &[u8], offset: usize, n: usize)
+fn write_reading(file: &mut [u8], at: usize, page: &Page, offset: usize, n: usize)
     requires reads { Reads page.now offset n }
     requires n_in_bounds { at + (n + 4) ≤ length file.old }
     ensures { file.new ≡ put file.old at (file_record (cut page.now offset n)) }
@@ -27,7 +27,7 @@ fn write_reading(file: &mut [u8], at: usize, page: &[u8], offset: usize, n: usiz
 }
 
 // What a slot of the page is in the file; where the file goes on behind it.
-fn write_part(file: &mut [u8], at: usize, page: &[u8], part: Part) -> usize
+fn write_part(file: &mut [u8], at: usize, page: &Page, part: Part) -> usize
     requires on_page { OnPage page.now part }
     requires part_in_bounds { at + part_length part ≤ length file.old }
     ensures { (file.new ≡ put file.old at (part_file page.now part)) × (result ≡ at + part_length part) }
@@ -37,25 +37,20 @@ fn write_part(file: &mut [u8], at: usize, page: &[u8], part: Part) -> usize
             write_reading(file, at, page, offset, length);
             at + (length + AROUND)
         }
-        Part::Passed => at,
-        Part::Nothing => at,
+        Part::Passed | Part::Nothing => at,
     }
 }
 
 // The slots of a page that is sound.
-fn write_page(file: &mut [u8], at: usize, page: &[u8]) -> usize
-    requires page_len { (length page.now ≡ 16384) × (sound (view page.now) ≡ true) }
+fn write_page(file: &mut [u8], at: usize, page: &Page) -> usize
+    requires page_sound { sound (view page.now) ≡ true }
     requires page_in_bounds { at + length (page_file (opened (view page.now))) ≤ length file.old }
     ensures { (file.new ≡ put file.old at (page_file (opened (view page.now))))
         × (result ≡ at + length (page_file (opened (view page.now)))) }
 {
-    let n = layout::header::get_slot_count(page);
     let mut to = at;
-    let mut k = 0;
-    while k < n {
-        let part = crate::parts::part_of(layout::slots::get_slot(page, k));
-        to = write_part(file, to, page, part);
-        k += 1;
+    for k in 0..layout::header::get_slot_count(page) {
+        to = write_part(file, to, page, part_on(page, k));
     }
     to
 }
@@ -66,11 +61,8 @@ pub fn write_file(segment: &[u8], file: &mut [u8])
     requires segment_in_bounds { length (segment_file (seg_view segment.now)) ≤ length file.old }
     ensures { file.new ≡ put file.old 0 (segment_file (seg_view segment.now)) }
 {
-    let n = segment.len() / PAGE_SIZE;
     let mut at = 0;
-    let mut p = 0;
-    while p < n {
+    for p in 0..segment.len() / PAGE_SIZE {
         at = write_page(file, at, page_of(segment, p));
-        p += 1;
     }
 }

@@ -1,22 +1,46 @@
 -- The slots of a page counted: parts of sums are small, and one slot more.
-use Prim.Native.Nat.{ℕ, suc, ◌+◌, ◌-◌, ◌≤◌, ◌<◌}
-use mathlib.Core.Path.{◌≡◌, refl}
+use Prim.Native.Nat.{ℕ, zero, suc, ◌+◌, ◌-◌, ◌≤◌, ◌<◌}
+use mathlib.Core.Path.{◌≡◌, refl, sym, ap, ◌∙◌}
+use mathlib.Core.List.{[], ◌∷◌, map}
 use mathlib.Core.Bool.{Bool, true, false, cond}
+use lib.ListN.{get_or}
+use lib.Seq.{ext_get_or}
+use lib.Dec.{eqb}
 use native.Mathlib.Numerals.{add-one}
 use native.Mathlib.Omega.{arith}
 use borrow.Author.Rules.{rules}
-use Rattle.store.specs.Numbers.{sum}
+use Rattle.store.specs.Numbers.{sum, zeros, one}
 use Rattle.store.specs.Slots.{len, is_record, is_target}
 use Rattle.store.specs.Page.{View, fresh}
 use Rattle.store.specs.PageSteps.{opened}
 use Rattle.store.specs.Inventory.{class_of}
-use Rattle.store.specs.Report.{bytes_in}
-use Rattle.store.proofs.Laws.Classes.{class_top}
+use Rattle.store.specs.SoundSegment.{nibble_of}
+use Rattle.store.specs.Report.{bytes_in, fresh_of, slots_of, records_of, bytes_of, forwarded_of, free_of, classes_from}
 use Rattle.store.specs.Laws.Views.{Sound}
 use Rattle.store.proofs.Laws.Views.{sum_few, sum_within}
 use Rattle.store.specs.declared.Slot.{Slot}
-use Rattle.fill_report.specs.Words.{Room, WithSlot, SlotsTo, Fills}
+use Rattle.store.specs.declared.Tally.{Tally}
+use Rattle.std.specs.Array.{AllOfLen}
+use Rattle.fill_report.specs.Words.{Room, WithSlot, SlotsTo, AtMost, class_is, Fills}
 use Rattle.fill_report.specs.declared.page.Counts.{Counts}
+
+-- ---- nothing counted yet
+
+abbrev pub nothing : Tally
+nothing = record { pages = 0; fresh_pages = 0; slots = 0; records = 0; record_bytes = 0; forwarded = 0; free_bytes = 0; classes = zeros 16 }
+
+zero_at : (n i : ℕ) → get_or (zeros n) i 0 ≡ 0
+zero_at zero i = refl
+zero_at (suc n) zero = refl
+zero_at (suc n) (suc i) = zero_at n i
+
+pub default_is : (t : Tally)
+    → (t.pages ≡ 0) × ((t.fresh_pages ≡ 0) × ((t.slots ≡ 0) × ((t.records ≡ 0) × ((t.record_bytes ≡ 0) × ((t.forwarded ≡ 0) × ((t.free_bytes ≡ 0)
+    × AllOfLen (λ x. x ≡ 0) t.classes 16))))))
+    → t ≡ nothing
+default_is t (a, (b, (c, (d, (e, (f, (g, h))))))) =
+    let z = ext_get_or 0 t.classes (zeros 16) h.long (λ i l. h.at i 0 (omega (arith, h.long)) ∙ sym (zero_at 16 i)) in
+    λ i. record { pages = a i; fresh_pages = b i; slots = c i; records = d i; record_bytes = e i; forwarded = f i; free_bytes = g i; classes = z i }
 
 -- ---- the slots of a sound page
 
@@ -49,25 +73,50 @@ module _ (v : View) (k : ℕ) {c : Counts} (so_far : SlotsTo v k c) where
 
 -- ---- a page: fresh, or in use
 
+-- one class of sixteen
+class_most : (m c k : ℕ) → AtMost 65536 (class_is m c k)
+class_most zero c k = tt
+class_most (suc m) c k = (small (eqb k c), class_most m (c + 1) k)
+  where
+    small : (b : Bool) → one b ≤ 65536
+    small true = omega arith
+    small false = omega arith
+
+class_figures : (v : View) (m c k : ℕ) → k ≡ nibble_of v → class_is m c k ≡ map (λ g. g v) (classes_from m c)
+class_figures v zero c k e = refl
+class_figures v (suc m) c k e = rw e (ap (λ l. one (eqb (nibble_of v) c) ∷ l) (rw (sym e) (class_figures v m (c + 1) k e)))
+
+-- the page's figures one by one, each small
+module _ (v : View) {a b c d e f k : ℕ} (fresh : a ≡ fresh_of v) (slots : b ≡ slots_of v) (records : c ≡ records_of v) (bytes : d ≡ bytes_of v)
+    (forwarded : e ≡ forwarded_of v) (free : f ≡ free_of v) (class : k ≡ nibble_of v) (small : AtMost 65536 (a ∷ b ∷ c ∷ d ∷ e ∷ f ∷ [])) where
+  fills : Fills v
+      (record { pages = 1; fresh_pages = a; slots = b; records = c; record_bytes = d; forwarded = e; free_bytes = f; classes = class_is 16 0 k })
+  fills =
+      record {
+        figures = rw (fresh, slots, records, bytes, forwarded, free)
+            (ap (λ l. 1 ∷ fresh_of v ∷ slots_of v ∷ records_of v ∷ bytes_of v ∷ forwarded_of v ∷ free_of v ∷ l) (class_figures v 16 0 k class));
+        small = let s = small in (omega arith, (s.0, (s.1.0, (s.1.1.0, (s.1.1.1.0, (s.1.1.1.1.0, (s.1.1.1.1.1.0, class_most 16 0 k)))))));
+      }
+
 pub fills_fresh : (v : View) → fresh v ≡ true
-    → Fills (opened v) (record { fresh = 1; slots = 0; records = 0; bytes = 0; forwarded = 0; free = 0; class = 0 })
-fills_fresh v f = rw f (search rules)
+    → Fills (opened v)
+    (record { pages = 1; fresh_pages = 1; slots = 0; records = 0; record_bytes = 0; forwarded = 0; free_bytes = 0; classes = class_is 16 0 0 })
+fills_fresh v f = rw f (fills _ refl refl refl refl refl refl refl (search rules))
 
 module _ (v : View) (f : fresh v ≡ false) (sound : Sound v) {n free class : ℕ} {c : Counts} (count : n ≡ v.slot_count) (slots : SlotsTo v n c)
     (space : free ≡ v.free_space) (of : class ≡ class_of (16372 - free)) where
   pub fills_used : Fills (opened v)
-      (record { fresh = 0; slots = n; records = c.records; bytes = c.bytes; forwarded = c.forwarded; free = free; class = class })
+      (record {
+        pages = 1;
+        fresh_pages = 0;
+        slots = n;
+        records = c.records;
+        record_bytes = c.bytes;
+        forwarded = c.forwarded;
+        free_bytes = free;
+        classes = class_is 16 0 class;
+      })
   fills_used =
       let all = rw count at slots in
       let small = few v v.slot_count all in
-      let top = class_top (16372 - free) in
-      rw f (record {
-        fresh = rw f refl;
-        slots = count;
-        records = all.records;
-        bytes = all.bytes;
-        forwarded = all.forwarded;
-        free = rw f space;
-        class = rw (f, ← space) of;
-        small = search rules;
-      })
+      rw f (fills v (rw f refl) count all.records all.bytes all.forwarded (rw f space) (rw (f, ← space) of) (search rules))

@@ -1,69 +1,59 @@
--- Sums of tallies, figure by figure: what stands in one, when each figure fits, and a page more.
-use Prim.Native.Nat.{ℕ, zero, suc, ◌+◌, ◌-◌, ◌^◌, ◌≤◌, ◌<◌}
+-- Sums of tallies, figure by figure: when each fits, and bounds.
+use Prim.Native.Nat.{ℕ, ◌+◌, ◌^◌, ◌≤◌, ◌<◌}
 use mathlib.Core.Path.{◌≡◌, refl, sym, ap, ◌∙◌}
-use mathlib.Core.Bool.{Bool, true, false, ◌&&◌}
+use mathlib.Core.Bool.{true, false}
 use mathlib.Core.List.{List, [], ◌∷◌}
-use mathlib.Core.Logic.{⊎_elim}
-use native.Mathlib.Numerals.{add-one}
 use native.Mathlib.Omega.{arith}
-use lib.ListN.{length, get_or, set, drop}
-use lib.Seq.{ext_get_or, get_or-set_same, get_or-set_other}
-use lib.Dec.{ltb, leb}
-use borrow.Author.Tests.{lt-ltb, le-ltb, le-leb, lt-leb, eq-eqb, ne_eqb}
-use Rattle.store.specs.Report.{added, all_fit}
-use Rattle.store.proofs.Laws.Cases.{lt_or_le, eq_or_ne}
-use Rattle.store.proofs.Laws.SoundPage.{and_both}
-use Rattle.store.proofs.Laws.Report.{length_added, get_d_added}
-use Rattle.fill_report.specs.Words.{AtMost, class_is}
-
--- ---- the sum
-
--- a list that has each sum is theirs; one turn of the loop that writes it
-pub added_is : (xs ys r : List ℕ) → length r ≡ length xs → ((i : ℕ) → i < length xs → get_or r i 0 ≡ get_or xs i 0 + get_or ys i 0) → r ≡ added xs ys
-added_is xs ys r l h = ext_get_or 0 r (added xs ys) (l ∙ sym (length_added xs ys)) (λ i m. omega (arith, h i (omega arith), get_d_added xs ys i (omega arith)))
-
-pub added_turn : (a b r : List ℕ) (i : ℕ) → i < length r → ((k : ℕ) → k < i → get_or r k 0 ≡ get_or a k 0 + get_or b k 0)
-    → (k : ℕ) → k < i + 1 → get_or (set r i (get_or a i 0 + get_or b i 0)) k 0 ≡ get_or a k 0 + get_or b k 0
-added_turn a b r i l h k m =
-    ⊎_elim (λ e. rw e (get_or-set_same r i (get_or a i 0 + get_or b i 0) 0 l))
-    (λ n. get_or-set_other r i k (get_or a i 0 + get_or b i 0) 0 n ∙ h k (omega arith)) (eq_or_ne k i)
+use Rattle.std.specs.Prelude.{Option, Some, None, IsSome}
+use Rattle.store.specs.declared.Tally.{Tally}
+use lib.ListN.{length, get_or}
+use lib.Seq.{ext_get_or}
+use lib.Dec.{ltb}
+use borrow.Author.Tests.{lt-ltb}
+use Rattle.store.specs.Refusals.{DONE}
+use Rattle.store.specs.Segment.{seg_view, size_ok}
+use Rattle.store.specs.Report.{added, all_fit, figures, all_sound, report, report_step}
+use Rattle.store.specs.Answers.{numbers, summed}
+use Rattle.store.specs.declared.ReportRefusal.TheVariants as fill
+use Rattle.std.specs.Option.{ok_or}
+use Rattle.store.proofs.Laws.Cases.{never, false_by}
+use Rattle.store.proofs.Laws.SoundPage.{and_in}
+use Rattle.store.proofs.Laws.Report.{length_added, get_d_added, fits_at, fits_in, on_tally, on_done}
+use Rattle.fill_report.specs.Words.{AtMost, Summed}
 
 -- ---- each figure fits
 
--- the code's test
-pub room_test : (a b : ℕ) → a < 2 ^ 64 → leb b (18446744073709551615 - a) ≡ ltb (a + b) (2 ^ 64)
-room_test a b l =
-    ⊎_elim (λ h. le-leb b (18446744073709551615 - a) (omega arith) ∙ sym (lt-ltb (a + b) (2 ^ 64) h))
-    (λ h. lt-leb b (18446744073709551615 - a) (omega arith) ∙ sym (le-ltb (a + b) (2 ^ 64) h)) (lt_or_le (a + b) (2 ^ 64))
+pub not_fit : (l : List ℕ) (i : ℕ) → 2 ^ 64 ≤ get_or l i 0 → all_fit l ≡ false
+not_fit l i h = false_by (all_fit l) (λ e. omega (arith, fits_at l e i))
 
--- the first i figures fit, so that the others decide; one test more
-abbrev pub Passed : List ℕ → ℕ → Type 0
-Passed l i = all_fit l ≡ all_fit (drop i l)
+pub summed_some : (l : List ℕ) (r : Option Tally) → Summed l r → all_fit l ≡ true → IsSome r
+summed_some l (Some t) h e = refl
+summed_some l None h e = never e h
 
-fit_turn : (l : List ℕ) (i : ℕ) → all_fit (drop i l) ≡ (ltb (get_or l i 0) (2 ^ 64) && all_fit (drop (suc i) l))
-fit_turn [] zero = refl
-fit_turn [] (suc i) = refl
-fit_turn (x ∷ l) zero = refl
-fit_turn (x ∷ l) (suc i) = fit_turn l i
+-- a sum with a sound segment's figures is what its report tells
+module _ (s : List ℕ) (t f : Tally) (size : size_ok s ≡ true) (pages : all_sound (seg_view s) ≡ true) (is : numbers f ≡ figures (seg_view s)) where
+  pub sum_told : (r : Option Tally) → Summed (added (numbers t) (numbers f)) r → summed (ok_or r fill.Tally) t ≡ report_step s (numbers t)
+  sum_told (Some x) h =
+      let after = ap (added (numbers t)) is in
+      ap (report DONE) (h.1 ∙ after) ∙ sym (on_done s (numbers t) size pages (sym (ap all_fit after) ∙ h.0))
+  sum_told None h = sym (on_tally s (numbers t) size pages (sym (ap all_fit (ap (added (numbers t)) is)) ∙ h))
 
-module _ {b : Bool} (l : List ℕ) (i : ℕ) (h : Passed l i) (e : b ≡ ltb (get_or l i 0) (2 ^ 64)) where
-  pub fit_on : b ≡ true → Passed l (i + 1)
-  fit_on n = h ∙ fit_turn l i ∙ rw (add-one, sym e ∙ n)
+-- the sum of two lists of equal length, from each of its figures
+module _ (xs ys : List ℕ) (n : length xs ≡ length ys) where
+  pub sum_not_fit : (i : ℕ) → i < length xs → 2 ^ 64 ≤ get_or xs i 0 + get_or ys i 0 → all_fit (added xs ys) ≡ false
+  sum_not_fit i l h = not_fit (added xs ys) i (omega (arith, get_d_added xs ys i l))
 
-  pub fit_out : b ≡ false → false ≡ all_fit l
-  fit_out n = sym (h ∙ fit_turn l i ∙ rw (sym e ∙ n))
+  pub sum_fits : ((i : ℕ) → i < length xs → get_or xs i 0 + get_or ys i 0 < 2 ^ 64) → all_fit (added xs ys) ≡ true
+  sum_fits h = fits_in (added xs ys) (λ i l. let m : i < length xs = omega (arith, length_added xs ys) in omega (arith, get_d_added xs ys i m, h i m))
 
-pub fit_rest : (i : ℕ) (xs : List ℕ) → all_fit xs ≡ true → all_fit (drop i xs) ≡ true
-fit_rest zero xs e = e
-fit_rest (suc i) [] e = refl
-fit_rest (suc i) (x ∷ xs) e = fit_rest i xs (and_both (ltb x (2 ^ 64)) (all_fit xs) e).1
+  pub sum_is : (r : List ℕ) → length r ≡ length xs → ((i : ℕ) → i < length xs → get_or r i 0 ≡ get_or xs i 0 + get_or ys i 0) → r ≡ added xs ys
+  sum_is r l h = ext_get_or 0 r (added xs ys) (l ∙ sym (length_added xs ys)) (λ i m. omega (arith, h i (omega arith), get_d_added xs ys i (omega arith)))
 
 -- ---- bounds
 
-pub most_at : (b : ℕ) (xs : List ℕ) (i : ℕ) → AtMost b xs → get_or xs i 0 ≤ b
-most_at b [] i h = omega arith
-most_at b (x ∷ xs) zero h = h.0
-most_at b (x ∷ xs) (suc i) h = most_at b xs i h.1
+pub most_fit : (b : ℕ) (xs : List ℕ) → b < 2 ^ 64 → AtMost b xs → all_fit xs ≡ true
+most_fit b [] l h = refl
+most_fit b (x ∷ xs) l h = and_in (ltb x (2 ^ 64)) (all_fit xs) (lt-ltb x (2 ^ 64) (omega arith)) (most_fit b xs l h.1)
 
 pub most_more : (a b : ℕ) (xs : List ℕ) → a ≤ b → AtMost a xs → AtMost b xs
 most_more a b [] l h = tt
@@ -73,19 +63,3 @@ pub most_added : (a b m : ℕ) (xs ys : List ℕ) → a + b ≤ m → AtMost a x
 most_added a b m [] ys l g h = tt
 most_added a b m (x ∷ xs) [] l g h = most_more a m (x ∷ xs) (omega arith) g
 most_added a b m (x ∷ xs) (y ∷ ys) l g h = (omega arith, most_added a b m xs ys l g.1 h.1)
-
--- ---- one more of a class
-
--- no later class counts
-past : (l : List ℕ) (c k : ℕ) → k < c → l ≡ added l (class_is (length l) c k)
-past [] c k h = refl
-past (x ∷ l) c k h = rw (ne_eqb k c (λ e. omega arith), ← past l (c + 1) k (omega arith)) (ap (λ y. y ∷ l) (omega arith))
-
-pub one_more : (l : List ℕ) (c j k : ℕ) → k ≡ c + j → set l j (get_or l j 0 + 1) ≡ added l (class_is (length l) c k)
-one_more [] c j k e = refl
-one_more (x ∷ l) c zero k e = rw (eq-eqb k c (omega arith), ← past l (c + 1) k (omega arith))
-one_more (x ∷ l) c (suc j) k e =
-    rw (ne_eqb k c (λ q. omega arith), one_more l (c + 1) j k (omega arith)) (ap (λ y. y ∷ added l (class_is (length l) (c + 1) k)) (omega arith))
-
-pub class_more : (l : List ℕ) (k : ℕ) → length l ≡ 16 → set l k (get_or l k 0 + 1) ≡ added l (class_is 16 0 k)
-class_more l k n = one_more l 0 k k (omega arith) ∙ ap (λ m. added l (class_is m 0 k)) n

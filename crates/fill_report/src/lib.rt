@@ -8,83 +8,45 @@ mod sums;
 ghost use Rattle.std.specs.Prelude.{◌≡◌, true};
 ghost use Rattle.store.specs.Segment.{seg_view, size_ok};
 ghost use Rattle.store.specs.Report.{report_step};
-ghost use Rattle.store.specs.Answers.{numbers, reported};
+ghost use Rattle.store.specs.Answers.{numbers, reported, summed};
 ghost use Rattle.fill_report.specs.Words.{Filled};
 
 use segment_pages::page_of;
-use store::{PAGE_SIZE, Reported, Tally};
+use store::{PAGE_SIZE, ReportRefusal, Tally};
 
-// The figures of a segment, if its pages are sound.
-#[derive(Clone, Copy)]
-struct Figures {
-    sound: bool,
-    tally: Tally,
-}
-
-// What a report answers, and the tally with it.
-#[derive(Clone, Copy)]
-pub struct Report {
-    pub answer: Reported,
-    pub tally: Tally,
-}
-
-// Page by page, up to the first that is not sound.
-fn segment_fill(segment: &[u8]) -> Figures
+// The figures of a segment, page by page; none where a page is not sound.
+fn segment_fill(segment: &[u8]) -> Option<Tally>
     requires { size_ok segment.now ≡ true }
     ensures { Filled (seg_view segment.now) result }
 {
-    let n = segment.len() / PAGE_SIZE;
-    let mut tally = sums::none();
-    let mut p = 0;
-    while p < n {
+    let mut tally = Tally::default();
+    for p in 0..segment.len() / PAGE_SIZE {
         let page = page_of(segment, p);
         if !page_check::is_sound(page) {
-            return Figures {
-                sound: false,
-                tally,
-            };
+            return None;
         }
-        tally = sums::with_page(tally, page::page_fill(page));
-        p += 1;
+        tally = sums::checked_sum(tally, page::page_fill(page)).unwrap();
     }
-    Figures { sound: true, tally }
+    Some(tally)
 }
 
 // "Refusals: 1 and 4 as in 01, then 9 TALLY when a figure would pass 2^64 − 1": by value.
-pub fn report_by_value(segment: &[u8], tally: Tally) -> Report
-    ensures { reported result.answer result.tally ≡ report_step segment.now (numbers tally) }
+pub fn report_by_value(segment: &[u8], tally: Tally) -> Result<Tally, ReportRefusal>
+    ensures { summed result tally ≡ report_step segment.now (numbers tally) }
 {
     if !segment_pages::is_segment(segment) {
-        return Report {
-            answer: Reported::Size,
-            tally,
-        };
+        return Err(ReportRefusal::Size);
     }
-    let f = segment_fill(segment);
-    if !f.sound {
-        return Report {
-            answer: Reported::Damaged,
-            tally,
-        };
-    }
-    let figures = f.tally;
-    if !sums::fits(tally, figures) {
-        return Report {
-            answer: Reported::Tally,
-            tally,
-        };
-    }
-    Report {
-        answer: Reported::Done,
-        tally: sums::sum(tally, figures),
-    }
+    let Some(figures) = segment_fill(segment) else {
+        return Err(ReportRefusal::Damaged);
+    };
+    sums::checked_sum(tally, figures).ok_or(ReportRefusal::Tally)
 }
 
-// "One running tally is lent to each call and updated where it stands." A refused segment's tally is stored as it was.
-pub fn fill_report(segment: &[u8], tally: &mut Tally) -> Reported
+// "One running tally is lent to each call and updated where it stands." A refused segment's tally stays as it was.
+pub fn fill_report(segment: &[u8], tally: &mut Tally) -> Result<(), ReportRefusal>
     ensures { reported result tally.new ≡ report_step segment.now (numbers tally.old) }
 {
-    let r = report_by_value(segment, *tally);
-    *tally = r.tally;
-    r.answer
+    *tally = report_by_value(segment, *tally)?;
+    Ok(())
 }

@@ -1,30 +1,18 @@
 // What one page counts for.
-ghost use Rattle.std.specs.Prelude.{◌≡◌, true, length};
+ghost use Rattle.std.specs.Prelude.{◌≡◌, ◌<◌, true};
 ghost use Rattle.store.specs.Page.{view, sound};
 ghost use Rattle.store.specs.PageSteps.{opened};
 ghost use Rattle.store.specs.Laws.Lent.{UsedPage};
-ghost use Rattle.fill_report.specs.Words.{Room, WithSlot, SlotsTo, Fills};
+ghost use Rattle.fill_report.specs.Words.{class_is, Room, WithSlot, SlotsTo, Fills};
 
-use store::{BACK, ROOM, Slot};
+use store::{BACK, Page, ROOM, Slot, Tally};
 
 // Of some slots: their records, the bytes of these without back ids, and how many are targets.
-#[derive(Clone, Copy)]
+#[derive(Clone, Copy, Default)]
 struct Counts {
     records: u64,
     bytes: u64,
     forwarded: u64,
-}
-
-// What a page counts for beside itself, and its class.
-#[derive(Clone, Copy)]
-pub struct Fill {
-    pub fresh: u64,
-    pub slots: u64,
-    pub records: u64,
-    pub bytes: u64,
-    pub forwarded: u64,
-    pub free: u64,
-    pub class: usize,
 }
 
 // One slot more. "a forwarded record is one target"
@@ -33,14 +21,13 @@ fn with_slot(c: Counts, s: Slot) -> Counts
     ensures { WithSlot c s result }
 {
     match s {
-        Slot::Ordinary { offset: _, length } => Counts {
+        Slot::Ordinary { length, .. } => Counts {
             records: c.records + 1,
             bytes: c.bytes + length as u64,
-            forwarded: c.forwarded,
+            ..c
         },
-        Slot::Free => c,
-        Slot::Redirect { id: _ } => c,
-        Slot::Target { offset: _, length } => Counts {
+        Slot::Free | Slot::Redirect { .. } => c,
+        Slot::Target { length, .. } => Counts {
             records: c.records + 1,
             bytes: c.bytes + (length - BACK) as u64,
             forwarded: c.forwarded + 1,
@@ -49,49 +36,51 @@ fn with_slot(c: Counts, s: Slot) -> Counts
 }
 
 // The n slots of a page in use.
-fn count_slots(page: &[u8], n: usize) -> Counts
+fn count_slots(page: &Page, n: usize) -> Counts
     requires { UsedPage page.now × (n ≡ (view page.now).slot_count) }
     ensures { SlotsTo (view page.now) n result }
 {
-    let mut c = Counts {
-        records: 0,
-        bytes: 0,
-        forwarded: 0,
-    };
-    let mut k = 0;
-    while k < n {
+    let mut c = Counts::default();
+    for k in 0..n {
         c = with_slot(c, layout::slots::get_slot(page, k));
-        k += 1;
     }
     c
 }
 
+// One page of this class.
+fn one_of(class: usize) -> [u64; 16]
+    requires { class < 16 }
+    ensures { result ≡ class_is 16 0 class }
+{
+    let mut classes = [0u64; 16];
+    classes[class] = 1;
+    classes
+}
+
 // "Slots and free bytes count pages in use only": a fresh page, whatever its other bytes are, is of class 0 and counts for nothing more.
-pub fn page_fill(page: &[u8]) -> Fill
-    requires { (length page.now ≡ 16384) × (sound (view page.now) ≡ true) }
+pub fn page_fill(page: &Page) -> Tally
+    requires { sound (view page.now) ≡ true }
     ensures { Fills (opened (view page.now)) result }
 {
     if layout::header::is_fresh(page) {
-        return Fill {
-            fresh: 1,
-            slots: 0,
-            records: 0,
-            bytes: 0,
-            forwarded: 0,
-            free: 0,
-            class: 0,
+        return Tally {
+            pages: 1,
+            fresh_pages: 1,
+            classes: one_of(0),
+            ..Tally::default()
         };
     }
     let n = layout::header::get_slot_count(page);
     let c = count_slots(page, n);
     let free = layout::header::get_free_space(page);
-    Fill {
-        fresh: 0,
+    Tally {
+        pages: 1,
+        fresh_pages: 0,
         slots: n as u64,
         records: c.records,
-        bytes: c.bytes,
+        record_bytes: c.bytes,
         forwarded: c.forwarded,
-        free: free as u64,
-        class: free_space_inventory::class_of(ROOM - free),
+        free_bytes: free as u64,
+        classes: one_of(free_space_inventory::class_of(ROOM - free)),
     }
 }

@@ -12,7 +12,7 @@ use Rattle.exchange.specs.declared.parts.Part.{Part}
 use Rattle.exchange.specs.declared.parts.Part.TheVariants as part
 use Rattle.polishing.specs.Polishing.{mirror_of, reading_of, row_of}
 use Rattle.polishing.specs.Words.{head_of, part_head}
-use Rattle.polishing.specs.declared.heads.Head.TheVariants as head
+use Rattle.std.specs.Prelude.{Some, None}
 
 module _ (p : List ℕ) (o n : ℕ) (headed : 8 ≤ n) where
   mirror_at : mirror_of (cut p o n) ≡ be (cut p o 4)
@@ -26,16 +26,16 @@ module _ (p : List ℕ) (o n : ℕ) (headed : 8 ≤ n) where
 
   module _ (m a : ℕ) (is : a ≡ be (cut p o 4)) where
     -- of another mirror
-    pub head_other : (a ≡ m → ⊥) → head.Other ≡ head_of m (cut p o n)
+    pub head_other : (a ≡ m → ⊥) → None ≡ head_of m (cut p o n)
     head_other ne = rw (ne_eqb (mirror_of (cut p o n)) m (λ e. ne (is ∙ sym mirror_at ∙ e)))
 
     -- of this one
-    pub head_row : a ≡ m → (r k : ℕ) → r ≡ be (cut p (o + 4) 2) → k ≡ be (cut p (o + 6) 2) → head.Row r k ≡ head_of m (cut p o n)
+    pub head_row : a ≡ m → (r k : ℕ) → r ≡ be (cut p (o + 4) 2) → k ≡ be (cut p (o + 6) 2) → Some (record { reading = r; row = k }) ≡ head_of m (cut p o n)
     head_row e r k er ek =
-        rw (eq-eqb (mirror_of (cut p o n)) m (mirror_at ∙ sym is ∙ e)) (λ i. head.Row ((er ∙ sym reading_at) i) ((ek ∙ sym row_at) i))
+        rw (eq-eqb (mirror_of (cut p o n)) m (mirror_at ∙ sym is ∙ e)) (λ i. Some (record { reading = (er ∙ sym reading_at) i; row = (ek ∙ sym row_at) i }))
 
 -- what is no reading has none
-pub no_head : (m : ℕ) (p : List ℕ) (a : Part) → ((o n : ℕ) → a ≡ part.Reading o n → ⊥) → head.Other ≡ part_head m p a
+pub no_head : (m : ℕ) (p : List ℕ) (a : Part) → ((o n : ℕ) → a ≡ part.Reading o n → ⊥) → None ≡ part_head m p a
 no_head m p (part.Reading o n) k = absurd (k o n refl)
 no_head m p part.Passed k = refl
 no_head m p part.Nothing k = refl

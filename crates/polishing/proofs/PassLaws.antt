@@ -15,11 +15,11 @@ use Rattle.exchange.proofs.Laws.Left as left
 use Rattle.exchange.specs.declared.parts.Part.{Part}
 use Rattle.exchange.specs.declared.parts.Part.TheVariants as part
 use Rattle.polishing.specs.Words.{SoundPage, head_of, part_head}
-use Rattle.polishing.specs.declared.heads.Head.{Head}
-use Rattle.polishing.specs.declared.heads.Head.TheVariants as head
+use Rattle.polishing.specs.declared.heads.Row.{Row}
+use Rattle.std.specs.Prelude.{Option, None}
 
 -- g notes a head, and nothing of any other record
-module _ {S : Type 0} (g : S → Head → S) (none : (s : S) → g s head.Other ≡ s) (m : ℕ) where
+module _ {S : Type 0} (g : S → Option Row → S) (none : (s : S) → g s None ≡ s) (m : ℕ) where
   abbrev pub over : S → List (List ℕ) → S
   over s bs = foldl (λ (x : S) (b : List ℕ). g x (head_of m b)) s bs
 
@@ -32,11 +32,11 @@ module _ {S : Type 0} (g : S → Head → S) (none : (s : S) → g s head.Other 
   pub over_all : (v : View) (s : S) → over s (page_readings (opened v)) ≡ over s (left.readings_from v 0)
   over_all v s = ap (over s) (left.readings_all v)
 
-  pub over_next : (p : List ℕ) → SoundPage p → (k : ℕ) → k < (view p).slot_count → (s : S) (h : Head) → h ≡ part_head m p (part_of_slot ((view p).at k))
+  pub over_next : (p : List ℕ) → SoundPage p → (k : ℕ) → k < (view p).slot_count → (s : S) (h : Option Row) → h ≡ part_head m p (part_of_slot ((view p).at k))
       → over s (left.readings_from (view p) k) ≡ over (g s h) (left.readings_from (view p) (k + 1))
   over_next p ok k c s h e =
       ap (over s) (left.readings_next p ok.0 ok.1 k c) ∙ over_part p (part_of_slot ((view p).at k)) s (left.readings_from (view p) (k + 1))
-      ∙ ap (λ (x : Head). over (g s x) (left.readings_from (view p) (k + 1))) (sym e)
+      ∙ ap (λ (x : Option Row). over (g s x) (left.readings_from (view p) (k + 1))) (sym e)
 
   pub over_none : (v : View) (k : ℕ) → v.slot_count ≤ k → (s : S) → over s (left.readings_from v k) ≡ s
   over_none v k c s = ap (over s) (left.readings_none v k c)

@@ -36,8 +36,8 @@ module _ (m : ℕ) (s w₀ : List ℕ) where
       }
 
   pub marked_all : (p : ℕ) (w : List ℕ) → MarkedTo m s w₀ p w → p ≡ length s / 16384
-      → (true ≡ all_sound (seg_view s)) × (true ≡ true → w ≡ windows_over m w₀ (readings (records (seg_view s))))
+      → (all_sound (seg_view s) ≡ true) × (w ≡ windows_over m w₀ (readings (records (seg_view s))))
   marked_all p w h e = (
-    sym (sound_each s (λ q below. h.sounds q (omega arith))),
-    λ t. sym (over_pages_none with_mark (λ v. refl) m s p e w) ∙ h.marks,
+    sound_each s (λ q below. h.sounds q (omega arith)),
+    sym (over_pages_none with_mark (λ v. refl) m s p e w) ∙ h.marks,
   )

@@ -1,40 +1,35 @@
 -- What the code's answers mean: the number of each, and what it tells.
-use Rattle.std.specs.Prelude.{ℕ, List}
-use Rattle.store.specs.Refusals.{DONE, SIZE, DAMAGED, ROOM}
+use Rattle.std.specs.Prelude.{ℕ, Bool, List, Result, Ok, Err}
+use Rattle.store.specs.Numbers.{one}
+use Rattle.store.specs.Refusals.{SIZE, DAMAGED, ROOM}
+use Rattle.store.specs.Answers.{told_no}
 use Rattle.polishing.specs.Polishing.{RULE, Cleared, Listed}
-use Rattle.polishing.specs.declared.Clearing.{Clearing}
-use Rattle.polishing.specs.declared.Clearing.TheVariants as clearing
-use Rattle.polishing.specs.declared.Listing.{Listing}
-use Rattle.polishing.specs.declared.Listing.TheVariants as listing
+use Rattle.polishing.specs.declared.RuleRefusal.{RuleRefusal}
+use Rattle.polishing.specs.declared.RuleRefusal.TheVariants as refusal
+
+abbrev pub rule_number : RuleRefusal → ℕ
+rule_number refusal.Size = SIZE
+rule_number refusal.Rule = RULE
+rule_number refusal.Damaged = DAMAGED
+rule_number refusal.Room = ROOM
 
 -- ---- cleared: its number, and 1 for yes alone
 
-abbrev pub clearing_no : Clearing → ℕ
-clearing_no clearing.Yes = DONE
-clearing_no clearing.No = DONE
-clearing_no clearing.Size = SIZE
-clearing_no clearing.Rule = RULE
-clearing_no clearing.Damaged = DAMAGED
+abbrev pub clearing_no : Result Bool RuleRefusal → ℕ
+clearing_no r = told_no rule_number r
 
-abbrev pub clearing_yes : Clearing → ℕ
-clearing_yes clearing.Yes = 1
-clearing_yes clearing.No = 0
-clearing_yes clearing.Size = 0
-clearing_yes clearing.Rule = 0
-clearing_yes clearing.Damaged = 0
+abbrev pub clearing_yes : Result Bool RuleRefusal → ℕ
+clearing_yes (Ok cleared) = one cleared
+clearing_yes (Err r) = 0
 
-abbrev pub cleared_by : Clearing → Cleared
+abbrev pub cleared_by : Result Bool RuleRefusal → Cleared
 cleared_by r = record { answer = clearing_no r; cleared = clearing_yes r }
 
 -- ---- whole readings: its number
 
-abbrev pub listing_no : Listing → ℕ
-listing_no listing.Done = DONE
-listing_no listing.Size = SIZE
-listing_no listing.Rule = RULE
-listing_no listing.Damaged = DAMAGED
-listing_no listing.Room = ROOM
+abbrev pub listing_no : Result (Unit {0}) RuleRefusal → ℕ
+listing_no r = told_no rule_number r
 
 -- what the call answered, and the place that it left
-abbrev pub listed_by : Listing → List ℕ → Listed
+abbrev pub listed_by : Result (Unit {0}) RuleRefusal → List ℕ → Listed
 listed_by r p = record { answer = listing_no r; place = p }

@@ -108,7 +108,7 @@ pub enum ListRefusal {
 
 // "One running tally": figures over any number of segments, in the order that C has them (include/hekatosuy.h).
 #[repr(C)]
-#[derive(Clone, Copy)]
+#[derive(Clone, Copy, Default)]
 pub struct Tally {
     pub pages: u64,
     pub fresh_pages: u64,

@@ -79,8 +79,8 @@ pub record CountsTo (f : ℕ → Bool) (w : ℕ) (c : Counts) : Type 0 where
   pub turned : c.turned ≡ counted f 32768 (high w)
 
 module _ (f : ℕ → Bool) where
-  pub counts_none : CountsTo f 0 record { mounted = 0; turned = 0 }
-  counts_none = record { below = omega arith; mounted = sym (counted_none f 0); turned = sym (counted_none f 32768) }
+  pub counts_none : (c : Counts) → (c.mounted ≡ 0) × (c.turned ≡ 0) → CountsTo f 0 c
+  counts_none c e = record { below = omega arith; mounted = e.0 ∙ sym (counted_none f 0); turned = e.1 ∙ sym (counted_none f 32768) }
 
   module _ (w : ℕ) (c : Counts) (h : CountsTo f w c) where
     pub counts_few : (c.mounted ≤ 32768) × (c.turned ≤ 32768)

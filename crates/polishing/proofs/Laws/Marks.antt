@@ -1,7 +1,7 @@
 -- A window's marks tell which of its readings are whole: bit j of a row's word is set just if reading j has the row, and j is spoiled just if it has
 -- a row twice or one from `rows` on.
 use Rattle.std.specs.Prelude.{ℕ, zero, suc, ◌+◌, ◌-◌, ◌*◌, ◌/◌, ◌%◌, ◌^◌, ◌≤◌, ◌<◌, min}
-use Rattle.std.specs.Prelude.{max, ◌≡◌, refl, Bool, true, false, cond, ◌&&◌, List, [], ◌∷◌, ◌⊎◌}
+use Rattle.std.specs.Prelude.{max, ◌≡◌, refl, Some, None, Bool, true, false, cond, ◌&&◌, List, [], ◌∷◌, ◌⊎◌}
 use Rattle.std.specs.Prelude.{length, get_or, set, eqb, leb}
 use Rattle.std.proofs.Common.{sym, ap, ◌∙◌, inl, inr, arith, length-set, get_or-set_same, get_or-set_other, eq-eqb, ne_eqb, eqb-true}
 use Rattle.std.proofs.lemmas.List.{length-replicate, get_or-replicate}
@@ -14,11 +14,11 @@ use Rattle.store.proofs.Laws.Cases.{eq_or_ne, by_test, never, tests}
 use Rattle.page_check.specs.Map.{bit}
 use Rattle.page_check.specs.Bits.{bit_zero, bit_one, bit_and_lem, bit_or_lem}
 use Rattle.polishing.specs.Polishing.{mirror_of, reading_of, row_of, is_of, row_times, other_rows, whole, word}
-use Rattle.polishing.specs.Words.{head_of, Marks, with_row, with_head, marks_over, in_rows}
+use Rattle.polishing.specs.Words.{head_of, with_row, with_head, marks_over, in_rows}
 use Rattle.polishing.proofs.Laws.Bits.{others, word_lt, bit_word, bit_pow, bit_others, same_bits}
 use Rattle.polishing.proofs.Laws.Whole.{whole_parts}
-use Rattle.polishing.specs.declared.heads.Head.TheVariants as head
 use Rattle.polishing.specs.declared.rows.Wanted.{Wanted}
+use Rattle.polishing.specs.declared.rows.Marks.{Marks}
 
 -- no row is there, and no reading is spoiled
 abbrev no_marks : Marks
@@ -151,7 +151,7 @@ module _ (w : Wanted) where
       new : Marks
       new = with_row w.rows x (reading_of b) (row_of b)
 
-      go : (a : Bool) → Sized (with_head w x (cond a (head.Row (reading_of b) (row_of b)) head.Other))
+      go : (a : Bool) → Sized (with_head w x (cond a (Some (record { reading = reading_of b; row = row_of b })) None))
       go true = by_test Sized (eqb (reading_of b / 64) w.window) new x (λ _. sized_row x s (reading_of b) (row_of b)) (λ _. s)
       go false = s
 
@@ -162,7 +162,7 @@ module _ (w : Wanted) where
   -- of reading j of the window
   module _ (few : w.rows ≤ 2048) (j : ℕ) (h : j < 64) where
     noted_row : (x : Marks) → Sized x → (q i : ℕ)
-        → Noted w.rows j x (with_head w x (head.Row q i)) (one (eqb q (nth w j) && leb w.rows i)) (λ k. one (eqb q (nth w j) && eqb i k))
+        → Noted w.rows j x (with_head w x (Some (record { reading = q; row = i }))) (one (eqb q (nth w j) && leb w.rows i)) (λ k. one (eqb q (nth w j) && eqb i k))
     noted_row x s q i = go (eqb (q / 64) w.window) (eqb q (nth w j)) refl refl
       where
         p : ℕ
@@ -182,7 +182,7 @@ module _ (w : Wanted) where
         (λ k. one (is_of w.mirror (nth w j) b && eqb (row_of b) k))
     noted_head x s b = go (eqb (mirror_of b) w.mirror)
       where
-        go : (a : Bool) → Noted w.rows j x (with_head w x (cond a (head.Row (reading_of b) (row_of b)) head.Other))
+        go : (a : Bool) → Noted w.rows j x (with_head w x (cond a (Some (record { reading = reading_of b; row = row_of b })) None))
             (one ((a && eqb (reading_of b) (nth w j)) && leb w.rows (row_of b))) (λ k. one ((a && eqb (reading_of b) (nth w j)) && eqb (row_of b) k))
         go true = noted_row x s (reading_of b) (row_of b)
         go false = noted_none w.rows j x x (λ k l. refl) refl

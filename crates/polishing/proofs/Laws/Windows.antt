@@ -1,5 +1,5 @@
 -- The first pass: a window that is not marked has no record of the mirror, so no reading of it is whole.
-use Rattle.std.specs.Prelude.{ℕ, ◌+◌, ◌*◌, ◌/◌, ◌^◌, ◌<◌, ◌≡◌, refl, Bool, true, false, cond, ◌&&◌, List, [], ◌∷◌, length, get_or, set, eqb}
+use Rattle.std.specs.Prelude.{ℕ, ◌+◌, ◌*◌, ◌/◌, ◌^◌, ◌<◌, ◌≡◌, refl, Option, Some, None, Bool, true, false, cond, ◌&&◌, List, [], ◌∷◌, length, get_or, set, eqb}
 use Rattle.std.proofs.Common.{sym, ap, ◌∙◌, arith, zero-mul, length-set, get_or-set_same, get_or-set_other, ne_eqb}
 use Rattle.std.proofs.lemmas.List.{length-replicate}
 use Rattle.store.specs.Numbers.{zeros, one}
@@ -8,14 +8,13 @@ use Rattle.store.proofs.Laws.Views.{sum_zero}
 use Rattle.polishing.specs.Polishing.{mirror_of, reading_of, row_of, row_times, whole, rows_named, word}
 use Rattle.polishing.specs.Words.{head_of, with_mark, windows_over}
 use Rattle.polishing.proofs.Laws.Whole.{rows_within, whole_first}
-use Rattle.polishing.specs.declared.heads.Head.{Head}
-use Rattle.polishing.specs.declared.heads.Head.TheVariants as head
+use Rattle.polishing.specs.declared.heads.Row.{Row}
 
 -- ---- a pass keeps the length
 
-window_length : (ws : List ℕ) (h : Head) → length (with_mark ws h) ≡ length ws
-window_length ws (head.Row r k) = length-set ws (r / 64) 1
-window_length ws head.Other = refl
+window_length : (ws : List ℕ) (h : Option Row) → length (with_mark ws h) ≡ length ws
+window_length ws (Some h) = length-set ws (h.reading / 64) 1
+window_length ws None = refl
 
 module _ (m : ℕ) where
   windows_length : (bs : List (List ℕ)) (ws : List ℕ) → length (windows_over m ws bs) ≡ length ws
@@ -30,7 +29,7 @@ module _ (m : ℕ) where
         → (get_or ws i 0 ≡ 0) × (row_times (b ∷ []) m r k ≡ 0)
     unmarked_one ws l b = go (eqb (mirror_of b) m)
       where
-        go : (t : Bool) → get_or (with_mark ws (cond t (head.Row (reading_of b) (row_of b)) head.Other)) i 0 ≡ 0
+        go : (t : Bool) → get_or (with_mark ws (cond t (Some (record { reading = reading_of b; row = row_of b })) None)) i 0 ≡ 0
             → (get_or ws i 0 ≡ 0) × (one ((t && eqb (reading_of b) r) && eqb (row_of b) k) + 0 ≡ 0)
         go false e = (e, refl)
         go true e =

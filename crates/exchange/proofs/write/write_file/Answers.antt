@@ -8,7 +8,6 @@ use Rattle.store.specs.Page.{View, view, sound}
 use Rattle.store.specs.PageSteps.{opened}
 use Rattle.store.specs.Segment.{seg_view}
 use Rattle.store.proofs.Laws.Report.{each_sound}
-use Rattle.store.proofs.Laws.Segments.{length_page}
 use Rattle.store.proofs.Laws.SoundSegment.{seen_pages, seen_page}
 use Rattle.exchange.specs.Words.{page_file}
 use Rattle.exchange.proofs.LeftLaws.{pages_file, pages_all, pages_next, pages_none}
@@ -17,15 +16,12 @@ use Rattle.exchange.proofs.write.write_file.Goals.{After-page_of}
 use Rattle.exchange.proofs.write.write_file.Goals as goal
 
 pub loop-p-init : goal.loop-p-init
-loop-p-init c = (omega arith, left_all _ _ _ _ (pages_all (seg_view c.args.segment.now)))
+loop-p-init c = left_all _ _ _ _ (pages_all (seg_view c.args.segment.now))
 
 -- page p: it is sound, and what is left is its file and the rest
 module _ (c : After-page_of) where
   abbrev page : List ℕ
   page = c.page_of.result.now
-
-  long : length page ≡ 16384
-  long = ap length c.page_of.ensures ∙ length_page c.args.segment.now c.loop-p.p (omega arith)
 
   ok : sound (view page) ≡ true
   ok =
@@ -42,26 +38,24 @@ module _ (c : After-page_of) where
 
 pub write_page-at-requires : goal.write_page-at-requires
 write_page-at-requires c =
-    let h = c.loop-p.invariant.1 in
+    let h = c.loop-p.invariant in
     let a = ap length (next (goal.at.write_page-at-requires c).After-page_of)
     ∙ length-append (page_file (opened (view (page (goal.at.write_page-at-requires c).After-page_of))))
     (pages_file (seg_view c.args.segment.now) (c.loop-p.p + 1)) in
     record {
-      page_len = (long (goal.at.write_page-at-requires c).After-page_of, ok (goal.at.write_page-at-requires c).After-page_of);
+      page_sound = ok (goal.at.write_page-at-requires c).After-page_of;
       page_in_bounds = omega (arith, h.room, h.long, c.requires.segment_in_bounds);
     }
 
 pub loop-p-preserved : goal.loop-p-preserved
-loop-p-preserved c = (
-  omega arith,
-  left_next _ _ _ _ _ _ c.loop-p.invariant.1 _ _ (next (goal.at.loop-p-preserved c).After-page_of) _ refl _ c.write_page-at.ensures.0 _
-      c.write_page-at.ensures.1,
-)
+loop-p-preserved c =
+    left_next _ _ _ _ _ _ c.loop-p.invariant _ _ (next (goal.at.loop-p-preserved c).After-page_of) _ refl _ c.write_page-at.ensures.0 _
+    c.write_page-at.ensures.1
 
 pub returns : goal.returns
 returns c =
     let s = c.args.segment.now in
-    (left_none _ _ _ _ _ _ c.loop-p.invariant.1 (pages_none (seg_view s) c.loop-p.p (omega (arith, seen_pages s)))).0
+    (left_none _ _ _ _ _ _ c.loop-p.invariant (pages_none (seg_view s) c.loop-p.p (omega (arith, seen_pages s)))).0
 
 pub shape_of-file : goal.shape_of-file
-shape_of-file c = c.loop-p.invariant.1.long
+shape_of-file c = c.loop-p.invariant.long

@@ -1,4 +1,3 @@
-use Prim.Native.Nat.{◌-◌, ◌≤◌}
 use Rattle.store.specs.Page.{view}
 use Rattle.store.specs.PageSteps.{opened}
 use Rattle.exchange.specs.Words.{page_file}
@@ -7,7 +6,4 @@ use Rattle.exchange.proofs.WriteLaws.{Left}
 use Rattle.exchange.proofs.write.write_page.Given as goal
 
 abbrev pub invariant-loop-k : goal.invariant-loop-k
-invariant-loop-k l = (l.k ≤ l.n) × Left l.initial.file l.at (page_file (opened (view l.page))) l.file l.to (file_from (view l.page) l.k)
-
-abbrev pub decreases-loop-k : goal.decreases-loop-k
-decreases-loop-k l = l.n - l.k
+invariant-loop-k l = Left l.initial.file l.at (page_file (opened (view l.page))) l.file l.to (file_from (view l.page) l.k)

@@ -49,5 +49,5 @@ returns c =
     c.copy_in.ensures ∙ ap (λ (f : List ℕ). put f (a.at + 12) tail) c.put_u16.ensures
     ∙ ap (λ (f : List ℕ). put (put f (a.at + 10) (to_be 2 (a.n - 8))) (a.at + 12) tail) c.put_u64.ensures
     ∙ reading_written p a.offset a.n pre.headed pre.within a.file.now a.at _ tail
-    (number_back p (bytes_all p (λ i. omega (arith, c.type_inv.page i))) a.offset _ (omega arith) number.is number.small)
+    (number_back p (bytes_all p (λ i. omega (arith, c.type_inv.page))) a.offset _ (omega arith) number.is number.small)
     (data_is a.offset a.n p)

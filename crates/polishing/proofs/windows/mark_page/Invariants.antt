@@ -1,6 +1,4 @@
-use Prim.Native.Nat.{◌-◌, ◌≤◌}
 use mathlib.Core.Path.{◌≡◌}
-use lib.ListN.{length}
 use Rattle.store.specs.Page.{view}
 use Rattle.store.specs.PageSteps.{opened}
 use Rattle.exchange.specs.Words.{page_readings}
@@ -10,8 +8,4 @@ use Rattle.polishing.proofs.windows.mark_page.Given as goal
 
 abbrev pub invariant-loop-k : goal.invariant-loop-k
 invariant-loop-k l =
-    (l.k ≤ l.n) × (length l.marked ≡ 1024)
-    × (windows_over l.mirror l.marked (readings_from (view l.page) l.k) ≡ windows_over l.mirror l.initial.marked (page_readings (opened (view l.page))))
-
-abbrev pub decreases-loop-k : goal.decreases-loop-k
-decreases-loop-k l = l.n - l.k
+    windows_over l.mirror l.marked (readings_from (view l.page) l.k) ≡ windows_over l.mirror l.initial.marked (page_readings (opened (view l.page)))
