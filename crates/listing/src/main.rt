@@ -4,7 +4,7 @@
 
 use segment_scan::held::Scan;
 use std::io;
-use store::{IDS_A_PAGE, PAGE_SIZE, Record, Refusal, Step};
+use store::{IDS_A_PAGE, PAGE_SIZE, Record, Refusal};
 
 const MOST_BYTES: usize = 3 * PAGE_SIZE;
 
@@ -29,14 +29,9 @@ fn print_refused(rt: &impl Print, refusal: Refusal) -> io::Result<()> {
 fn list(rt: &impl Print, segment: &[u8]) -> io::Result<()> {
     let mut scan = Scan::new(segment);
     for records in 0..u64::MAX {
-        match scan.advance() {
-            Ok(
-                Step {
-                    found: Some(record),
-                    ..
-                },
-            ) => print_record(rt, record)?,
-            Ok(_) => return print_end(rt, records),
+        match scan.advance().map(|step| step.found) {
+            Ok(Some(record)) => print_record(rt, record)?,
+            Ok(None) => return print_end(rt, records),
             Err(refusal) => return print_refused(rt, refusal),
         }
     }

@@ -4,7 +4,7 @@
 use print::{end_line, say};
 use segment_scan::held::Scan;
 use std::io;
-use store::{Record, Refusal, Step};
+use store::{Record, Refusal};
 
 // More records than a demonstration has: a proved loop has to end.
 const MOST_LISTED: usize = 1000;
@@ -20,13 +20,8 @@ fn listed(rt: &impl Print, record: Record) -> io::Result<()> {
 pub fn list(rt: &impl Print, segment: &[u8]) -> io::Result<()> {
     let mut scan = Scan::new(segment);
     for _ in 0..MOST_LISTED {
-        match scan.advance() {
-            Ok(
-                Step {
-                    found: Some(record),
-                    ..
-                },
-            ) => listed(rt, record)?,
+        match scan.advance().map(|step| step.found) {
+            Ok(Some(record)) => listed(rt, record)?,
             _ => break,
         }
     }
