@@ -2,14 +2,16 @@
 // its id, and its length. Last comes `end` and the number of records, or `refused` and the answer's number.
 #![tactic(auto)]
 
-ghost use Rattle.std.specs.Prelude.{◌<◌, IfOk};
-
+use segment_scan::held::Scan;
 use std::io;
-use store::{IDS_A_PAGE, Step};
+use store::{IDS_A_PAGE, PAGE_SIZE, Record, Refusal};
 
-fn print_record(rt: &impl Print, id: u64, length: u64) -> io::Result<()> {
-    let page = id / IDS_A_PAGE as u64;
-    let slot = id % IDS_A_PAGE as u64;
+const MOST_BYTES: usize = 3 * PAGE_SIZE;
+
+fn print_record(rt: &impl Print, record: Record) -> io::Result<()> {
+    let page = record.id / IDS_A_PAGE;
+    let slot = record.id % IDS_A_PAGE;
+    let length = record.part.length;
     println!(rt; "{page} {slot} {length}")
 }
 
@@ -17,51 +19,31 @@ fn print_end(rt: &impl Print, records: u64) -> io::Result<()> {
     println!(rt; "end {records}")
 }
 
-fn print_refused(rt: &impl Print, answer: u64) -> io::Result<()> {
+fn print_refused(rt: &impl Print, refusal: Refusal) -> io::Result<()> {
+    let answer = u64::from(refusal);
     println!(rt; "refused {answer}")
 }
 
-// The line of a step, which `left` counts down: how many may follow, and none after the scan's last.
-fn print_step(rt: &impl Print, step: Step, left: u64) -> io::Result<u64>
-    requires { 0 < left }
-    ensures { IfOk result (λ after. after < left) }
-{
-    match step {
-        Step::Record {
-            id,
-            offset: _,
-            length,
-            page: _,
-            slot: _,
-        } => {
-            print_record(rt, id as u64, length as u64)?;
-            return Ok(left - 1);
-        }
-        Step::End { page: _, slot: _ } => print_end(rt, u64::MAX - left)?,
-        Step::Size => print_refused(rt, 1)?,
-        Step::Damaged => print_refused(rt, 4)?,
-    }
-    Ok(0)
-}
-
-// A scan holds the segment and moves on where it stands. A proved loop has to end by a number that falls: this one counts down from
-// more steps than any scan has.
+// A scan holds the segment and moves on where it stands. A proved loop has to end: this one counts the records, and takes more steps than
+// any scan has.
 fn list(rt: &impl Print, segment: &[u8]) -> io::Result<()> {
-    let mut scan = segment_scan::held::new(segment);
-    let mut left = u64::MAX;
-    while 0 < left {
-        let step = segment_scan::held::advance(&mut scan);
-        left = print_step(rt, step, left)?;
+    let mut scan = Scan::new(segment);
+    for records in 0..u64::MAX {
+        match scan.advance().map(|step| step.found) {
+            Ok(Some(record)) => print_record(rt, record)?,
+            Ok(None) => return print_end(rt, records),
+            Err(refusal) => return print_refused(rt, refusal),
+        }
     }
     Ok(())
 }
 
 fn main(rt: HostRuntime) -> io::Result<()> {
-    // three pages, and one byte more to tell a longer input by
-    let mut buffer = [0u8; 49153];
+    // one byte more, to tell a longer input by
+    let mut buffer = [0u8; MOST_BYTES + 1];
     let n = print::read_full(&mut rt.stdin(), &mut buffer)?;
-    if 49152 < n {
-        return print_refused(&rt, 1);
+    if MOST_BYTES < n {
+        return print_refused(&rt, Refusal::Size);
     }
     list(&rt, &buffer[..n])
 }

@@ -42,7 +42,7 @@ pub fn end_line(rt: &impl Print) -> io::Result<()> {
 pub fn least(a: usize, b: usize) -> usize
     ensures { (result ≡ min a b) × (result ≤ a) × (result ≤ b) }
 {
-    if a < b { a } else { b }
+    a.min(b)
 }
 
 // Reads until `buf` is full or the input ends, and answers how many bytes it put at the start of `buf`: those that came next, and fewer

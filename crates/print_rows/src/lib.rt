@@ -2,59 +2,42 @@
 #![tactic(auto)]
 
 use print::{end_line, say};
+use segment_scan::held::Scan;
 use std::io;
-use store::{Answer, Step};
+use store::{Record, Refusal};
 
-// Where a scan stands, and whether it goes on.
-#[derive(Clone, Copy)]
-struct Position {
-    page: usize,
-    slot: usize,
-    going: bool,
-}
+// More records than a demonstration has: a proved loop has to end.
+const MOST_LISTED: usize = 1000;
 
-// The record at a position, and where the scan stands after it.
-fn list_one(rt: &impl Print, segment: &[u8], p: Position) -> io::Result<Position> {
-    let Step::Record {
-        id,
-        offset: _,
-        length,
-        page,
-        slot,
-    } = segment_scan::scan_step(segment, p.page, p.slot)
-    else {
-        return Ok(Position { going: false, ..p });
-    };
+fn listed(rt: &impl Print, record: Record) -> io::Result<()> {
     say(rt, b"  ")?;
-    print::id(rt, id as u64)?;
-    println!(rt; "  {length} bytes")?;
-    Ok(Position {
-        page,
-        slot,
-        going: true,
-    })
+    print::id(rt, record.id as u64)?;
+    let length = record.part.length;
+    println!(rt; "  {length} bytes")
 }
 
 // Every record that a scan lists: its id and length.
 pub fn list(rt: &impl Print, segment: &[u8]) -> io::Result<()> {
-    let mut p = Position {
-        page: 0,
-        slot: 0,
-        going: true,
-    };
-    let mut turns: usize = 1000;
-    while 0 < turns && p.going {
-        turns -= 1;
-        p = list_one(rt, segment, p)?;
+    let mut scan = Scan::new(segment);
+    for _ in 0..MOST_LISTED {
+        match scan.advance().map(|step| step.found) {
+            Ok(Some(record)) => listed(rt, record)?,
+            _ => break,
+        }
     }
     Ok(())
 }
 
 // One record by its id: the answer, and its bytes.
 pub fn read(rt: &impl Print, segment: &[u8], id: usize) -> io::Result<()> {
-    let mut answer: usize = 0;
-    let row = segment_read::get_record(segment, id, &mut answer);
-    print!(rt; "  answer {answer}")?;
+    let row = match segment_read::get_record(segment, id) {
+        Ok(row) => row,
+        Err(refusal) => {
+            let answer = u64::from(refusal);
+            return println!(rt; "  answer {answer}");
+        }
+    };
+    say(rt, b"  answer 0")?;
     if !row.is_empty() {
         say(rt, b"  ")?;
         say(rt, row)?;
@@ -72,9 +55,9 @@ pub fn stored(rt: &impl Print, id: u64, row: &[u8]) -> io::Result<()> {
 }
 
 // What an erase answered.
-pub fn erased(rt: &impl Print, answer: Answer) -> io::Result<()> {
+pub fn erased(rt: &impl Print, answer: Result<usize, Refusal>) -> io::Result<()> {
     match answer {
-        Answer::Done { id: _ } => println!(rt; "  erased"),
-        _ => println!(rt; "  refused"),
+        Ok(_) => println!(rt; "  erased"),
+        Err(_) => println!(rt; "  refused"),
     }
 }

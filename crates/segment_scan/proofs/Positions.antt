@@ -1,48 +1,51 @@
 -- The scan's position: from slot to slot and from page to page.
 use Prim.Native.Nat.{ℕ, suc, ◌+◌, ◌-◌, ◌/◌, ◌≤◌, ◌<◌}
-use mathlib.Core.Path.{◌≡◌, refl, sym, ap, subst, ◌∙◌}
-use mathlib.Core.Bool.{Bool, true, false, not}
+use mathlib.Core.Path.{◌≡◌, refl, sym, ap, ◌∙◌}
+use mathlib.Core.Bool.{Bool, true, false, not, cond}
 use mathlib.Core.List.{List}
+use Rattle.std.proofs.Common.{Option, Some, None}
 use mathlib.Core.Logic.{⊎_elim}
 use native.Mathlib.Omega.{arith}
 use native.Mathlib.Decide.{dec_lt}
 use lib.ListN.{length}
 use lib.Dec.{eqb, ltb, leb}
+use Rattle.std.proofs.Common.{ltb-true}
 use borrow.Author.Tests.{lt-ltb, le-ltb, lt-leb, le-leb, leb-true, not-false}
 use Rattle.store.specs.Slots.{is_record}
 use Rattle.store.specs.Page.{View, fresh, count_fits, sound_tests, passes, sound}
-use Rattle.store.specs.Refusals.{DONE, SIZE}
+use Rattle.store.specs.Refusals.{DONE, SIZE, DAMAGED}
 use Rattle.store.specs.Segment.{SegView, seg_view, size_ok}
 use Rattle.store.specs.Scan.{Scanned, without, over_page, next_record, damaged_at, scan_from, scan_plan, scan_step}
-use Rattle.store.specs.Answers.{scanned_of}
 use Rattle.store.proofs.Laws.Cases.{by_test, or_true}
 use Rattle.store.proofs.Laws.SoundPage.{and_both, fresh_none}
 use Rattle.store.proofs.Laws.Scan.{next_record_lem}
 use Rattle.store.proofs.Laws.SoundSegment.{seen_pages}
-use Rattle.store.specs.declared.Step.{Step}
-use Rattle.store.specs.declared.Step.TheVariants.{Record, End, Size, Damaged}
-use Rattle.segment_scan.specs.Held.{page_after, slot_after}
-use Rattle.segment_scan.specs.Pages.{record_or, on_page, is_end, or_later}
+use Rattle.segment_scan.specs.Pages.{record_or, first_record, or_record, on_page}
 
 -- ---- from slot to slot
 
 module _ (v : View) (n k : ℕ) where
-  pub next_here : k < n → is_record (v.at k) ≡ true → k ≡ next_record (n - k) v k
-  next_here h e = let m : n - k ≡ suc (n - (k + 1)) = omega arith in rw (m, e)
+  pub first_here : k < n → is_record (v.at k) ≡ true → Some k ≡ first_record n v k
+  unfolding first_record
+  first_here h e = let m : n - k ≡ suc (n - (k + 1)) = omega arith in rw (m, e, lt-ltb k n h)
 
-  pub next_turn : k < n → is_record (v.at k) ≡ false → next_record (n - (k + 1)) v (k + 1) ≡ next_record (n - k) v k
-  next_turn h e = let m : n - k ≡ suc (n - (k + 1)) = omega arith in rw (m, e)
+  pub first_turn : k < n → is_record (v.at k) ≡ false → first_record n v (k + 1) ≡ first_record n v k
+  unfolding first_record
+  first_turn h e = let m : n - k ≡ suc (n - (k + 1)) = omega arith in rw (m, e)
 
-  pub next_done : n ≤ k → k ≡ next_record (n - k) v k
-  next_done h = let m : n - k ≡ 0 = omega arith in rw m
+  pub first_none : n ≤ k → None ≡ first_record n v k
+  unfolding first_record
+  first_none h = let m : n - k ≡ 0 = omega arith in rw (m, le-ltb k n h)
 
--- where it stops short, it holds a record
-pub next_is : (v : View) (n k j : ℕ) → j ≡ next_record (n - k) v k → j < n → is_record (v.at j) ≡ true
-next_is v n k j e h = go (dec_lt n k)
+-- what is found is a slot that holds a record
+pub first_is : (v : View) (n k j : ℕ) → first_record n v k ≡ Some j → (j < n) × (is_record (v.at j) ≡ true)
+unfolding first_record
+first_is v n k j =
+    by_test (λ (r : Option ℕ). r ≡ Some j → (j < n) × (is_record (v.at j) ≡ true)) (ltb i n) (Some i) None
+    (λ t e. let q : i ≡ j = cc in let h = ltb-true i n t in rw (← q) (h, next_record_lem (n - k) v k (omega (arith, h)))) (λ t e. cc)
   where
-    go : Dec (n < k) → is_record (v.at j) ≡ true
-    go (yes l) = let q : k ≡ next_record (n - k) v k = next_done v n k (omega arith) in absurd (omega arith)
-    go (no l) = subst (λ (i : ℕ). is_record (v.at i) ≡ true) (sym e) (next_record_lem (n - k) v k (omega arith))
+    i : ℕ
+    i = next_record (n - k) v k
 
 -- ---- the test of a page
 
@@ -67,41 +70,29 @@ few_at v k =
 
 -- ---- one page
 
-module _ (s : List ℕ) (v : View) (p k : ℕ) (d : Scanned) where
-  pub page_damaged : damaged_at v k ≡ true → or_later Damaged s d ≡ on_page v p k d
-  unfolding or_later on_page
+module _ (v : View) (p k : ℕ) (d : Scanned) where
+  pub page_damaged : damaged_at v k ≡ true → without DAMAGED over_page 0 ≡ on_page v p k d
+  unfolding on_page
   page_damaged e = rw e
 
-  module _ (n j : ℕ) (e : damaged_at v k ≡ false) (count : n ≡ v.slot_count) (position : j ≡ next_record (n - k) v k) where
-    same : j ≡ next_record (v.slot_count - k) v k
-    same = position ∙ ap (λ (m : ℕ). next_record (m - k) v k) count
-
-    test : (b : Bool) → ltb j n ≡ b → ltb (next_record (v.slot_count - k) v k) v.slot_count ≡ b
-    test b q = (λ i. ltb (sym same i) (sym count i)) ∙ q
-
-    pub page_none : n ≤ j → (q i : ℕ) → or_later (End q i) s d ≡ on_page v p k d
-    unfolding or_later on_page
-    page_none h q i = rw (e, test false (le-ltb j n h))
-
-    pub page_record : j < n → (r : Step) → scanned_of r s ≡ record_or v p j → is_end r ≡ false → or_later r s d ≡ on_page v p k d
-    unfolding or_later on_page
-    page_record h r q f = rw (e, test true (lt-ltb j n h), f) (q ∙ ap (record_or v p) same)
+  pub page_first : damaged_at v k ≡ false → (n : ℕ) → n ≡ v.slot_count → (r : Option ℕ) → first_record n v k ≡ r → or_record r v p d ≡ on_page v p k d
+  unfolding on_page
+  page_first e n count r q = rw e (ap (λ (x : Option ℕ). or_record x v p d) (sym q ∙ ap (λ (m : ℕ). first_record m v k) count))
 
 -- ---- from page to page
 
-module _ (s : List ℕ) (step : Step) (d : Scanned) where
-  pub later_no : is_end step ≡ false → scanned_of step s ≡ or_later step s d
-  unfolding or_later
-  later_no e = rw e
-
-  pub later_yes : is_end step ≡ true → d ≡ or_later step s d
-  unfolding or_later
-  later_yes e = rw e
+or_found : (b : Bool) (j : ℕ) (v : View) (p : ℕ) (d : Scanned) → or_record (cond b (Some j) None) v p d ≡ cond b (record_or v p j) d
+or_found true j v p d = refl
+or_found false j v p d = refl
 
 module _ (s : SegView) (n p k : ℕ) where
   pub from_turn : p < n → on_page (s.page p) p k (scan_from (n - (p + 1)) s (p + 1) 0) ≡ scan_from (n - p) s p k
-  unfolding on_page record_or
-  from_turn h = let m : n - p ≡ suc (n - (p + 1)) = omega arith in rw m
+  unfolding on_page first_record record_or
+  from_turn h =
+      let m : n - p ≡ suc (n - (p + 1)) = omega arith in
+      let v = s.page p in
+      let j = next_record (v.slot_count - k) v k in
+      rw m (ap (cond (damaged_at v k) (without DAMAGED over_page 0)) (or_found (ltb j v.slot_count) j v p (scan_from (n - (p + 1)) s (p + 1) 0)))
 
   pub from_done : n ≤ p → without DONE p k ≡ scan_from (n - p) s p k
   from_done h = let m : n - p ≡ 0 = omega arith in rw m
@@ -125,17 +116,3 @@ module _ (s : List ℕ) (p k : ℕ) where
     pub step_plan : size_ok s ≡ true → scan_plan (seg_view s) p k ≡ scan_step s p k
     unfolding scan_step
     step_plan e = rw (le-ltb 32527 p h, e)
-
--- ---- the position after it
-
-pub page_of_lem : (s : List ℕ) (r : Step) → page_after r ≡ (scanned_of r s).page
-page_of_lem s (Record i o l p k) = refl
-page_of_lem s (End p k) = refl
-page_of_lem s Size = refl
-page_of_lem s Damaged = refl
-
-pub slot_no_of : (s : List ℕ) (r : Step) → slot_after r ≡ (scanned_of r s).slot
-slot_no_of s (Record i o l p k) = refl
-slot_no_of s (End p k) = refl
-slot_no_of s Size = refl
-slot_no_of s Damaged = refl

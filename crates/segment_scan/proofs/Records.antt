@@ -1,8 +1,9 @@
 -- A record that the scan answers: how it lies, and its step.
 use Prim.Native.Nat.{ℕ, ◌+◌, ◌-◌, ◌*◌, ◌≤◌}
 use mathlib.Core.Path.{◌≡◌, refl, sym, ap, subst, ◌∙◌}
-use mathlib.Core.Bool.{Bool, true, false, not, ◌&&◌, ◌||◌}
+use mathlib.Core.Bool.{true, false, not, ◌||◌}
 use mathlib.Core.List.{List}
+use Rattle.std.proofs.Common.{Option, Some}
 use native.Mathlib.Omega.{arith}
 use lib.ListN.{take, drop}
 use lib.Dec.{leb}
@@ -13,35 +14,18 @@ use Rattle.store.specs.Page.{View, view, fresh, lies_well}
 use Rattle.store.specs.Refusals.{DAMAGED}
 use Rattle.store.specs.PageSteps.{initialised}
 use Rattle.store.specs.Segment.{seg_view, page_of, part_on}
-use Rattle.store.specs.Scan.{Scanned, without, over_page, record_at}
-use Rattle.store.specs.Answers.{scanned_of}
+use Rattle.store.specs.Scan.{without, over_page, record_at}
+use Rattle.store.specs.Answers.{step_of}
 use Rattle.store.proofs.Laws.SoundPage.{and_both, in_page}
 use Rattle.store.proofs.Laws.Cases.{by_test}
 use Rattle.store.proofs.Laws.Parts.{ordinary_part, target_part}
 use Rattle.store.specs.declared.Slot.{Slot}
 use Rattle.store.specs.declared.Slot.TheVariants.{Ordinary, Free, Redirect, Target}
-use Rattle.store.specs.declared.Step.{Step}
-use Rattle.store.specs.declared.Step.TheVariants.{Record, End, Size, Damaged}
+use Rattle.store.specs.declared.Record.{Record}
 use Rattle.segment_pages.proofs.Seen.{target_head}
-use Rattle.segment_scan.specs.Pages.{lies_at, well_at, record_or, is_end}
+use Rattle.segment_scan.specs.Pages.{lies_at, well_at, record_or}
 
 -- ---- how a record lies
-
-module _ (d o l : ℕ) (s : Slot) (offset : o ≡ off s) (long : l ≡ len s) where
-  well_same : well_at d s ≡ (lies_at d o l && (not (is_target s) || leb 8 l))
-  unfolding well_at
-  well_same = rw (offset, long)
-
-  module _ (b : Bool) (lies : b ≡ lies_at d o l) where
-    pub well_no : b ≡ false → false ≡ well_at d s
-    well_no e = rw (well_same, ← lies, e)
-
-    module _ (e : b ≡ true) where
-      pub well_plain : is_target s ≡ false → true ≡ well_at d s
-      well_plain t = rw (well_same, ← lies, e, t)
-
-      pub well_target : is_target s ≡ true → leb 8 l ≡ well_at d s
-      well_target t = rw (well_same, ← lies, e, t)
 
 lies_well_at : (v : View) (k : ℕ) → lies_well v k ≡ well_at v.data_start (v.at k)
 unfolding well_at lies_at
@@ -72,6 +56,9 @@ lies_seen s p k d x r e q =
 
 -- ---- its step
 
+abbrev found : ℕ → ℕ → ℕ → Option Record
+found i o l = Some (record { id = i; part = record { offset = o; length = l } })
+
 module _ (s : List ℕ) (p k : ℕ) (well : lies_well ((seg_view s).page p) k ≡ true) where
   inside : (x : Slot) → ((seg_view s).page p).at k ≡ x → off x + len x ≤ 16384
   inside x e = subst (λ (y : Slot). off y + len y ≤ 16384) e (in_page ((seg_view s).page p) k well)
@@ -80,7 +67,7 @@ module _ (s : List ℕ) (p k : ℕ) (well : lies_well ((seg_view s).page p) k �
   long_enough x e = subst (λ (y : Slot). is_target y ≡ true → 8 ≤ len y) e (well_long ((seg_view s).page p) k well)
 
   plain : (x : Slot) → ((seg_view s).page p).at k ≡ x → is_record x ≡ true → is_target x ≡ false
-      → scanned_of (Record (id_of p k) (p * 16384 + off x) (len x) p (k + 1)) s ≡ record_at ((seg_view s).page p) p k
+      → step_of (found (id_of p k) (p * 16384 + off x) (len x)) p (k + 1) s ≡ record_at ((seg_view s).page p) p k
   plain (Ordinary o l) e r t =
       rw e (ap (λ (bs : List ℕ). record { answer = 0; some = true; id = id_of p k; bytes = bs; part = part_on p (Ordinary o l); page = p; slot = k + 1 })
       (ordinary_part s p k o l e (inside (Ordinary o l) e)))
@@ -89,7 +76,7 @@ module _ (s : List ℕ) (p k : ℕ) (well : lies_well ((seg_view s).page p) k �
   plain (Target o l) e r t = let z : ◌≡◌ {A = ℕ} 0 1 = cc in absurd (omega arith)
 
   target : (x : Slot) → ((seg_view s).page p).at k ≡ x → is_target x ≡ true
-      → scanned_of (Record (be (cut s (p * 16384 + off x) 8)) (p * 16384 + (off x + 8)) (len x - 8) p (k + 1)) s ≡ record_at ((seg_view s).page p) p k
+      → step_of (found (be (cut s (p * 16384 + off x) 8)) (p * 16384 + (off x + 8)) (len x - 8)) p (k + 1) s ≡ record_at ((seg_view s).page p) p k
   target (Ordinary o l) e t = let z : ◌≡◌ {A = ℕ} 0 1 = cc in absurd (omega arith)
   target Free e t = let z : ◌≡◌ {A = ℕ} 0 1 = cc in absurd (omega arith)
   target (Redirect i) e t = let z : ◌≡◌ {A = ℕ} 0 1 = cc in absurd (omega arith)
@@ -101,11 +88,11 @@ module _ (s : List ℕ) (p k : ℕ) (well : lies_well ((seg_view s).page p) k �
 
   module _ (x : Slot) (e : x ≡ ((seg_view s).page p).at k) (o l : ℕ) (offset : o ≡ off x) (long : l ≡ len x) where
     pub record_plain : is_record x ≡ true → is_target x ≡ false
-        → scanned_of (Record (id_of p k) (p * 16384 + o) l p (k + 1)) s ≡ record_at ((seg_view s).page p) p k
+        → step_of (found (id_of p k) (p * 16384 + o) l) p (k + 1) s ≡ record_at ((seg_view s).page p) p k
     record_plain r t = rw (offset, long) (plain x (sym e) r t)
 
     pub record_target : is_target x ≡ true → (b : ℕ) → b ≡ be (cut s (p * 16384 + o) 8)
-        → scanned_of (Record b (p * 16384 + (o + 8)) (l - 8) p (k + 1)) s ≡ record_at ((seg_view s).page p) p k
+        → step_of (found b (p * 16384 + (o + 8)) (l - 8)) p (k + 1) s ≡ record_at ((seg_view s).page p) p k
     record_target t b q = rw (q, offset, long) (target x (sym e) t)
 
     pub record_high : o + l ≤ 16384
@@ -124,14 +111,3 @@ module _ (v : View) (p k : ℕ) where
   pub record_yes : lies_well v k ≡ true → record_at v p k ≡ record_or v p k
   unfolding record_or
   record_yes e = rw e
-
-  -- neither is the end
-  pub record_not_end : (s : List ℕ) (r : Step) → scanned_of r s ≡ record_or v p k → is_end r ≡ false
-  unfolding record_or
-  record_not_end s (Record i o l q j) e = refl
-  record_not_end s (End q j) e =
-      absurd (by_test (λ (d : Scanned). scanned_of (End q j) s ≡ d → ⊥) (lies_well v k) (record_at v p k) (without DAMAGED over_page 0)
-      (λ g h. let a : ◌≡◌ {A = Bool} false true = ap (λ (d : Scanned). d.some) h in let z : ◌≡◌ {A = ℕ} 0 1 = cc in omega arith)
-      (λ g h. let a : ◌≡◌ {A = ℕ} 0 4 = ap (λ (d : Scanned). d.answer) h in omega arith) e)
-  record_not_end s Size e = refl
-  record_not_end s Damaged e = refl

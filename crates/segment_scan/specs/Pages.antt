@@ -1,5 +1,5 @@
 -- The scan's step, page by page as the code makes it.
-use Rattle.std.specs.Prelude.{ℕ, ◌+◌, ◌-◌, ◌≤◌, ◌<◌, ◌≡◌, Bool, true, false, cond, not, ◌&&◌, ◌||◌, List, eqb, ltb, leb}
+use Rattle.std.specs.Prelude.{ℕ, ◌+◌, ◌-◌, ◌≤◌, ◌<◌, ◌≡◌, Bool, true, cond, not, ◌&&◌, ◌||◌, List, eqb, ltb, leb, Option, Some, None, Result, Ok, Err}
 use Rattle.store.specs.Slots.{off, len, is_record, is_target}
 use Rattle.store.specs.Page.{View, lies_well}
 use Rattle.store.specs.Refusals.{DAMAGED}
@@ -9,7 +9,7 @@ use Rattle.store.specs.Laws.Lent.{Within}
 use Rattle.store.specs.Answers.{scanned_of}
 use Rattle.store.specs.declared.Slot.{Slot}
 use Rattle.store.specs.declared.Step.{Step}
-use Rattle.store.specs.declared.Step.TheVariants.{Record, End, Size, Damaged}
+use Rattle.store.specs.declared.Refusal.{Refusal}
 
 -- `lies_well`, of an entry and a data start
 unfoldable pub lies_at : ℕ → ℕ → ℕ → Bool
@@ -22,22 +22,24 @@ well_at d s = lies_at d (off s) (len s) && (not (is_target s) || leb 8 (len s))
 unfoldable pub record_or : View → ℕ → ℕ → Scanned
 record_or v p k = cond (lies_well v k) (record_at v p k) (without DAMAGED over_page 0)
 
+-- the first slot from k on, of n, that holds a record
+unfoldable pub first_record : ℕ → View → ℕ → Option ℕ
+first_record n v k = let j = next_record (n - k) v k in cond (ltb j n) (Some j) None
+
+-- the record of the slot found, or else `later`
+abbrev pub or_record : Option ℕ → View → ℕ → Scanned → Scanned
+or_record (Some j) v p later = record_or v p j
+or_record None v p later = later
+
 -- page p from slot k on, and then `later`
 unfoldable pub on_page : View → ℕ → ℕ → Scanned → Scanned
-on_page v p k later =
-    let j = next_record (v.slot_count - k) v k in
-    cond (damaged_at v k) (without DAMAGED over_page 0)
-    (cond (ltb j v.slot_count) (record_or v p j) later)
+on_page v p k later = cond (damaged_at v k) (without DAMAGED over_page 0) (or_record (first_record v.slot_count v k) v p later)
 
 -- a page's answer stands, unless it has no record left
-abbrev pub is_end : Step → Bool
-is_end (Record i o l p k) = false
-is_end (End p k) = true
-is_end Size = false
-is_end Damaged = false
-
-unfoldable pub or_later : Step → List ℕ → Scanned → Scanned
-or_later r s later = cond (is_end r) later (scanned_of r s)
+abbrev pub or_later : Result (Option Step) Refusal → List ℕ → Scanned → Scanned
+or_later (Ok (Some t)) s later = scanned_of (Ok t) s
+or_later (Ok None) s later = later
+or_later (Err r) s later = scanned_of (Err r) s
 
 -- ---- what is asked of page p of the segment s
 

@@ -6,17 +6,17 @@ use Rattle.segment_scan.proofs.Records.{record_plain, record_target, record_high
 use Rattle.segment_scan.proofs.record_at.Goals.{After-is_target, Then-is_target}
 use Rattle.segment_scan.proofs.record_at.Goals as goal
 
-high : (c : After-is_target) → c.off_of-o.result + c.len_of-l.result ≤ 16384
+high : (c : After-is_target) → c.offset-o.result + c.len-l.result ≤ 16384
 high c =
     let a = c.args in
     let r = c.requires in
-    record_high a.segment.now a.p a.k r.lies _ r.entry _ _ c.off_of-o.ensures c.len_of-l.ensures
+    record_high a.segment.now a.p a.k r.lies _ r.entry _ _ c.offset-o.ensures c.len-l.ensures
 
-long : (c : Then-is_target) → 8 ≤ c.len_of-l.result
+long : (c : Then-is_target) → 8 ≤ c.len-l.result
 long c =
     let a = c.args in
     let r = c.requires in
-    record_long a.segment.now a.p a.k r.lies _ r.entry _ _ c.off_of-o.ensures c.len_of-l.ensures
+    record_long a.segment.now a.p a.k r.lies _ r.entry _ _ c.offset-o.ensures c.len-l.ensures
     (sym c.is_target.ensures ∙ c.if-is_target.true)
 
 pub back_id_on-root-requires : goal.back_id_on-root-requires
@@ -42,7 +42,7 @@ pub returns-then-is_target : goal.returns-then-is_target
 returns-then-is_target c =
     let a = c.args in
     let r = c.requires in
-    record_target a.segment.now a.p a.k r.lies _ r.entry _ _ c.off_of-o.ensures c.len_of-l.ensures
+    record_target a.segment.now a.p a.k r.lies _ r.entry _ _ c.offset-o.ensures c.len-l.ensures
     (sym c.is_target.ensures ∙ c.if-is_target.true) _ c.back_id_on-root.ensures
 
 pub overflow_add-result-2 : goal.overflow_add-result-2
@@ -52,5 +52,5 @@ pub returns : goal.returns
 returns c =
     let a = c.args in
     let r = c.requires in
-    record_plain a.segment.now a.p a.k r.lies _ r.entry _ _ c.off_of-o.ensures c.len_of-l.ensures
+    record_plain a.segment.now a.p a.k r.lies _ r.entry _ _ c.offset-o.ensures c.len-l.ensures
     (ap is_record r.entry ∙ r.record_on.holds) (sym c.is_target.ensures ∙ c.if-is_target.false)

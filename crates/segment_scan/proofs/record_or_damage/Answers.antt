@@ -1,10 +1,8 @@
 use Prim.Native.Nat.{ℕ}
 use mathlib.Core.Path.{◌≡◌, sym, ap, ◌∙◌}
 use mathlib.Core.List.{List}
-use lib.ListN.{length}
 use Rattle.store.specs.Page.{View, view, lies_well}
 use Rattle.store.specs.Segment.{seg_view}
-use Rattle.store.proofs.Laws.Segments.{length_page}
 use Rattle.segment_scan.proofs.Records.{lies_seen, record_no, record_yes}
 use Rattle.segment_scan.proofs.record_or_damage.Goals.{After-lies_well}
 use Rattle.segment_scan.proofs.record_or_damage.Goals as goal
@@ -21,10 +19,6 @@ lies c =
 
 pub slot_on-s-requires : goal.slot_on-s-requires
 slot_on-s-requires c = let counted = c.requires.counted in record { within = counted.whole; p_bound = counted.few }
-
-pub get_data_start-d-requires : goal.get_data_start-d-requires
-get_data_start-d-requires c =
-    ap length c.page_of.ensures ∙ length_page c.args.segment.now c.args.p c.requires.counted.whole
 
 pub returns-then-not-lies_well : goal.returns-then-not-lies_well
 returns-then-not-lies_well c =

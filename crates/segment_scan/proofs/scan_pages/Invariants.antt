@@ -6,6 +6,3 @@ use Rattle.segment_scan.proofs.scan_pages.Given as goal
 
 abbrev pub invariant-loop-p : goal.invariant-loop-p
 invariant-loop-p l = scan_from (l.n - l.p) (seg_view l.segment) l.p l.k ≡ scan_from (l.n - l.page) (seg_view l.segment) l.page l.slot
-
-abbrev pub decreases-loop-p : goal.decreases-loop-p
-decreases-loop-p l = l.n - l.p
