@@ -1,6 +1,6 @@
 -- Erase: what the code did is what the plan says.
 use Prim.Native.Nat.{ℕ, ◌/◌}
-use mathlib.Core.Path.{◌≡◌, sym, ap, ◌∙◌}
+use mathlib.Core.Path.{◌≡◌, refl, sym, ap, ◌∙◌}
 use mathlib.Core.Bool.{true, false, ◌&&◌}
 use mathlib.Core.List.{List, [], ◌∷◌}
 use mathlib.Core.Logic.{◌≢◌}
@@ -10,17 +10,19 @@ use Rattle.store.specs.Numbers.{page_no, slot_no}
 use Rattle.store.specs.Slots.{is_free}
 use Rattle.store.specs.Page.{view, sound}
 use Rattle.store.specs.PageSteps.{erase}
-use Rattle.store.specs.Refusals.{DONE}
+use Rattle.store.specs.Refusals.{DONE, number_of}
 use Rattle.store.specs.Inventory.{update}
 use Rattle.store.specs.Segment.{seg_view, page_of, size_ok, inv_ok, OnPage, on, carried_on, carried, refuse, result, root_of, by_root, points_back}
 use Rattle.store.specs.Segment.{erase_by, erase_plan, erase_step}
-use Rattle.store.specs.Answers.{answer_no, answer_id, outcome}
+use Rattle.store.specs.Answers.{outcome}
 use Rattle.store.specs.Laws.Lent.{TakenOn}
 use Rattle.store.proofs.Laws.Calls.{back_ok}
-use Rattle.store.specs.declared.Root.{Root}
+use Rattle.std.specs.Prelude.{Ok, Err}
+use Rattle.std.specs.Prelude.{Result as ResultOf}
+use Rattle.store.specs.declared.Slot.{Slot}
 use Rattle.store.specs.declared.Slot.TheVariants.{Ordinary, Redirect}
-use Rattle.store.specs.declared.Answer.{Answer}
-use Rattle.store.specs.declared.Answer.TheVariants as answer
+use Rattle.store.specs.declared.Refusal.{Refusal}
+use Rattle.store.specs.declared.Refusal.TheVariants as refusal
 use Rattle.segment_pages.proofs.Root.{back_taken}
 use Rattle.segment_steps.proofs.After.{Took, took_length, Left, left_own, left_other, left_update, still, next_took, erase_on_page}
 
@@ -32,18 +34,18 @@ pub took_erasing : (s : List ℕ) (i : ℕ) → TakenOn s (page_no i) (slot_no i
 took_erasing s i h t e = record { exact = erase_on_page s (page_no i) (slot_no i) h; is = e }
 
 module _ (s v : List ℕ) where
-  pub refused_is : (r : Answer) → answer_id r ≡ 0 → outcome r s v ≡ result s (refuse v (answer_no r))
+  pub refused_is : (r : Refusal) → outcome (Err r) s v ≡ result s (refuse v (number_of r))
   unfolding result
-  refused_is r e = λ z. record { answer = answer_no r; id = e z; seg = s; inv = v }
+  refused_is r = refl
 
   module _ (i : ℕ) where
     -- ---- 1, then as the id's own page answers
 
-    pub step_size : (size_ok s && inv_ok v) ≡ false → outcome answer.Size s v ≡ erase_step s v i
+    pub step_size : (size_ok s && inv_ok v) ≡ false → outcome (Err refusal.Size) s v ≡ erase_step s v i
     unfolding erase_step result
     step_size e = rw e
 
-    pub step_by : (size_ok s && inv_ok v) ≡ true → (r : Root) → root_of (seg_view s) i ≡ r
+    pub step_by : (size_ok s && inv_ok v) ≡ true → (r : ResultOf Slot Refusal) → root_of (seg_view s) i ≡ r
         → result s (by_root (refuse v) (erase_by (seg_view s) v i) r) ≡ erase_step s v i
     unfolding erase_step erase_plan
     step_by ok r e = sym (rw (ok, e))
@@ -51,7 +53,7 @@ module _ (s v : List ℕ) where
     -- ---- an ordinary slot
 
     pub by_ordinary : (t w : List ℕ) → Took s (erasing s i) t → w ≡ update v (length t / 16384) (page_no i) (view (page_of t (page_no i))).free_space
-        → outcome (answer.Done i) t w ≡ result s (erase_by (seg_view s) v i (Ordinary 0 0))
+        → outcome (Ok i) t w ≡ result s (erase_by (seg_view s) v i (Ordinary 0 0))
     unfolding result
     by_ordinary t w x ew =
         let e = erasing s i in
@@ -61,7 +63,7 @@ module _ (s v : List ℕ) where
     -- ---- a redirect: 4 (target), or two pages
 
     module _ (j : ℕ) where
-      pub by_damaged : points_back (seg_view s) i j ≡ false → outcome answer.Damaged s v ≡ result s (erase_by (seg_view s) v i (Redirect j))
+      pub by_damaged : points_back (seg_view s) i j ≡ false → outcome (Err refusal.Damaged) s v ≡ result s (erase_by (seg_view s) v i (Redirect j))
       unfolding result
       by_damaged e = rw e
 
@@ -97,7 +99,7 @@ module _ (s v : List ℕ) where
 
           pub by_redirect : (w y : List ℕ) → w ≡ update v (length r / 16384) (page_no j) (view (page_of r (page_no j))).free_space
               → y ≡ update w (length r / 16384) (page_no i) (view (page_of r (page_no i))).free_space
-              → outcome (answer.Done i) r y ≡ result s (erase_by (seg_view s) v i (Redirect j))
+              → outcome (Ok i) r y ≡ result s (erase_by (seg_view s) v i (Redirect j))
           unfolding result
           by_redirect w y ew ey =
               let f = left_update s r (page_no j) (erasing s j).plan.after target_left both_length v w ew in

@@ -14,16 +14,17 @@ use Rattle.store.specs.PageSteps.{Plan, Alloc, no_room, got, allocate, erase, er
 use Rattle.store.specs.Inventory.{found_in, update}
 use Rattle.store.specs.Segment.{seg_view, page_of, OnPage, on, carried_on, Result, result, Found, nowhere, found, taken, find, find_on}
 use Rattle.store.specs.Segment.{forwarded, forwarded_again}
-use Rattle.store.specs.Answers.{outcome, answer_no}
+use Rattle.store.specs.Answers.{outcome}
+use Rattle.store.specs.Refusals.{number_of}
 use Rattle.store.specs.Laws.Lent.{Within, SoundOn, TakenOn}
 use Rattle.store.proofs.Laws.Segments.{ExactOn}
 use Rattle.store.proofs.Laws.Calls.{by_test, NamedOk, named_ok}
 use Rattle.store.proofs.Laws.SoundSegment.{seen_pages}
-use Rattle.store.specs.declared.Named.{Named}
-use Rattle.store.specs.declared.Named.TheVariants.{At, Full}
+use Rattle.std.specs.Prelude.{Option, Some, None, Ok, Err}
+use Rattle.std.specs.Prelude.{Result as ResultOf}
+use Rattle.store.proofs.Laws.Roots.{refusal_some}
 use Rattle.store.specs.declared.Slot.TheVariants.{Redirect}
-use Rattle.store.specs.declared.Answer.{Answer}
-use Rattle.store.specs.declared.Answer.TheVariants as answer
+use Rattle.store.specs.declared.Refusal.{Refusal}
 use Rattle.slotted_page.specs.Words.{target_plan, redirect_plan}
 use Rattle.segment_steps.proofs.After.{Took, took_length, left_own, left_other, next_took, third_took, small_id}
 use Rattle.segment_moves.proofs.Moved.{target_on_page}
@@ -36,17 +37,6 @@ use Rattle.segment_forward.proofs.Search.{got_small, placing}
 
 -- ---- what the search answered: refused, or a target at k
 
-not_done : (y : Answer) → ((k : ℕ) → y ≡ answer.Done k → ⊥) → 0 < answer_no y
-not_done (answer.Done k) h = absurd (h k refl)
-not_done answer.Size h = omega arith
-not_done answer.NoPage h = omega arith
-not_done answer.Long h = omega arith
-not_done answer.Damaged h = omega arith
-not_done answer.NoRecord h = omega arith
-not_done answer.Forwarded h = omega arith
-not_done answer.Full h = omega arith
-not_done answer.Stale h = omega arith
-
 -- what is known of a page found; a refusal has a number
 abbrev FoundBy : List ℕ → ℕ → (ℕ → Bool) → Found → Type 0
 FoundBy s m ex (nowhere a) = 0 < a
@@ -56,9 +46,9 @@ found_by : (s v : List ℕ) (m : ℕ) (ex : ℕ → Bool) → FoundBy s m ex (fi
 unfolding find
 found_by s v m ex = go (found_in v (seg_view s).pages (m + 8)) (named_ok v (seg_view s).pages (m + 8))
   where
-    go : (x : Named) → NamedOk (seg_view s).pages x → FoundBy s m ex (find_on (seg_view s) m ex x)
-    go Full h = omega arith
-    go (At p) h =
+    go : (x : Option ℕ) → NamedOk (seg_view s).pages x → FoundBy s m ex (find_on (seg_view s) m ex x)
+    go None h = omega arith
+    go (Some p) h =
         by_test (FoundBy s m ex) (not (sound ((seg_view s).page p))) (nowhere 4) (cond (ex p) (nowhere 8) (taken p (allocate ((seg_view s).page p) m)))
         (λ f. omega arith)
         (λ f. by_test (FoundBy s m ex) (ex p) (nowhere 8) (taken p (allocate ((seg_view s).page p) m)) (λ x. omega arith)
@@ -79,25 +69,29 @@ pub record Placed (s : List ℕ) (i : ℕ) (bs : List ℕ) (ex : ℕ → Bool) (
 
 module _ (s v : List ℕ) (i n : ℕ) (bs : List ℕ) (t : List ℕ) where
   -- a refusal of the search is one of the forwarding
-  module _ (y : Answer) (refused : (k : ℕ) → y ≡ answer.Done k → ⊥) where
-    pub forward_refused : (f : Found) → outcome y t v ≡ result s (new_target v i bs f) → outcome y t v ≡ result s (forwarded (seg_view s) v i n (λ o. bs) [] f)
+  module _ (y : Refusal) where
+    no_refusal : {A : Type 0} → number_of y ≡ 0 → A
+    no_refusal e = absurd (refusal_some y e)
+
+    pub forward_refused : (f : Found) → outcome (Err y) t v ≡ result s (new_target v i bs f)
+        → outcome (Err y) t v ≡ result s (forwarded (seg_view s) v i n (λ o. bs) [] f)
     unfolding result
     forward_refused (nowhere a) e = e
-    forward_refused (found q j a) e = let z : answer_no y ≡ 0 = ap (λ (r : Result). r.answer) e in absurd (omega (arith, z, not_done y refused))
+    forward_refused (found q j a) e = no_refusal (ap (λ (r : Result). r.answer) e)
 
-    pub again_refused : (j : ℕ) (f : Found) → outcome y t v ≡ result s (new_target v i bs f)
-        → outcome y t v ≡ result s (forwarded_again (seg_view s) v i n (λ o. bs) j [] f)
+    pub again_refused : (j : ℕ) (f : Found) → outcome (Err y) t v ≡ result s (new_target v i bs f)
+        → outcome (Err y) t v ≡ result s (forwarded_again (seg_view s) v i n (λ o. bs) j [] f)
     unfolding result
     again_refused j (nowhere a) e = e
-    again_refused j (found q k a) e = let z : answer_no y ≡ 0 = ap (λ (r : Result). r.answer) e in absurd (omega (arith, z, not_done y refused))
+    again_refused j (found q k a) e = no_refusal (ap (λ (r : Result). r.answer) e)
 
-  pub placed_at : (few : length s / 16384 ≤ 32527) (size : length bs ≡ n) (ex : ℕ → Bool) (y : Answer) (k : ℕ) → y ≡ answer.Done k
+  pub placed_at : (few : length s / 16384 ≤ 32527) (size : length bs ≡ n) (ex : ℕ → Bool) (y : ResultOf ℕ Refusal) (k : ℕ) → y ≡ Ok k
       → outcome y t v ≡ placing s v i n bs ex
       → Placed s i bs ex (find found_in (seg_view s) v (n + 8) ex) k t
   unfolding result
-  placed_at few size ex y k is e = go (find found_in (seg_view s) v (n + 8) ex) (found_by s v (n + 8) ex) (ap (λ (x : Answer). outcome x t v) (sym is) ∙ e)
+  placed_at few size ex y k is e = go (find found_in (seg_view s) v (n + 8) ex) (found_by s v (n + 8) ex) (ap (λ (x : ResultOf ℕ Refusal). outcome x t v) (sym is) ∙ e)
     where
-      go : (f : Found) → FoundBy s (n + 8) ex f → outcome (answer.Done k) t v ≡ result s (new_target v i bs f) → Placed s i bs ex f k t
+      go : (f : Found) → FoundBy s (n + 8) ex f → outcome (Ok k) t v ≡ result s (new_target v i bs f) → Placed s i bs ex f k t
       go (nowhere a) o e = let z : 0 ≡ a = ap (λ (r : Result). r.answer) e in absurd (omega arith)
       go (found q j a) o e =
           let ek : k ≡ id_of q j = ap (λ (r : Result). r.id) e in
@@ -169,12 +163,12 @@ module _ (s : List ℕ) (i : ℕ) (bs : List ℕ) (j : ℕ) (f : Found) (k : ℕ
 
     pub forward_done : (v : List ℕ) (n : ℕ) (w y : List ℕ) → w ≡ update v (length r / 16384) (page_no i) (view (page_of r (page_no i))).free_space
         → y ≡ update w (length r / 16384) (page_no k) (view (page_of r (page_no k))).free_space
-        → outcome (answer.Done i) r y ≡ result s (forwarded (seg_view s) v i n (λ b. bs) [] f)
+        → outcome (Ok i) r y ≡ result s (forwarded (seg_view s) v i n (λ b. bs) [] f)
     unfolding result forward_left
     forward_done v n w y ew ey =
         let h = carried_two s new_step root_step t r o.took root_took others.0 root_exact in
         let g = told_both s v r (page_no i) (page_no k) forward_left w y ew ey in
-        let d : outcome (answer.Done i) r y ≡ result s (forwarded (seg_view s) v i n (λ b. bs) [] (found (page_no k) (slot_no k) o.plan)) =
+        let d : outcome (Ok i) r y ≡ result s (forwarded (seg_view s) v i n (λ b. bs) [] (found (page_no k) (slot_no k) o.plan)) =
         λ z. record { answer = 0; id = i; seg = h z; inv = g z } in
         d ∙ ap (λ (x : Found). result s (forwarded (seg_view s) v i n (λ b. bs) [] x)) (sym o.is)
 
@@ -235,12 +229,12 @@ module _ (s : List ℕ) (i : ℕ) (bs : List ℕ) (j : ℕ) (f : Found) (k : ℕ
 
     pub again_done : (v : List ℕ) (n : ℕ) (w y : List ℕ) → w ≡ update v (length q / 16384) (page_no j) (view (page_of q (page_no j))).free_space
         → y ≡ update w (length q / 16384) (page_no k) (view (page_of q (page_no k))).free_space
-        → outcome (answer.Done i) q y ≡ result s (forwarded_again (seg_view s) v i n (λ b. bs) j [] f)
+        → outcome (Ok i) q y ≡ result s (forwarded_again (seg_view s) v i n (λ b. bs) j [] f)
     unfolding result again_left
     again_done v n w y ew ey =
         let h = carried_three s fresh_step entry_step t r o.took entry_took apart.0 entry_exact old q freed
         (old_exact s i j follows.back) apart.1 off_root in
         let g = told_both s v q (page_no j) (page_no k) again_left w y ew ey in
-        let d : outcome (answer.Done i) q y ≡ result s (forwarded_again (seg_view s) v i n (λ b. bs) j [] (found (page_no k) (slot_no k) o.plan)) =
+        let d : outcome (Ok i) q y ≡ result s (forwarded_again (seg_view s) v i n (λ b. bs) j [] (found (page_no k) (slot_no k) o.plan)) =
         λ z. record { answer = 0; id = i; seg = h z; inv = g z } in
         d ∙ ap (λ (x : Found). result s (forwarded_again (seg_view s) v i n (λ b. bs) j [] x)) (sym o.is)

@@ -18,7 +18,7 @@ use Rattle.store.specs.Answers.{outcome}
 use Rattle.store.specs.Laws.Lent.{TakenOn}
 use Rattle.store.specs.declared.Slot.{Slot}
 use Rattle.store.specs.declared.Slot.TheVariants.{Redirect}
-use Rattle.store.specs.declared.Answer.TheVariants as answer
+use Rattle.std.specs.Prelude.{Ok}
 use Rattle.page_relocate.specs.Words.{page_moved, was_moved, refilled}
 use Rattle.segment_pages.proofs.Root.{root_taken}
 use Rattle.segment_steps.proofs.After.{Took, left_own, next_took}
@@ -82,11 +82,11 @@ module _ (s : List ℕ) (i n : ℕ) (bs : List ℕ) (j : ℕ) (h : Follows s i j
 
     pub home_done : (v w y : List ℕ) → w ≡ update v (length r / 16384) (page_no i) (view (page_of r (page_no i))).free_space
         → y ≡ update w (length r / 16384) (page_no j) (view (page_of r (page_no j))).free_space
-        → outcome (answer.Done i) r y ≡ result s (at_home found_in (seg_view s) v i n (λ b. bs) j [] (relocate root (slot_no i) n))
+        → outcome (Ok i) r y ≡ result s (at_home found_in (seg_view s) v i n (λ b. bs) j [] (relocate root (slot_no i) n))
     unfolding result home_left
     home_done v w y ew ey =
         let e : r ≡ carried (home_step ∷ old ∷ []) s = left_behind.is ∙ ap (carried_on old) home_took.is in
         let g = told_both s v r (page_no i) (page_no j) home_left w y ew ey in
-        let d : outcome (answer.Done i) r y ≡ result s (at_home found_in (seg_view s) v i n (λ b. bs) j [] (moved home.to)) =
+        let d : outcome (Ok i) r y ≡ result s (at_home found_in (seg_view s) v i n (λ b. bs) j [] (moved home.to)) =
         λ z. record { answer = 0; id = i; seg = e z; inv = g z } in
         d ∙ ap (λ (x : Relocated). result s (at_home found_in (seg_view s) v i n (λ b. bs) j [] x)) (sym home.is)

@@ -17,11 +17,9 @@ use Rattle.store.specs.Answers.{outcome}
 use Rattle.store.specs.Laws.Lent.{Within, SoundOn}
 use Rattle.store.proofs.Laws.Calls.{named_within, named_tells}
 use Rattle.store.proofs.Laws.SoundSegment.{seen_pages}
-use Rattle.store.specs.declared.Named.{Named}
-use Rattle.store.specs.declared.Named.TheVariants.{At, Full}
-use Rattle.store.specs.declared.Place.TheVariants as place
-use Rattle.store.specs.declared.Answer.TheVariants as answer
-use Rattle.slotted_page.specs.Words.{page_after, place_of, target_at}
+use Rattle.std.specs.Prelude.{Option, Some, None, Ok, Err}
+use Rattle.store.specs.declared.Refusal.TheVariants.{Damaged, Full, Stale}
+use Rattle.slotted_page.specs.Words.{page_after, place_at, place_of, target_at}
 use Rattle.segment_steps.proofs.After.{got_at, got_none, no_room_same, place_made}
 use Rattle.segment_forward.specs.Words.{root_or_old, new_target}
 
@@ -31,10 +29,10 @@ module _ (s : List ℕ) (p : ℕ) (h : SoundOn s p) (m k : ℕ) where
   pub got_small : (a : Plan) → allocate ((seg_view s).page p) m ≡ got k a → k < 65536
   got_small a e = let o = place_made s p h m k a e in omega (arith, o.1, o.0.sound.few)
 
-  pub slot_small : (o : ℕ) → place_of (allocate ((seg_view s).page p) m) ≡ place.At k o → k < 65536
+  pub slot_small : (o : ℕ) → place_of (allocate ((seg_view s).page p) m) ≡ place_at k o → k < 65536
   slot_small o e = let x = got_at (allocate ((seg_view s).page p) m) k o e in got_small x.to x.is
 
-module _ (s v : List ℕ) (n p : ℕ) (named : found_in v (length s / 16384) (n + 16) ≡ At p) where
+module _ (s v : List ℕ) (n p : ℕ) (named : found_in v (length s / 16384) (n + 16) ≡ Some p) where
   pub named_fits : Within s p
   named_fits = named_within s v (n + 16) p named
 
@@ -47,7 +45,7 @@ module _ (s v : List ℕ) (i n : ℕ) (bs : List ℕ) (ex : ℕ → Bool) where
   abbrev pub placing : Result
   placing = result s (new_target v i bs (find found_in (seg_view s) v (n + 8) ex))
 
-  by_named : (m : Named) → found_in v (length s / 16384) (n + 16) ≡ m → result s (new_target v i bs (find_on (seg_view s) (n + 8) ex m)) ≡ placing
+  by_named : (m : Option ℕ) → found_in v (length s / 16384) (n + 16) ≡ m → result s (new_target v i bs (find_on (seg_view s) (n + 8) ex m)) ≡ placing
   unfolding find
   by_named m e =
       let d : n + 8 + 8 ≡ n + 16 = omega arith in
@@ -55,47 +53,47 @@ module _ (s v : List ℕ) (i n : ℕ) (bs : List ℕ) (ex : ℕ → Bool) where
       ∙ ap (found_in v (length s / 16384)) d ∙ e in
       sym (rw g)
 
-  pub place_full : found_in v (length s / 16384) (n + 16) ≡ Full → outcome answer.Full s v ≡ placing
+  pub place_full : found_in v (length s / 16384) (n + 16) ≡ None → outcome (Err Full) s v ≡ placing
   unfolding result
-  place_full e = by_named Full e
+  place_full e = by_named None e
 
-  module _ (p : ℕ) (named : found_in v (length s / 16384) (n + 16) ≡ At p) where
-    pub place_damaged : sound ((seg_view s).page p) ≡ false → outcome answer.Damaged s v ≡ placing
+  module _ (p : ℕ) (named : found_in v (length s / 16384) (n + 16) ≡ Some p) where
+    pub place_damaged : sound ((seg_view s).page p) ≡ false → outcome (Err Damaged) s v ≡ placing
     unfolding result
-    place_damaged e = at_page ∙ by_named (At p) named
+    place_damaged e = at_page ∙ by_named (Some p) named
       where
-        at_page : outcome answer.Damaged s v ≡ result s (new_target v i bs (find_on (seg_view s) (n + 8) ex (At p)))
+        at_page : outcome (Err Damaged) s v ≡ result s (new_target v i bs (find_on (seg_view s) (n + 8) ex (Some p)))
         at_page = rw e
 
     module _ (ok : sound ((seg_view s).page p) ≡ true) where
-      pub place_excluded : ex p ≡ true → outcome answer.Stale s v ≡ placing
+      pub place_excluded : ex p ≡ true → outcome (Err Stale) s v ≡ placing
       unfolding result
-      place_excluded e = at_page ∙ by_named (At p) named
+      place_excluded e = at_page ∙ by_named (Some p) named
         where
-          at_page : outcome answer.Stale s v ≡ result s (new_target v i bs (find_on (seg_view s) (n + 8) ex (At p)))
+          at_page : outcome (Err Stale) s v ≡ result s (new_target v i bs (find_on (seg_view s) (n + 8) ex (Some p)))
           at_page = rw (ok, e)
 
       -- t is what the page step left, and it answered with no place or with slot k
       module _ (away : ex p ≡ false) (t : List ℕ)
           (et : t ≡ put s (p * 16384) (page_after (target_at (allocate ((seg_view s).page p) (n + 8)) (to_be 8 i ++ bs)) (page_of s p))) where
         by_place : (x : Alloc) → allocate ((seg_view s).page p) (n + 8) ≡ x → result s (new_target v i bs (taken p x)) ≡ placing
-        by_place x e = sym at_page ∙ by_named (At p) named
+        by_place x e = sym at_page ∙ by_named (Some p) named
           where
-            at_page : result s (new_target v i bs (find_on (seg_view s) (n + 8) ex (At p))) ≡ result s (new_target v i bs (taken p x))
+            at_page : result s (new_target v i bs (find_on (seg_view s) (n + 8) ex (Some p))) ≡ result s (new_target v i bs (taken p x))
             at_page = rw (ok, away, e)
 
-        pub place_no_room : place_of (allocate ((seg_view s).page p) (n + 8)) ≡ place.NoRoom → outcome answer.Stale t v ≡ placing
+        pub place_no_room : place_of (allocate ((seg_view s).page p) (n + 8)) ≡ None → outcome (Err Stale) t v ≡ placing
         unfolding result
         place_no_room e =
             let x = got_none (allocate ((seg_view s).page p) (n + 8)) e in
-            ap (λ (l : List ℕ). outcome answer.Stale l v) (no_room_same s p (named_fits s v n p named) t (n + 8) x (to_be 8 i ++ bs) et) ∙ by_place no_room x
+            ap (λ (l : List ℕ). outcome (Err Stale) l v) (no_room_same s p (named_fits s v n p named) t (n + 8) x (to_be 8 i ++ bs) et) ∙ by_place no_room x
 
-        pub place_taken : (k o : ℕ) → place_of (allocate ((seg_view s).page p) (n + 8)) ≡ place.At k o → outcome (answer.Done (id_of p k)) t v ≡ placing
+        pub place_taken : (k o : ℕ) → place_of (allocate ((seg_view s).page p) (n + 8)) ≡ place_at k o → outcome (Ok (id_of p k)) t v ≡ placing
         unfolding result
         place_taken k o e =
             let x = got_at (allocate ((seg_view s).page p) (n + 8)) k o e in
             let h = et ∙ ap (λ (a : Alloc). put s (p * 16384) (page_after (target_at a (to_be 8 i ++ bs)) (page_of s p))) x.is in
-            ap (λ (l : List ℕ). outcome (answer.Done (id_of p k)) l v) h ∙ by_place (got k x.to) x.is
+            ap (λ (l : List ℕ). outcome (Ok (id_of p k)) l v) h ∙ by_place (got k x.to) x.is
 
 -- ---- the pages excluded
 

@@ -11,7 +11,7 @@ ghost use Rattle.store.specs.Laws.Lent.{TakenOn};
 ghost use Rattle.segment_steps.specs.Words.{Sizes, seen};
 ghost use Rattle.segment_forward.specs.Words.{Follows, root_or_old, new_target};
 
-use store::{Answer, IDS_A_PAGE, Named, PAGE_SIZE, Place};
+use store::{IDS_A_PAGE, PAGE_SIZE, Refusal};
 
 // The search that both forwardings make: the new target's id, with its page written and the inventory not told yet; or 7, 4, 8. "The page
 // named is the root's or old target's" excludes the pages of `id` and of `old`; the first forwarding has no old target and passes the root.
@@ -22,41 +22,36 @@ fn place_target(
     old: usize,
     bytes: &[u8],
     size: usize,
-) -> Answer
+) -> Result<usize, Refusal>
     requires sizes { Sizes segment.old inventory.now }
     requires size_bound { size ≤ 16364 }
     ensures { outcome result segment.new inventory.now
         ≡ result_of segment.old (new_target inventory.now id (fit size bytes.now)
         (find found_in (seg_view segment.old) inventory.now (size + 8) (root_or_old id old))) }
 {
-    let named = free_space_inventory::find_page(inventory, segment.len() / PAGE_SIZE, size + 16);
-    let Named::At { page } = named else {
-        return Answer::Full;
+    let n = segment.len() / PAGE_SIZE;
+    let Some(page) = free_space_inventory::find_page(inventory, n, size + 16) else {
+        return Err(Refusal::Full);
     };
     if !segment_pages::page_sound(segment, page) {
-        return Answer::Damaged;
+        return Err(Refusal::Damaged);
     }
-    if page == id / IDS_A_PAGE {
-        return Answer::Stale;
+    if page == id / IDS_A_PAGE || page == old / IDS_A_PAGE {
+        return Err(Refusal::Stale);
     }
-    if page == old / IDS_A_PAGE {
-        return Answer::Stale;
-    }
-    let place = segment_steps::allocate_on(segment, page, size + 8);
-    let Place::At { slot, offset } = place else {
-        return Answer::Stale;
+    let Some(place) = segment_steps::allocate_on(segment, page, size + 8) else {
+        return Err(Refusal::Stale);
     };
+    let rest = segment.split_at_mut(page * PAGE_SIZE).1;
     page_relocate::target::write_target(
-        &mut segment[page * 16384..(page + 1) * 16384],
-        slot,
-        offset,
+        rest.first_chunk_mut().unwrap(),
+        place.slot,
+        place.offset,
         id,
         bytes,
         size,
     );
-    Answer::Done {
-        id: page * IDS_A_PAGE + slot,
-    }
+    Ok(page * IDS_A_PAGE + place.slot)
 }
 
 // The first forwarding: the root's record becomes a redirect. The new target has the bytes, cut off or filled up with zeros to `size`.
@@ -66,7 +61,7 @@ pub fn forward(
     id: usize,
     bytes: &[u8],
     size: usize,
-) -> Answer
+) -> Result<usize, Refusal>
     requires sizes { Sizes segment.old inventory.old }
     requires taken_on { TakenOn segment.old (page_no id) (slot_no id) }
     requires size_bound { size ≤ 16364 }
@@ -75,15 +70,12 @@ pub fn forward(
         (forwarded (seg_view segment.old) inventory.old id size (λ o. fit size bytes.now) []
         (find found_in (seg_view segment.old) inventory.old (size + 8) (λ p. eqb p (page_no id)))) }
 {
-    let placed = place_target(segment, inventory, id, id, bytes, size);
-    let Answer::Done { id: target } = placed else {
-        return placed;
-    };
+    let target = place_target(segment, inventory, id, id, bytes, size)?;
     let p = id / IDS_A_PAGE;
     segment_moves::erase_for_redirect_on(segment, p, id % IDS_A_PAGE, target);
     segment_steps::update_on(segment, inventory, p);
     segment_steps::update_on(segment, inventory, target / IDS_A_PAGE);
-    Answer::Done { id }
+    Ok(id)
 }
 
 // The second: the root's redirect names the new target, and the old one at t is freed.
@@ -94,7 +86,7 @@ pub fn forward_again(
     t: usize,
     bytes: &[u8],
     size: usize,
-) -> Answer
+) -> Result<usize, Refusal>
     requires sizes { Sizes segment.old inventory.old }
     requires follows { Follows segment.old id t }
     requires size_bound { size ≤ 16364 }
@@ -103,15 +95,12 @@ pub fn forward_again(
         (forwarded_again (seg_view segment.old) inventory.old id size (λ o. fit size bytes.now) t []
         (find found_in (seg_view segment.old) inventory.old (size + 8) (λ p. eqb p (page_no id) || eqb p (page_no t)))) }
 {
-    let placed = place_target(segment, inventory, id, t, bytes, size);
-    let Answer::Done { id: new_target } = placed else {
-        return placed;
-    };
+    let new_target = place_target(segment, inventory, id, t, bytes, size)?;
     segment_moves::set_redirect_on(segment, id / IDS_A_PAGE, id % IDS_A_PAGE, new_target);
     segment_steps::erase_on(segment, t / IDS_A_PAGE, t % IDS_A_PAGE);
     segment_steps::update_on(segment, inventory, t / IDS_A_PAGE);
     segment_steps::update_on(segment, inventory, new_target / IDS_A_PAGE);
-    Answer::Done { id }
+    Ok(id)
 }
 
 // "From a redirect: needs the full size free": whether the root's page has that.
@@ -130,7 +119,7 @@ pub fn at_home(
     t: usize,
     bytes: &[u8],
     size: usize,
-) -> Answer
+) -> Result<usize, Refusal>
     requires sizes { Sizes segment.old inventory.old }
     requires follows { Follows segment.old id t }
     requires size_bound { size ≤ (seen segment.old (page_no id)).free_space }
@@ -143,5 +132,5 @@ pub fn at_home(
     segment_steps::erase_on(segment, t / IDS_A_PAGE, t % IDS_A_PAGE);
     segment_steps::update_on(segment, inventory, id / IDS_A_PAGE);
     segment_steps::update_on(segment, inventory, t / IDS_A_PAGE);
-    Answer::Done { id }
+    Ok(id)
 }

@@ -18,11 +18,12 @@ use Rattle.store.specs.Segment.{forwarded, forwarded_again, at_home, at_target, 
 use Rattle.store.specs.Answers.{outcome}
 use Rattle.store.specs.Laws.Lent.{Within, TakenOn}
 use Rattle.store.proofs.Laws.Numbers.{cut_same, cut_drop}
-use Rattle.store.specs.declared.Root.{Root}
-use Rattle.store.specs.declared.Root.TheVariants as root
+use Rattle.std.specs.Prelude.{Ok, Err}
+use Rattle.std.specs.Prelude.{Result as ResultOf}
 use Rattle.store.specs.declared.Slot.{Slot}
 use Rattle.store.specs.declared.Slot.TheVariants.{Ordinary, Free, Redirect, Target}
-use Rattle.store.specs.declared.Answer.TheVariants as answer
+use Rattle.store.specs.declared.Refusal.{Refusal}
+use Rattle.store.specs.declared.Refusal.TheVariants as refusal
 use Rattle.page_relocate.specs.Words.{was_moved, refilled}
 use Rattle.segment_pages.proofs.Seen.{slot_bytes_lem}
 use Rattle.segment_steps.specs.Words.{Sizes}
@@ -84,41 +85,38 @@ module _ (s v : List ℕ) (i size : ℕ) (new : List ℕ → List ℕ) where
   abbrev pub stored : Result
   stored = step s v (store_plan found_in (seg_view s) v i size new)
 
-  pub step_size : (size_ok s && inv_ok v) ≡ false → outcome answer.Size s v ≡ stored
+  pub step_size : (size_ok s && inv_ok v) ≡ false → outcome (Err refusal.Size) s v ≡ stored
   unfolding result
   step_size e = rw e
 
   module _ (ok : (size_ok s && inv_ok v) ≡ true) where
-    pub step_long : 16364 < size → outcome answer.Long s v ≡ stored
+    pub step_long : 16364 < size → outcome (Err refusal.Long) s v ≡ stored
     unfolding result store_plan
     step_long h = rw (ok, lt-ltb 16364 size h)
 
     module _ (short : size ≤ 16364) where
-      by_root_lem : (x : Root) → root_of (seg_view s) i ≡ x → result s (by_root (refuse v) (store_by found_in (seg_view s) v i size new) x) ≡ stored
+      by_root_lem : (x : ResultOf Slot Refusal) → root_of (seg_view s) i ≡ x
+          → result s (by_root (refuse v) (store_by found_in (seg_view s) v i size new) x) ≡ stored
       unfolding store_plan
       by_root_lem x e = sym (rw (ok, le-ltb 16364 size short, e))
 
-      pub step_past : root_of (seg_view s) i ≡ root.NoPage → outcome answer.NoPage s v ≡ stored
+      pub step_refused : (x : Refusal) → root_of (seg_view s) i ≡ Err x → outcome (Err x) s v ≡ stored
       unfolding result
-      step_past e = by_root_lem root.NoPage e
+      step_refused x e = by_root_lem (Err x) e
 
-      pub step_damaged : root_of (seg_view s) i ≡ root.Damaged → outcome answer.Damaged s v ≡ stored
-      unfolding result
-      step_damaged e = by_root_lem root.Damaged e
-
-      pub step_by : (x : Slot) → root_of (seg_view s) i ≡ root.Entry x → result s (store_by found_in (seg_view s) v i size new x) ≡ stored
-      step_by x e = by_root_lem (root.Entry x) e
+      pub step_by : (x : Slot) → root_of (seg_view s) i ≡ Ok x → result s (store_by found_in (seg_view s) v i size new x) ≡ stored
+      step_by x e = by_root_lem (Ok x) e
 
   -- ---- 5 and 6: x is the entry y of the slot
 
   pub by_entry : (y x : Slot) → y ≡ x → result s (store_by found_in (seg_view s) v i size new x) ≡ result s (store_by found_in (seg_view s) v i size new y)
   by_entry y x e = ap (λ (z : Slot). result s (store_by found_in (seg_view s) v i size new z)) (sym e)
 
-  pub by_free : outcome answer.NoRecord s v ≡ result s (store_by found_in (seg_view s) v i size new Free)
+  pub by_free : outcome (Err refusal.NoRecord) s v ≡ result s (store_by found_in (seg_view s) v i size new Free)
   unfolding result
   by_free = refl
 
-  pub by_target : (o l : ℕ) → outcome answer.Forwarded s v ≡ result s (store_by found_in (seg_view s) v i size new (Target o l))
+  pub by_target : (o l : ℕ) → outcome (Err refusal.Forwarded) s v ≡ result s (store_by found_in (seg_view s) v i size new (Target o l))
   unfolding result
   by_target o l = refl
 
@@ -130,7 +128,7 @@ module _ (s v : List ℕ) (i size : ℕ) (new : List ℕ → List ℕ) where
   module _ (o l : ℕ) where
     pub by_page : (t w : List ℕ) → Moves s (page_no i) (slot_no i) size (new (home.bytes (slot_no i))) t
         → w ≡ update v (length t / 16384) (page_no i) (view (page_of t (page_no i))).free_space
-        → outcome (answer.Done i) t w ≡ result s (store_by found_in (seg_view s) v i size new (Ordinary o l))
+        → outcome (Ok i) t w ≡ result s (store_by found_in (seg_view s) v i size new (Ordinary o l))
     unfolding result
     by_page t w m ew =
         let h = told s (page_no i) (slot_no i) size (new (home.bytes (slot_no i))) t m v w ew in
@@ -158,7 +156,7 @@ module _ (s v : List ℕ) (i size : ℕ) (new : List ℕ → List ℕ) where
     abbrev pub new_place : Found
     new_place = find found_in (seg_view s) v (size + 8) (λ p. eqb p (page_no i) || eqb p (page_no j))
 
-    pub by_damaged : points_back (seg_view s) i j ≡ false → outcome answer.Damaged s v ≡ result s (store_by found_in (seg_view s) v i size new (Redirect j))
+    pub by_damaged : points_back (seg_view s) i j ≡ false → outcome (Err refusal.Damaged) s v ≡ result s (store_by found_in (seg_view s) v i size new (Redirect j))
     unfolding result
     by_damaged e = rw e
 
@@ -197,7 +195,7 @@ module _ (s v : List ℕ) (i size : ℕ) (new : List ℕ → List ℕ) where
 
         pub by_stay : (t w : List ℕ) → Moves s (page_no j) (slot_no j) (size + 8) (to_be 8 i ++ new old_bytes) t
             → w ≡ update v (length t / 16384) (page_no j) (view (page_of t (page_no j))).free_space
-            → outcome (answer.Done i) t w ≡ result s (store_by found_in (seg_view s) v i size new (Redirect j))
+            → outcome (Ok i) t w ≡ result s (store_by found_in (seg_view s) v i size new (Redirect j))
         unfolding result
         by_stay t w m ew =
             let h = told s (page_no j) (slot_no j) (size + 8) (to_be 8 i ++ new old_bytes) t m v w ew in

@@ -10,7 +10,7 @@ ghost use Rattle.store.specs.Laws.Lent.{SoundOn, RootIs};
 ghost use Rattle.segment_steps.specs.Words.{Sizes, seen};
 ghost use Rattle.segment_forward.specs.Words.{Follows};
 
-use store::{Answer, IDS_A_PAGE, LONGEST, PAGE_SIZE, Root, Slot};
+use store::{IDS_A_PAGE, LONGEST, PAGE_SIZE, Refusal, Slot};
 
 // The record of an ordinary slot, which lies at this offset of its page.
 fn resize_ordinary(
@@ -20,7 +20,7 @@ fn resize_ordinary(
     offset: usize,
     n: usize,
     size: usize,
-) -> Answer
+) -> Result<usize, Refusal>
     requires sizes { Sizes segment.old inventory.old }
     requires root_is { RootIs segment.old id (Slot.Ordinary offset n) }
     requires size_bound { size ≤ 16364 }
@@ -30,7 +30,7 @@ fn resize_ordinary(
 {
     if segment_moves::resize_on(segment, id / IDS_A_PAGE, id % IDS_A_PAGE, size) {
         segment_steps::update_on(segment, inventory, id / IDS_A_PAGE);
-        return Answer::Done { id };
+        return Ok(id);
     }
     let mut old = [0u8; PAGE_SIZE];
     layout_runs::save(segment, id / IDS_A_PAGE * PAGE_SIZE + offset, n, &mut old);
@@ -45,14 +45,20 @@ fn save_target(segment: &[u8], t: usize, old: &mut [u8]) -> usize
 {
     let p = t / IDS_A_PAGE;
     let s = segment_pages::slot_on(segment, p, t % IDS_A_PAGE);
-    let n = layout::slots::len_of(s) - 8;
-    let at = p * PAGE_SIZE + layout::slots::off_of(s) + 8;
+    let n = s.len() - 8;
+    let at = p * PAGE_SIZE + s.offset() + 8;
     layout_runs::save(segment, at, n, old);
     n
 }
 
 // "moving home frees the target"
-fn resize_home(segment: &mut [u8], inventory: &mut [u8], id: usize, t: usize, size: usize) -> Answer
+fn resize_home(
+    segment: &mut [u8],
+    inventory: &mut [u8],
+    id: usize,
+    t: usize,
+    size: usize,
+) -> Result<usize, Refusal>
     requires sizes { Sizes segment.old inventory.old }
     requires follows { Follows segment.old id t }
     requires size_bound { size ≤ (seen segment.old (page_no id)).free_space }
@@ -73,7 +79,7 @@ fn resize_again(
     id: usize,
     t: usize,
     size: usize,
-) -> Answer
+) -> Result<usize, Refusal>
     requires sizes { Sizes segment.old inventory.old }
     requires follows { Follows segment.old id t }
     requires size_bound { size ≤ 16364 }
@@ -95,7 +101,7 @@ fn resize_forwarded(
     id: usize,
     t: usize,
     size: usize,
-) -> Answer
+) -> Result<usize, Refusal>
     requires sizes { Sizes segment.old inventory.old }
     requires root_is { RootIs segment.old id (Slot.Redirect t) }
     requires size_bound { size ≤ 16364 }
@@ -103,14 +109,14 @@ fn resize_forwarded(
         ≡ result_of segment.old (store_by found_in (seg_view segment.old) inventory.old id size (fit size) (Slot.Redirect t)) }
 {
     if !segment_pages::points_back(segment, id, t) {
-        return Answer::Damaged;
+        return Err(Refusal::Damaged);
     }
     if segment_forward::fits_home(segment, id, size) {
         return resize_home(segment, inventory, id, t, size);
     }
     if segment_moves::resize_target_on(segment, t / IDS_A_PAGE, t % IDS_A_PAGE, id, size) {
         segment_steps::update_on(segment, inventory, t / IDS_A_PAGE);
-        return Answer::Done { id };
+        return Ok(id);
     }
     resize_again(segment, inventory, id, t, size)
 }
@@ -122,7 +128,7 @@ fn resize_slot(
     id: usize,
     slot: Slot,
     size: usize,
-) -> Answer
+) -> Result<usize, Refusal>
     requires sizes { Sizes segment.old inventory.old }
     requires root_is { RootIs segment.old id slot }
     requires size_bound { size ≤ 16364 }
@@ -133,28 +139,26 @@ fn resize_slot(
         Slot::Ordinary { offset, length } => resize_ordinary(
             segment, inventory, id, offset, length, size,
         ),
-        Slot::Free => Answer::NoRecord,
+        Slot::Free => Err(Refusal::NoRecord),
         Slot::Redirect { id: t } => resize_forwarded(segment, inventory, id, t, size),
-        Slot::Target {
-            offset: _,
-            length: _,
-        } => Answer::Forwarded,
+        Slot::Target { .. } => Err(Refusal::Forwarded),
     }
 }
 
-pub fn resize_record(segment: &mut [u8], inventory: &mut [u8], id: usize, size: usize) -> Answer
+pub fn resize_record(
+    segment: &mut [u8],
+    inventory: &mut [u8],
+    id: usize,
+    size: usize,
+) -> Result<usize, Refusal>
     ensures { outcome result segment.new inventory.new ≡ resize_step segment.old inventory.old id size }
 {
     if !segment_pages::sizes_ok(segment, inventory) {
-        return Answer::Size;
+        return Err(Refusal::Size);
     }
     if LONGEST < size {
-        return Answer::Long;
+        return Err(Refusal::Long);
     }
-    let root = segment_pages::root_of(segment, id);
-    match root {
-        Root::NoPage => Answer::NoPage,
-        Root::Damaged => Answer::Damaged,
-        Root::Entry { slot } => resize_slot(segment, inventory, id, slot, size),
-    }
+    let slot = segment_pages::root_of(segment, id)?;
+    resize_slot(segment, inventory, id, slot, size)
 }

@@ -8,10 +8,15 @@ ghost use Rattle.store.specs.Answers.{outcome};
 ghost use Rattle.store.specs.Laws.Lent.{TakenOn, RootIs};
 ghost use Rattle.segment_steps.specs.Words.{Sizes, seen};
 
-use store::{Answer, IDS_A_PAGE, LONGEST, Root, Slot};
+use store::{IDS_A_PAGE, LONGEST, Refusal, Slot};
 
 // The record of an ordinary slot, wherever it lies: "the root page first", then a new target.
-fn write_ordinary(segment: &mut [u8], inventory: &mut [u8], id: usize, bytes: &[u8]) -> Answer
+fn write_ordinary(
+    segment: &mut [u8],
+    inventory: &mut [u8],
+    id: usize,
+    bytes: &[u8],
+) -> Result<usize, Refusal>
     requires sizes { Sizes segment.old inventory.old }
     requires taken_on { TakenOn segment.old (page_no id) (slot_no id) }
     requires id_value { (is_target ((seen segment.old (page_no id)).at (slot_no id)) ≡ false) × (length bytes.now ≤ 16364) }
@@ -28,7 +33,7 @@ fn write_ordinary(segment: &mut [u8], inventory: &mut [u8], id: usize, bytes: &[
         bytes.len(),
     ) {
         segment_steps::update_on(segment, inventory, id / IDS_A_PAGE);
-        return Answer::Done { id };
+        return Ok(id);
     }
     segment_forward::forward(segment, inventory, id, bytes, bytes.len())
 }
@@ -40,7 +45,7 @@ fn write_forwarded(
     id: usize,
     t: usize,
     bytes: &[u8],
-) -> Answer
+) -> Result<usize, Refusal>
     requires sizes { Sizes segment.old inventory.old }
     requires root_is { RootIs segment.old id (Slot.Redirect t) }
     requires bytes_len_bound { length bytes.now ≤ 16364 }
@@ -50,14 +55,14 @@ fn write_forwarded(
         (Slot.Redirect t)) }
 {
     if !segment_pages::points_back(segment, id, t) {
-        return Answer::Damaged;
+        return Err(Refusal::Damaged);
     }
     if segment_forward::fits_home(segment, id, bytes.len()) {
         return segment_forward::at_home(segment, inventory, id, t, bytes, bytes.len());
     }
     if segment_moves::rewrite_target_on(segment, t / IDS_A_PAGE, t % IDS_A_PAGE, id, bytes) {
         segment_steps::update_on(segment, inventory, t / IDS_A_PAGE);
-        return Answer::Done { id };
+        return Ok(id);
     }
     segment_forward::forward_again(segment, inventory, id, t, bytes, bytes.len())
 }
@@ -69,7 +74,7 @@ fn write_slot(
     id: usize,
     slot: Slot,
     bytes: &[u8],
-) -> Answer
+) -> Result<usize, Refusal>
     requires sizes { Sizes segment.old inventory.old }
     requires root_is { RootIs segment.old id slot }
     requires bytes_len_bound { length bytes.now ≤ 16364 }
@@ -79,33 +84,28 @@ fn write_slot(
         slot) }
 {
     match slot {
-        Slot::Ordinary {
-            offset: _,
-            length: _,
-        } => write_ordinary(segment, inventory, id, bytes),
-        Slot::Free => Answer::NoRecord,
+        Slot::Ordinary { .. } => write_ordinary(segment, inventory, id, bytes),
+        Slot::Free => Err(Refusal::NoRecord),
         Slot::Redirect { id: t } => write_forwarded(segment, inventory, id, t, bytes),
-        Slot::Target {
-            offset: _,
-            length: _,
-        } => Answer::Forwarded,
+        Slot::Target { .. } => Err(Refusal::Forwarded),
     }
 }
 
-pub fn write_record(segment: &mut [u8], inventory: &mut [u8], id: usize, bytes: &[u8]) -> Answer
+pub fn write_record(
+    segment: &mut [u8],
+    inventory: &mut [u8],
+    id: usize,
+    bytes: &[u8],
+) -> Result<usize, Refusal>
     ensures { outcome result segment.new inventory.new
         ≡ write_step segment.old inventory.old id bytes.now }
 {
     if !segment_pages::sizes_ok(segment, inventory) {
-        return Answer::Size;
+        return Err(Refusal::Size);
     }
     if LONGEST < bytes.len() {
-        return Answer::Long;
+        return Err(Refusal::Long);
     }
-    let root = segment_pages::root_of(segment, id);
-    match root {
-        Root::NoPage => Answer::NoPage,
-        Root::Damaged => Answer::Damaged,
-        Root::Entry { slot } => write_slot(segment, inventory, id, slot, bytes),
-    }
+    let slot = segment_pages::root_of(segment, id)?;
+    write_slot(segment, inventory, id, slot, bytes)
 }

@@ -1,9 +1,9 @@
-use mathlib.Core.Path.{◌≡◌, refl, sym, ap, subst, ◌∙◌}
+use mathlib.Core.Path.{◌≡◌, sym, ap, subst, ◌∙◌}
 use Rattle.store.specs.Slots.{is_free}
 use Rattle.store.specs.Segment.{seg_view, result, erase_by}
 use Rattle.store.specs.Laws.Lent.{RootIs}
 use Rattle.store.specs.declared.Slot.{Slot}
-use Rattle.store.specs.declared.Answer.TheVariants as answer
+use Rattle.store.specs.declared.Refusal.TheVariants.{NoRecord, Forwarded}
 use Rattle.segment_pages.proofs.Root.{root_taken}
 use Rattle.segment_erase.proofs.Erased.{refused_is}
 use Rattle.segment_erase.proofs.erase_slot.Goals.{Start}
@@ -30,7 +30,7 @@ returns-in-Ordinary c =
 
 pub returns-in-Free : goal.returns-in-Free
 returns-in-Free c =
-    refused_is c.args.segment.now c.args.inventory.now answer.NoRecord refl ∙ by_slot (goal.at.returns-in-Free c).Start _ c.in-Free.is
+    refused_is c.args.segment.now c.args.inventory.now NoRecord ∙ by_slot (goal.at.returns-in-Free c).Start _ c.in-Free.is
 
 pub returns-in-Redirect : goal.returns-in-Redirect
 returns-in-Redirect c =
@@ -38,4 +38,4 @@ returns-in-Redirect c =
 
 pub returns-in-Target : goal.returns-in-Target
 returns-in-Target c =
-    refused_is c.args.segment.now c.args.inventory.now answer.Forwarded refl ∙ by_slot (goal.at.returns-in-Target c).Start _ c.in-Target.is
+    refused_is c.args.segment.now c.args.inventory.now Forwarded ∙ by_slot (goal.at.returns-in-Target c).Start _ c.in-Target.is

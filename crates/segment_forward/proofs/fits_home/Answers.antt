@@ -1,17 +1,11 @@
 use mathlib.Core.Path.{ap, ◌∙◌}
 use Prim.Native.Nat.{ℕ}
-use lib.ListN.{length}
 use lib.Dec.{leb}
 use mathlib.Core.List.{List}
 use Rattle.store.specs.Numbers.{page_no, slot_no}
 use Rattle.store.specs.Page.{View, view}
-use Rattle.store.proofs.Laws.Segments.{length_page}
 use Rattle.store.proofs.Laws.Calls.{page_ok}
 use Rattle.segment_forward.proofs.fits_home.Goals as goal
-
-pub get_free_space-requires : goal.get_free_space-requires
-get_free_space-requires c =
-    ap length c.page_of.ensures ∙ length_page c.args.segment.now (page_no c.args.id) c.requires.whole
 
 -- the page is in use, so it says what is seen of it
 pub returns : goal.returns

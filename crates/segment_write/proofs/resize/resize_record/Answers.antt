@@ -3,23 +3,20 @@ use mathlib.Core.Bool.{true, ◌&&◌}
 use Prim.Native.Nat.{◌≤◌}
 use native.Mathlib.Omega.{arith}
 use Rattle.store.specs.Numbers.{fit}
-use Rattle.store.specs.Segment.{seg_view, size_ok, inv_ok, root_of}
-use Rattle.store.specs.declared.Root.{Root}
+use Rattle.store.specs.Segment.{seg_view, size_ok, inv_ok}
+use Rattle.std.proofs.lemmas.Result.{err_from_is_err_and}
 use Rattle.segment_pages.proofs.Root.{root_is}
 use Rattle.segment_steps.proofs.After.{sizes}
-use Rattle.segment_write.proofs.Stored.{step_size, step_long, step_past, step_damaged, step_by, resize_is}
-use Rattle.segment_write.proofs.resize.resize_record.Goals.{After-root_of-root, Else-not-sizes_ok}
+use Rattle.segment_write.proofs.Stored.{step_size, step_long, step_refused, step_by, resize_is}
+use Rattle.segment_write.proofs.resize.resize_record.Goals.{After-root_of, Else-not-sizes_ok}
 use Rattle.segment_write.proofs.resize.resize_record.Goals as goal
 
 -- what the tests told
 sizes_here : (c : Else-not-sizes_ok) → let a = c.args in (size_ok a.segment.now && inv_ok a.inventory.now) ≡ true
 sizes_here c = sym c.sizes_ok.ensures ∙ c.if-not-sizes_ok.false
 
-short : (c : After-root_of-root) → let a = c.args in a.size ≤ 16364
+short : (c : After-root_of) → let a = c.args in a.size ≤ 16364
 short c = omega (arith, c.if-size-gt-LONGEST.false)
-
-root_here : (c : After-root_of-root) (x : Root) → c.root_of-root.result ≡ x → let a = c.args in root_of (seg_view a.segment.now) a.id ≡ x
-root_here c x e = sym c.root_of-root.ensures ∙ e
 
 pub returns-then-not-sizes_ok : goal.returns-then-not-sizes_ok
 returns-then-not-sizes_ok c =
@@ -41,34 +38,25 @@ resize_slot-requires c =
     let a = c.args in
     let s = a.segment.now in record {
       sizes = sizes s a.inventory.now (sizes_here (goal.at.resize_slot-requires c).Else-not-sizes_ok);
-      root_is = root_is s a.id _ (root_here (goal.at.resize_slot-requires c).After-root_of-root _ c.in-Entry.is);
-      size_bound = short (goal.at.resize_slot-requires c).After-root_of-root;
+      root_is = root_is s a.id _ (sym c.root_of.ensures ∙ c.in_ok-slot.was);
+      size_bound = short (goal.at.resize_slot-requires c).After-root_of;
     }
 
-pub returns-in-NoPage : goal.returns-in-NoPage
-returns-in-NoPage c =
+pub returns-in_err-slot : goal.returns-in_err-slot
+returns-in_err-slot c =
     let a = c.args in
     let s = a.segment.now in
     let v = a.inventory.now in
-    step_past s v a.id a.size (fit a.size) (sizes_here (goal.at.returns-in-NoPage c).Else-not-sizes_ok)
-    (short (goal.at.returns-in-NoPage c).After-root_of-root) (root_here (goal.at.returns-in-NoPage c).After-root_of-root _ c.in-NoPage.is)
-    ∙ resize_is s v a.id a.size
+    let p = err_from_is_err_and c.from_residual.result c.from_residual.ensures.1 in
+    rw (p.1, p.2)
+    (step_refused s v a.id a.size (fit a.size) (sizes_here (goal.at.returns-in_err-slot c).Else-not-sizes_ok) (short (goal.at.returns-in_err-slot c).After-root_of) _
+    (sym c.root_of.ensures ∙ c.in_err-slot.was) ∙ resize_is s v a.id a.size)
 
-pub returns-in-Damaged : goal.returns-in-Damaged
-returns-in-Damaged c =
-    let a = c.args in
-    let s = a.segment.now in
-    let v = a.inventory.now in
-    step_damaged s v a.id a.size (fit a.size) (sizes_here (goal.at.returns-in-Damaged c).Else-not-sizes_ok)
-    (short (goal.at.returns-in-Damaged c).After-root_of-root) (root_here (goal.at.returns-in-Damaged c).After-root_of-root _ c.in-Damaged.is)
-    ∙ resize_is s v a.id a.size
-
-pub returns-in-Entry : goal.returns-in-Entry
-returns-in-Entry c =
+pub returns : goal.returns
+returns c =
     let a = c.args in
     let s = a.segment.now in
     let v = a.inventory.now in
     c.resize_slot.ensures
-    ∙ step_by s v a.id a.size (fit a.size) (sizes_here (goal.at.returns-in-Entry c).Else-not-sizes_ok)
-    (short (goal.at.returns-in-Entry c).After-root_of-root) _ (root_here (goal.at.returns-in-Entry c).After-root_of-root _ c.in-Entry.is)
-    ∙ resize_is s v a.id a.size
+    ∙ step_by s v a.id a.size (fit a.size) (sizes_here (goal.at.returns c).Else-not-sizes_ok) (short (goal.at.returns c).After-root_of) _
+    (sym c.root_of.ensures ∙ c.in_ok-slot.was) ∙ resize_is s v a.id a.size
