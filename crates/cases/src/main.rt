@@ -5,94 +5,131 @@
 mod headers;
 mod show;
 
+use show::Line::{self, Erase, Insert, Page, Read, Scan, Set, Write};
 use std::io;
-use store::PAGE_SIZE;
+use store::{IDS_A_PAGE, PAGE_SIZE};
 
-// A case on a fresh page: its title, and its lines.
-fn one_page(rt: &impl Print, title: &[u8], letters: &[u8], numbers: &[u64]) -> io::Result<()> {
-    let mut segment = [0u8; PAGE_SIZE];
+const THREE_PAGES: usize = 3 * PAGE_SIZE;
+
+// The ids (1,0), (1,1) and (2,0).
+const ONE_ZERO: u64 = IDS_A_PAGE as u64;
+
+const ONE_ONE: u64 = ONE_ZERO + 1;
+
+const TWO_ZERO: u64 = 2 * ONE_ZERO;
+
+// A case on so many bytes of fresh pages: its title, and its lines.
+fn case<const BYTES: usize>(rt: &impl Print, title: &[u8], lines: &[Line]) -> io::Result<()> {
+    let mut segment = [0u8; BYTES];
     let mut inventory = [0u8; PAGE_SIZE];
     print::say(rt, title)?;
-    show::play(rt, &mut segment, &mut inventory, letters, numbers)
-}
-
-fn three_pages(rt: &impl Print, title: &[u8], letters: &[u8], numbers: &[u64]) -> io::Result<()> {
-    let mut segment = [0u8; 3 * PAGE_SIZE];
-    let mut inventory = [0u8; PAGE_SIZE];
-    print::say(rt, title)?;
-    show::play(rt, &mut segment, &mut inventory, letters, numbers)
+    show::play(rt, &mut segment, &mut inventory, lines)
 }
 
 // "16,364 bytes on a fresh page: free 0. 16,365: 3."
 fn largest(rt: &impl Print) -> io::Result<()> {
-    one_page(
+    case::<PAGE_SIZE>(
         rt,
         b"16,365 bytes on a fresh page, then 16,364\n",
-        b"IIP",
-        &[16365, 16364, 0],
+        &[Insert(16365), Insert(16364), Page(0)],
     )
 }
 
 // "Lengths 3, 4, 5, erased in order 0, 1, 2: count 1, first free 0, free 16,364, data start 16,377."
 fn erased_in_order(rt: &impl Print) -> io::Result<()> {
-    one_page(
+    case::<PAGE_SIZE>(
         rt,
         b"lengths 3, 4, 5, erased in order 0, 1, 2\n",
-        b"IIIEEEP",
-        &[3, 4, 5, 0, 1, 2, 0],
+        &[
+            Insert(3),
+            Insert(4),
+            Insert(5),
+            Erase(0),
+            Erase(1),
+            Erase(2),
+            Page(0),
+        ],
     )
 }
 
 // "Lengths 5,000, 5,000, 3,000; erase slot 1; insert 10 (slot 1)", and then one of `last` bytes.
-fn gap_of_3338(rt: &impl Print, last: u64) -> io::Result<()> {
-    one_page(
+fn gap_of_3338(rt: &impl Print, last: usize) -> io::Result<()> {
+    case::<PAGE_SIZE>(
         rt,
         b"lengths 5,000, 5,000, 3,000, slot 1 erased, then 10 and one more\n",
-        b"IIIEIIRP",
-        &[5000, 5000, 3000, 1, 10, last, 3, 0],
+        &[
+            Insert(5000),
+            Insert(5000),
+            Insert(3000),
+            Erase(1),
+            Insert(10),
+            Insert(last),
+            Read(3),
+            Page(0),
+        ],
     )
 }
 
 // "n = 3: insert 16,000 at (0,0), 100 at (1,0), 12,000 at (1,1). Write 5,000 to (1,0)", and then `last` bytes.
-fn forwarded(rt: &impl Print, last: u64) -> io::Result<()> {
-    three_pages(
+fn forwarded(rt: &impl Print, last: usize) -> io::Result<()> {
+    case::<THREE_PAGES>(
         rt,
         b"three pages: lengths 16,000, 100, 12,000, then two writes to (1,0)\n",
-        b"IIIWRPPWRP",
         &[
-            16000, 100, 12000, 5000, 65536, 16384, 32768, last, 65536, 32768,
+            Insert(16000),
+            Insert(100),
+            Insert(12000),
+            Write(5000),
+            Read(ONE_ZERO),
+            Page(PAGE_SIZE),
+            Page(2 * PAGE_SIZE),
+            Write(last),
+            Read(ONE_ZERO),
+            Page(2 * PAGE_SIZE),
         ],
     )
 }
 
 // Ask 3: "insert 16,000, 100 and 12,000 into all-zero bytes, so page 2 is still fresh. Then byte 11 of page 2 becomes 01."
 fn fresh_but_for_a_byte(rt: &impl Print) -> io::Result<()> {
-    three_pages(
+    case::<THREE_PAGES>(
         rt,
         b"three pages: lengths 16,000, 100, 12,000, then a byte of the fresh page's header\n",
-        b"III1WWS",
-        &[16000, 100, 12000, 2 * 16384 + 11, 5000, 200, 0],
+        &[
+            Insert(16000),
+            Insert(100),
+            Insert(12000),
+            Set {
+                offset: 2 * 16384 + 11,
+                byte: 1,
+            },
+            Write(5000),
+            Write(200),
+            Scan,
+        ],
     )
 }
 
 // Ask 3: "The same three inserts, then write 5,000 to (1,0), so that its target is (2,0). Then byte 1 of page 2 becomes 00."
 fn wiped_count(rt: &impl Print) -> io::Result<()> {
-    three_pages(
+    case::<THREE_PAGES>(
         rt,
         b"three pages: the same, then a target, and the count of its page wiped\n",
-        b"IIIW0RWERRS",
         &[
-            16000,
-            100,
-            12000,
-            5000,
-            2 * 16384 + 1,
-            65536,
-            5000,
-            65536,
-            131072,
-            65537,
-            0,
+            Insert(16000),
+            Insert(100),
+            Insert(12000),
+            Write(5000),
+            Set {
+                offset: 2 * 16384 + 1,
+                byte: 0,
+            },
+            Read(ONE_ZERO),
+            Write(5000),
+            Erase(ONE_ZERO),
+            Read(TWO_ZERO),
+            Read(ONE_ONE),
+            Scan,
         ],
     )
 }

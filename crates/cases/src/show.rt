@@ -1,7 +1,20 @@
 // Each call with what it answers, and what a page's header says afterwards.
-use print::{end_line, least, named, say};
+use print::{end_line, named, say};
 use std::io;
 use store::{IDS_A_PAGE, PAGE_SIZE};
+
+// A line of a case: n bytes go in, or to the record (1,0); a record is erased or read; the page at an offset is shown; a scan; a byte is
+// set by hand.
+#[derive(Clone, Copy)]
+pub enum Line {
+    Insert(usize),
+    Write(usize),
+    Erase(u64),
+    Read(u64),
+    Page(usize),
+    Scan,
+    Set { offset: u64, byte: u8 },
+}
 
 fn print_insert(rt: &impl Print, length: usize, answer: u64, made: u64) -> io::Result<()> {
     print!(rt; "  insert {length}: {answer}")?;
@@ -20,7 +33,7 @@ fn insert_first(
     bytes: &[u8],
     length: usize,
 ) -> io::Result<()> {
-    let n = least(length, bytes.len());
+    let n = length.min(bytes.len());
     let mut made: u64 = 0;
     let answer = hekatosuy::hk_insert_record(segment, inventory, &bytes[0..n], &mut made);
     print_insert(rt, n, answer, made)
@@ -51,7 +64,7 @@ fn write_first(
     bytes: &[u8],
     length: usize,
 ) -> io::Result<()> {
-    let n = least(length, bytes.len());
+    let n = length.min(bytes.len());
     let answer = hekatosuy::hk_write_record(segment, inventory, i, &bytes[0..n]);
     named(rt, b"  write ", n as u64)?;
     print_answer(rt, b" to ", i, answer)?;
@@ -87,9 +100,9 @@ fn get(rt: &impl Print, segment: &[u8], i: u64) -> io::Result<()> {
 }
 
 fn print_header(rt: &impl Print, page: &[u8]) -> io::Result<()> {
-    if page.len() != PAGE_SIZE {
+    let Some(page) = page.as_array() else {
         return Ok(());
-    }
+    };
     let count = layout::header::get_slot_count(page);
     let first = layout::header::get_first_free_slot(page);
     let start = layout::header::get_data_start(page);
@@ -99,9 +112,8 @@ fn print_header(rt: &impl Print, page: &[u8]) -> io::Result<()> {
 
 // The header of the page that begins at an offset.
 fn page(rt: &impl Print, segment: &[u8], offset: usize) -> io::Result<()> {
-    let at = least(offset, segment.len());
-    let e = at + least(PAGE_SIZE, segment.len() - at);
-    print_header(rt, &segment[at..e])
+    let rest = &segment[offset.min(segment.len())..];
+    print_header(rt, &rest[..PAGE_SIZE.min(rest.len())])
 }
 
 // A step of a scan from a position; the next position.
@@ -149,37 +161,31 @@ fn set_byte(rt: &impl Print, segment: &mut [u8], offset: u64, byte: u8) -> io::R
     println!(rt; "  byte {at} of page {page} becomes {byte}")
 }
 
-// A line of a case, by its letter: I inserts n bytes, W writes n to the record (1,0), E erases the record n, R reads it, P shows the
-// page at the offset n, S scans; 0 and 1 are set at the offset n.
 fn perform(
     rt: &impl Print,
     segment: &mut [u8],
     inventory: &mut [u8],
-    letter: u8,
-    n: u64,
+    line: Line,
 ) -> io::Result<()> {
-    match letter {
-        b'I' => insert(rt, segment, inventory, n as usize),
-        b'W' => write(rt, segment, inventory, IDS_A_PAGE as u64, n as usize),
-        b'E' => erase(rt, segment, inventory, n),
-        b'R' => get(rt, segment, n),
-        b'S' => scan(rt, segment),
-        b'0' => set_byte(rt, segment, n, 0),
-        b'1' => set_byte(rt, segment, n, 1),
-        _ => page(rt, segment, n as usize),
+    match line {
+        Line::Insert(n) => insert(rt, segment, inventory, n),
+        Line::Write(n) => write(rt, segment, inventory, IDS_A_PAGE as u64, n),
+        Line::Erase(id) => erase(rt, segment, inventory, id),
+        Line::Read(id) => get(rt, segment, id),
+        Line::Page(offset) => page(rt, segment, offset),
+        Line::Scan => scan(rt, segment),
+        Line::Set { offset, byte } => set_byte(rt, segment, offset, byte),
     }
 }
 
-// A case's lines, each a letter and a number.
 pub fn play(
     rt: &impl Print,
     segment: &mut [u8],
     inventory: &mut [u8],
-    letters: &[u8],
-    numbers: &[u64],
+    lines: &[Line],
 ) -> io::Result<()> {
-    for (letter, n) in letters.iter().zip(numbers) {
-        perform(rt, segment, inventory, *letter, *n)?;
+    for line in lines {
+        perform(rt, segment, inventory, *line)?;
     }
     Ok(())
 }

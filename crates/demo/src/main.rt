@@ -4,18 +4,14 @@
 
 mod map;
 
-ghost use Rattle.std.specs.Prelude.{◌≡◌, length};
-
 use map::{HEIGHT, WIDTH};
 use std::io;
-use store::{Inserted, PAGE_SIZE, Repair};
+use store::PAGE_SIZE;
 
 // The rows that went in, each with its id.
-fn show(rt: &impl Print, rows: &[u8], ids: &[u64]) -> io::Result<()>
-    requires { (length rows.now ≡ 287) × (length ids.now ≡ 7) }
-{
-    for k in 0..HEIGHT {
-        print_rows::stored(rt, ids[k], &rows[k * WIDTH..(k + 1) * WIDTH])?;
+fn show(rt: &impl Print, rows: &[u8], ids: &[u64]) -> io::Result<()> {
+    for (id, row) in ids.iter().zip(rows.chunks_exact(WIDTH)) {
+        print_rows::stored(rt, *id, row)?;
     }
     Ok(())
 }
@@ -26,19 +22,19 @@ fn insert_map(rt: &impl Print, segment: &mut [u8], inventory: &mut [u8]) -> io::
     let lengths = [WIDTH as u64; HEIGHT];
     let mut ids = [0u64; HEIGHT];
     match segment_insert::insert_records(segment, inventory, &rows, &lengths, &mut ids) {
-        Inserted::Done { rows: _ } => show(rt, &rows, &ids),
-        _ => println!(rt; "  refused"),
+        Ok(_) => show(rt, &rows, &ids),
+        Err(_) => println!(rt; "  refused"),
     }
 }
 
 fn repair(rt: &impl Print, segment: &mut [u8], inventory: &mut [u8]) -> io::Result<()> {
     let mut entries = [0u64; 30];
     match segment_repair::repair(segment, inventory, &mut entries) {
-        Repair::Done { count } => {
+        Ok(count) => {
             println!(rt; "  changes: {count}")?;
             print_entries::list(rt, &entries, count, b"  ")
         }
-        _ => println!(rt; "  refused"),
+        Err(_) => println!(rt; "  refused"),
     }
 }
 

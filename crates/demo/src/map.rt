@@ -6,20 +6,12 @@ pub const WIDTH: usize = 41;
 
 pub const HEIGHT: usize = 7;
 
-// How far a is from b.
-fn apart(a: usize, b: usize) -> usize
-    requires { (a < 48) × (b < 48) }
-    ensures { result < 48 }
-{
-    if a < b { b - a } else { a - b }
-}
-
 // Dark in every other band round the middle, at (20,3). A character is twice as high as wide.
 fn shade(x: usize, y: usize) -> u8
     requires { (x < 48) × (y < 48) }
 {
-    let dx = apart(x, 20);
-    let dy = apart(y, 3);
+    let dx = x.abs_diff(20);
+    let dy = y.abs_diff(3);
     if (dx + 2 * dy) / 4 % 2 == 0 {
         b'#'
     } else {

@@ -1,7 +1,7 @@
 -- What the code's answers mean: the number of each, and what it tells.
 use Rattle.std.specs.Prelude.{ℕ, ◌<◌, List, Result, Ok, Err}
 use Rattle.store.specs.Refusals.{SIZE, LONG, DAMAGED, ROOM, number_of}
-use Rattle.store.specs.Answers.{told_no}
+use Rattle.store.specs.Answers.{told_no, told_count}
 use Rattle.exchange.specs.Exchange.{MARK, SHORT, Import, Export}
 use Rattle.exchange.specs.declared.ImportRefusal.{ImportRefusal}
 use Rattle.exchange.specs.declared.ImportRefusal.TheVariants as import
@@ -21,13 +21,15 @@ import_number (import.Stopped n r) = number_of r
 abbrev pub imported_no : Result ℕ ImportRefusal → ℕ
 imported_no r = told_no import_number r
 
+abbrev pub import_records : ImportRefusal → ℕ
+import_records import.Size = 0
+import_records import.Short = 0
+import_records import.Mark = 0
+import_records import.Long = 0
+import_records (import.Stopped n r) = n
+
 abbrev pub imported_records : Result ℕ ImportRefusal → ℕ
-imported_records (Ok n) = n
-imported_records (Err import.Size) = 0
-imported_records (Err import.Short) = 0
-imported_records (Err import.Mark) = 0
-imported_records (Err import.Long) = 0
-imported_records (Err (import.Stopped n r)) = n
+imported_records r = told_count import_records r
 
 -- what the call answered and left
 abbrev pub imported : Result ℕ ImportRefusal → List ℕ → List ℕ → Import

@@ -5,6 +5,7 @@ use print::{end_line, named, say};
 use std::io;
 use store::{AT_HEADER, AT_INVENTORY};
 
+// By number: an entry is three words, as C has them.
 fn done(rt: &impl Print, what: u64) -> io::Result<()> {
     match what {
         1 => say(rt, b"record freed"),

@@ -4,34 +4,36 @@
 
 use print::read_full;
 use std::io;
-use store::{PAGE_SIZE, Repair};
+use store::{PAGE_SIZE, RepairRefusal};
 
 // "3 × (2,047 × n + 1) words always suffice."
 const WORDS: usize = 3 * (2047 * 3 + 1);
 
-fn refused(rt: &impl Print, answer: u64) -> io::Result<()> {
-    println!(rt; "refused {answer}")
+// By its number.
+fn refused(rt: &impl Print, refusal: RepairRefusal) -> io::Result<()> {
+    match refusal {
+        RepairRefusal::Size => println!(rt; "refused 1"),
+        RepairRefusal::Room { .. } => println!(rt; "refused 11"),
+    }
 }
 
 // What stands there after a repair, lent a list of no words: 0 exactly if it is sound.
 fn check(rt: &impl Print, segment: &mut [u8], inventory: &mut [u8]) -> io::Result<()> {
     let mut none = [0u64; 0];
     match segment_repair::repair(segment, inventory, &mut none) {
-        Repair::Done { count: _ } => println!(rt; "sound"),
-        Repair::Size => refused(rt, 1),
-        Repair::Room { count: _ } => refused(rt, 11),
+        Ok(_) => println!(rt; "sound"),
+        Err(refusal) => refused(rt, refusal),
     }
 }
 
 fn repair(rt: &impl Print, segment: &mut [u8], inventory: &mut [u8]) -> io::Result<()> {
     let mut entries = [0u64; WORDS];
     match segment_repair::repair(segment, inventory, &mut entries) {
-        Repair::Done { count } => {
+        Ok(count) => {
             print_entries::list(rt, &entries, count, b"")?;
             check(rt, segment, inventory)
         }
-        Repair::Size => refused(rt, 1),
-        Repair::Room { count: _ } => refused(rt, 11),
+        Err(refusal) => refused(rt, refusal),
     }
 }
 
@@ -41,11 +43,11 @@ fn main(rt: HostRuntime) -> io::Result<()> {
     // three pages, and one byte more to tell a longer input by
     let mut buffer = [0u8; 49153];
     if read_full(&mut input, &mut inventory)? < PAGE_SIZE {
-        return refused(&rt, 1);
+        return refused(&rt, RepairRefusal::Size);
     }
     let n = read_full(&mut input, &mut buffer)?;
     if 49152 < n {
-        return refused(&rt, 1);
+        return refused(&rt, RepairRefusal::Size);
     }
     repair(&rt, &mut buffer[..n], &mut inventory)
 }

@@ -9,17 +9,19 @@ pub struct Reply {
     pub second: u64,
 }
 
+// What is printed where no call was made.
+pub const NO_CALL: Reply = Reply {
+    answer: 99,
+    first: 0,
+    second: 0,
+};
+
 fn answered(answer: u64) -> Reply {
     Reply {
         answer,
         first: 0,
         second: 0,
     }
-}
-
-// What no call answers: a record longer than a trace may have.
-fn no_call() -> Reply {
-    answered(99)
 }
 
 fn with_id(answer: u64, id: u64) -> Reply {
@@ -36,38 +38,37 @@ fn insert(segment: &mut [u8], inventory: &mut [u8], record: &[u8]) -> Reply {
     with_id(answer, id)
 }
 
-// A record of a trace's line: where it goes, how long it is, and by what seed it is made.
+// A record of a trace's line: the id that it is written to, or none where it is new, how long it is, and by what seed it is made.
 #[derive(Clone, Copy)]
 struct Record {
-    new: bool,
-    id: u64,
+    id: Option<u64>,
     length: u64,
     seed: u64,
 }
 
-// The record, made in `room`, is inserted or written.
-fn put(segment: &mut [u8], inventory: &mut [u8], room: &mut [u8], r: Record) -> Reply {
+// The record, made in `room`, is inserted or written; none where it is longer.
+fn put(segment: &mut [u8], inventory: &mut [u8], room: &mut [u8], r: Record) -> Option<Reply> {
     let n = r.length as usize;
     if room.len() < n {
-        return no_call();
+        return None;
     }
     made::record(&mut room[0..n], r.seed);
-    if r.new {
-        return insert(segment, inventory, &room[0..n]);
-    }
-    answered(hekatosuy::hk_write_record(segment, inventory, r.id, &room[0..n]))
+    let reply = match r.id {
+        None => insert(segment, inventory, &room[0..n]),
+        Some(id) => answered(hekatosuy::hk_write_record(segment, inventory, id, &room[0..n])),
+    };
+    Some(reply)
 }
 
 // "Records of `I` and `W` are at most 16,400 bytes long".
-fn put_made(segment: &mut [u8], inventory: &mut [u8], r: Record) -> Reply {
+fn put_made(segment: &mut [u8], inventory: &mut [u8], r: Record) -> Option<Reply> {
     let mut room = [0u8; 16400];
     put(segment, inventory, &mut room, r)
 }
 
 fn insertion(text: &[u8]) -> Record {
     Record {
-        new: true,
-        id: 0,
+        id: None,
         length: number(text, 1),
         seed: number(text, 2),
     }
@@ -75,8 +76,7 @@ fn insertion(text: &[u8]) -> Record {
 
 fn rewriting(text: &[u8]) -> Record {
     Record {
-        new: false,
-        id: number(text, 1),
+        id: Some(number(text, 1)),
         length: number(text, 2),
         seed: number(text, 3),
     }
@@ -145,39 +145,42 @@ fn scan_to_end(segment: &[u8]) -> Scan {
         records: 0,
         digest: 0,
     };
-    let mut turns: u64 = 1000000;
-    while 0 < turns && s.found == 1 {
-        turns -= 1;
+    for _ in 0..1000000 {
+        if s.found != 1 {
+            break;
+        }
         s = scan_step(segment, s);
     }
     s
 }
 
 // "the answer is that of the step the scan ended with, and two further steps must answer 0 without a record"
-fn scan_all(segment: &[u8]) -> Reply {
+fn scan_all(segment: &[u8]) -> Option<Reply> {
     let s = scan_to_end(segment);
     let once = scan_step(segment, s);
     let twice = scan_step(segment, once);
     if once.found != 0 || once.answer != 0 || twice.found != 0 || twice.answer != 0 {
-        return no_call();
+        return None;
     }
-    Reply {
+    Some(Reply {
         answer: s.answer,
         first: s.records,
         second: s.digest,
-    }
+    })
 }
 
-pub fn perform(segment: &mut [u8], inventory: &mut [u8], text: &[u8]) -> Reply {
+// None is what no call answers: a record longer than a trace may have, or a scan that does not stay over.
+pub fn perform(segment: &mut [u8], inventory: &mut [u8], text: &[u8]) -> Option<Reply> {
     let a = number(text, 1);
-    match line::letter(text) {
-        b'I' => put_made(segment, inventory, insertion(text)),
+    let reply = match line::letter(text)? {
+        b'I' => put_made(segment, inventory, insertion(text))?,
         b'A' => allocate(segment, inventory, a),
         b'R' => get(segment, a),
-        b'W' => put_made(segment, inventory, rewriting(text)),
+        b'W' => put_made(segment, inventory, rewriting(text))?,
         b'Z' => answered(hekatosuy::hk_resize_record(segment, inventory, a, number(text, 2))),
         b'E' => answered(hekatosuy::hk_erase_record(segment, inventory, a)),
-        b'N' => scan_all(segment),
-        _ => no_call(),
-    }
+        b'N' => scan_all(segment)?,
+        _ => return None,
+    };
+    Some(reply)
 }

@@ -1,20 +1,19 @@
 // A line of a trace: "a letter and decimal numbers, with one blank between them".
-ghost use Rattle.std.specs.Prelude.{◌≤◌, length};
+ghost use Rattle.std.specs.Prelude.{◌≤◌, length, IfSome};
 
-// The value of a digit; 10 for any other byte.
-fn digit_of(b: u8) -> u64 {
+fn digit_of(b: u8) -> Option<u64> {
     match b {
-        b'0'..=b'9' => u64::from(b - b'0'),
-        _ => 10,
+        b'0'..=b'9' => Some(u64::from(b - b'0')),
+        _ => None,
     }
 }
 
-// The number with one digit more; where it would pass 2^64 - 1, that, and also where the digit is none.
-fn with_digit(value: u64, digit: u64) -> u64 {
-    if 10 <= digit {
-        return u64::MAX;
+// The number with one byte more, a digit; where it would pass 2^64 - 1, that, and also where the byte is no digit.
+fn with_digit(value: u64, b: u8) -> u64 {
+    match digit_of(b) {
+        Some(digit) => value.saturating_mul(10).saturating_add(digit),
+        None => u64::MAX,
     }
-    value.saturating_mul(10).saturating_add(digit)
 }
 
 // A number on its way: the blanks passed, and its value so far.
@@ -36,7 +35,7 @@ fn taken(r: Reading, blanks: u64, b: u8) -> Reading {
         return r;
     }
     Reading {
-        value: with_digit(r.value, digit_of(b)),
+        value: with_digit(r.value, b),
         ..r
     }
 }
@@ -53,55 +52,47 @@ pub fn number(text: &[u8], k: u64) -> u64 {
     r.value
 }
 
-// How many numbers there are with one byte more: at most eight, and 99 for a line that is not understood.
-fn counted(n: u64, b: u8) -> u64 {
-    if b != b' ' {
-        if n == 0 || digit_of(b) == 10 {
-            return 99;
-        }
-        return n;
+// How many numbers there are with one byte more: at most eight, and none for a line that is not understood.
+fn counted(n: u64, b: u8) -> Option<u64> {
+    match b {
+        b' ' if n < 8 => Some(n + 1),
+        b'0'..=b'9' if n != 0 => Some(n),
+        _ => None,
     }
-    if 8 <= n {
-        return 99;
-    }
-    n + 1
 }
 
-pub fn count(text: &[u8]) -> u64 {
-    let mut n: u64 = 0;
+pub fn count(text: &[u8]) -> Option<u64> {
+    let mut n = 0;
     for b in text.iter().skip(1) {
-        n = counted(n, *b);
+        n = counted(n, *b)?;
     }
-    n
+    Some(n)
 }
 
-pub fn letter(text: &[u8]) -> u8 {
-    if text.is_empty() { 0 } else { text[0] }
+pub fn letter(text: &[u8]) -> Option<u8> {
+    text.first().copied()
 }
 
-// How many numbers stand before the five of the result; 8 where the letter is of no call.
-pub fn arguments_of(letter: u8) -> u64
-    ensures { result ≤ 8 }
+// How many numbers stand before the five of the result, where the letter is of a call.
+pub fn arguments_of(letter: u8) -> Option<u64>
+    ensures { IfSome result (λ n. n ≤ 3) }
 {
     match letter {
-        b'N' => 0,
-        b'A' | b'R' | b'E' => 1,
-        b'I' | b'Z' => 2,
-        b'W' => 3,
-        _ => 8,
+        b'N' => Some(0),
+        b'A' | b'R' | b'E' => Some(1),
+        b'I' | b'Z' => Some(2),
+        b'W' => Some(3),
+        _ => None,
     }
 }
 
 // Whether these five numbers stand after so many others.
-pub fn has(text: &[u8], after: u64, five: &[u64; 5]) -> bool {
-    let mut at = after;
-    for n in five {
-        at = at.wrapping_add(1);
-        if number(text, at) != *n {
-            return false;
-        }
-    }
-    true
+pub fn has(text: &[u8], after: u64, five: &[u64; 5]) -> bool
+    requires { after ≤ 3 }
+{
+    (after + 1..after + 6)
+        .zip(five)
+        .all(|(k, n)| number(text, k) == *n)
 }
 
 // Where the line that begins at `at` ends: at the next line feed, or with the text.
@@ -109,12 +100,10 @@ pub fn line_end(text: &[u8], at: usize) -> usize
     requires { at ≤ length text.now }
     ensures { (at ≤ result) × (result ≤ length text.now) }
 {
-    for e in at..text.len() {
-        if text[e] == b'\n' {
-            return e;
-        }
+    match text[at..].iter().position(|b| *b == b'\n') {
+        Some(k) => at + k,
+        None => text.len(),
     }
-    text.len()
 }
 
 // How many bytes of the text are whole lines; of the last text all.

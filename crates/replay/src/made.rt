@@ -9,29 +9,20 @@ pub fn record(bytes: &mut [u8], seed: u64) {
     }
 }
 
-// A big-endian number over all of the bytes.
-fn big_endian(bytes: &mut [u8], value: u64) {
+// The bytes of a number, the lowest first, over all of these.
+fn digits<'a>(bytes: impl Iterator<Item = &'a mut u8>, value: u64) {
     let mut left = value;
-    for byte in bytes.iter_mut().rev() {
+    for byte in bytes {
         *byte = (left % 256) as u8;
         left /= 256;
     }
 }
 
-// A little-endian one.
-fn little_endian(bytes: &mut [u8], value: u64) {
-    let mut left = value;
-    for byte in bytes.iter_mut() {
-        *byte = (left % 256) as u8;
-        left /= 256;
-    }
-}
-
-// Bytes set between calls, by the letter of the line that names them.
+// Bytes set between calls, by the letter of the line that names them: a big-endian number, a little-endian one, or a record.
 pub fn set(bytes: &mut [u8], letter: u8, value: u64) {
     match letter {
-        b'B' => big_endian(bytes, value),
-        b'V' => little_endian(bytes, value),
+        b'B' => digits(bytes.iter_mut().rev(), value),
+        b'V' => digits(bytes.iter_mut(), value),
         _ => record(bytes, value),
     }
 }
@@ -44,14 +35,10 @@ fn fold(digest: u64, number: u64) -> u64
     (digest * 31 + number % 4294967291 + 1) % 4294967291
 }
 
-fn wide(b: u8) -> u64 {
-    u64::from(b)
-}
-
 pub fn digest(bytes: &[u8]) -> u64 {
     let mut d: u64 = 0;
     for b in bytes {
-        d = fold(d, wide(*b));
+        d = fold(d, u64::from(*b));
     }
     d
 }

@@ -9,11 +9,10 @@ mod report;
 
 ghost use Rattle.std.specs.Prelude.{◌≤◌, length, IfOk};
 
-use print::least;
 use std::io;
 use std::io::Read;
 
-// Where the replay stands: the line, what was replayed up to it, the bytes lent to the calls, and whether all was as it should be.
+// Where the replay stands: the line, what was replayed up to it, and the bytes lent to the calls. After a difference it stands nowhere.
 #[derive(Clone, Copy)]
 pub struct State {
     pub line: u64,
@@ -21,7 +20,6 @@ pub struct State {
     pub calls: u64,
     pub segment: usize,
     pub inventory: usize,
-    pub going: bool,
 }
 
 // Whether there are as many bytes, which are now zeros.
@@ -29,7 +27,7 @@ fn zeroed(bytes: &mut [u8], n: usize) -> bool {
     if bytes.len() < n {
         return false;
     }
-    layout_runs::zero_fill(bytes, 0, n);
+    bytes[..n].fill(0);
     true
 }
 
@@ -40,7 +38,7 @@ fn begin(
     text: &[u8],
     segment: &mut [u8],
     inventory: &mut [u8],
-) -> io::Result<State> {
+) -> io::Result<Option<State>> {
     let next = State {
         sequences: s.sequences.wrapping_add(1),
         segment: line::number(text, 1) as usize,
@@ -48,17 +46,24 @@ fn begin(
         ..s
     };
     if !zeroed(segment, next.segment) || !zeroed(inventory, next.inventory) {
-        return report::too_large(rt, s);
+        report::too_large(rt, s)?;
+        return Ok(None);
     }
-    Ok(next)
+    Ok(Some(next))
 }
 
 // Bytes set between calls. A trace sets lent bytes alone; any others are passed over.
-fn poke(bytes: &mut [u8], text: &[u8]) {
+fn poke(bytes: &mut [u8], letter: u8, text: &[u8]) {
     let n = bytes.len();
-    let a = least(line::number(text, 1) as usize, n);
-    let e = a + least(line::number(text, 2) as usize, n - a);
-    made::set(&mut bytes[a..e], line::letter(text), line::number(text, 3));
+    let a = n.min(line::number(text, 1) as usize);
+    let e = a + (n - a).min(line::number(text, 2) as usize);
+    made::set(&mut bytes[a..e], letter, line::number(text, 3));
+}
+
+// A line that is no call.
+fn refuse(rt: &impl Print, s: State, text: &[u8]) -> io::Result<Option<State>> {
+    report::not_understood(rt, s, text)?;
+    Ok(None)
 }
 
 fn call(
@@ -67,22 +72,25 @@ fn call(
     text: &[u8],
     segment: &mut [u8],
     inventory: &mut [u8],
-) -> io::Result<State> {
-    let at = line::arguments_of(line::letter(text));
-    if line::count(text) != at + 5 {
-        return report::not_understood(rt, s, text);
+) -> io::Result<Option<State>> {
+    let Some(at) = line::letter(text).and_then(line::arguments_of) else {
+        return refuse(rt, s, text);
+    };
+    if line::count(text) != Some(at + 5) {
+        return refuse(rt, s, text);
     }
-    let r = calls::perform(segment, inventory, text);
+    let r = calls::perform(segment, inventory, text).unwrap_or(calls::NO_CALL);
     let a = made::digest(segment);
     let b = made::digest(inventory);
     let got = [r.answer, r.first, r.second, a, b];
     if !line::has(text, at, &got) {
-        return report::difference(rt, s, text, &got);
+        report::difference(rt, s, text, &got)?;
+        return Ok(None);
     }
-    Ok(State {
+    Ok(Some(State {
         calls: s.calls.wrapping_add(1),
         ..s
-    })
+    }))
 }
 
 // A line on the lent bytes.
@@ -92,47 +100,47 @@ fn replay_lent(
     text: &[u8],
     segment: &mut [u8],
     inventory: &mut [u8],
-) -> io::Result<State> {
-    if line::count(text) != 3 {
+) -> io::Result<Option<State>> {
+    if line::count(text) != Some(3) {
         return call(rt, s, text, segment, inventory);
     }
     match line::letter(text) {
-        b'V' => poke(inventory, text),
-        b'B' | b'G' => poke(segment, text),
-        _ => return report::not_understood(rt, s, text),
+        Some(b'V') => poke(inventory, b'V', text),
+        Some(letter @ (b'B' | b'G')) => poke(segment, letter, text),
+        _ => return refuse(rt, s, text),
     }
-    Ok(s)
+    Ok(Some(s))
 }
 
 fn replay_line(
     rt: &impl Print,
-    before: State,
+    before: Option<State>,
     text: &[u8],
     segment: &mut [u8],
     inventory: &mut [u8],
-) -> io::Result<State> {
-    if !before.going {
-        return Ok(before);
-    }
+) -> io::Result<Option<State>> {
+    let Some(before) = before else {
+        return Ok(None);
+    };
     let s = State {
         line: before.line.wrapping_add(1),
         ..before
     };
-    if line::letter(text) == b'S' && line::count(text) == 2 {
+    if line::letter(text) == Some(b'S') && line::count(text) == Some(2) {
         return begin(rt, s, text, segment, inventory);
     }
-    let a = least(s.segment, segment.len());
-    let b = least(s.inventory, inventory.len());
+    let a = s.segment.min(segment.len());
+    let b = s.inventory.min(inventory.len());
     replay_lent(rt, s, text, &mut segment[0..a], &mut inventory[0..b])
 }
 
 fn replay_lines(
     rt: &impl Print,
-    before: State,
+    before: Option<State>,
     text: &[u8],
     segment: &mut [u8],
     inventory: &mut [u8],
-) -> io::Result<State> {
+) -> io::Result<Option<State>> {
     let mut s = before;
     let mut at: usize = 0;
     while at < text.len() {
@@ -162,15 +170,14 @@ fn replay(
     text: &mut [u8],
     segment: &mut [u8],
     inventory: &mut [u8],
-) -> io::Result<State> {
-    let mut s = State {
+) -> io::Result<Option<State>> {
+    let mut s = Some(State {
         line: 0,
         sequences: 0,
         calls: 0,
         segment: 0,
         inventory: 0,
-        going: true,
-    };
+    });
     let mut kept: usize = 0;
     for _ in 0..u64::MAX {
         let n = read_on(reader, text, kept)?;
@@ -181,7 +188,7 @@ fn replay(
             return Ok(s);
         }
         kept = n - e;
-        layout_runs::move_down(text, e, kept, 0);
+        text.copy_within(e..n, 0);
     }
     Ok(s)
 }
@@ -197,5 +204,8 @@ fn main(rt: HostRuntime) -> io::Result<()> {
         &mut segment,
         &mut inventory,
     )?;
-    report::end(&rt, s)
+    match s {
+        Some(s) => report::end(&rt, s),
+        None => Ok(()),
+    }
 }
