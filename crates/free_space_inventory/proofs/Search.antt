@@ -7,7 +7,7 @@ use native.Mathlib.Omega.{arith}
 use lib.ListN.{length}
 use Rattle.store.specs.Inventory.{set_entry, nibble, first_from, next_page, set_from}
 use Rattle.store.proofs.Laws.Inventory.{length_set_entry, nibble_entry}
-use Rattle.free_space_inventory.proofs.Turns.{first_here, first_next, first_none, down_done}
+use Rattle.free_space_inventory.proofs.Turns.{first_here, first_next, first_none, down_turn, down_done}
 
 -- what is written depends on f at the entries written alone
 pub down_agree : (f g : ℕ → ℕ) (old d : ℕ) (s : List ℕ) → ((c : ℕ) → old ≤ c → c < old + d → f c ≡ g c) → set_from f old d s ≡ set_from g old d s
@@ -17,26 +17,28 @@ down_agree f g old (suc d) s h =
     ap (λ v. set_from f old d (set_entry s (old + d) v)) (h (old + d) (omega arith) (omega arith))
     ∙ down_agree f g old d _ (λ c l m. h c l (omega arith))
 
-pub set_from_length : (f : ℕ → ℕ) (old d : ℕ) (s : List ℕ) → length (set_from f old d s) ≡ length s
-unfolding set_from
-set_from_length f old zero s = refl
-set_from_length f old (suc d) s = set_from_length f old d _ ∙ length_set_entry s (old + d) (f (old + d))
+-- the loop over entries, at page p of class v: it began with the bytes s₁ and the entries below u₁, and stands at s and u
+pub record Placed (s₁ : List ℕ) (p v old u₁ : ℕ) (s : List ℕ) (u : ℕ) : Type 0 where
+  pub len : length s ≡ length s₁
+  pub lo : old ≤ u
+  pub hi : u ≤ u₁
+  pub same : (k : ℕ) → nibble s k ≡ nibble s₁ k
+  pub rest : (g : ℕ → ℕ) → ((c : ℕ) → v ≤ c → c < u₁ → g c ≡ p) → set_from g old (u - old) s ≡ set_from g old (u₁ - old) s₁
 
-set_from_nibble : (f : ℕ → ℕ) (old d : ℕ) (s : List ℕ) (k : ℕ) → old + d ≤ 15 → nibble (set_from f old d s) k ≡ nibble s k
-unfolding set_from
-set_from_nibble f old zero s k h = refl
-set_from_nibble f old (suc d) s k h =
-    set_from_nibble f old d _ k (omega arith) ∙ nibble_entry s (old + d) (f (old + d)) (k + 240) (omega arith)
+pub placed_none : (s : List ℕ) (p v old u : ℕ) → old ≤ u → Placed s p v old u s u
+placed_none s p v old u h = record { len = refl; lo = h; hi = omega arith; same = λ k. refl; rest = λ g e. refl }
 
--- the entries from low up, then those below
-set_from_split : (f : ℕ → ℕ) (old low d : ℕ) (s : List ℕ) → old ≤ low
-    → set_from f old (low - old) (set_from f low d s) ≡ set_from f old (low + d - old) s
-unfolding set_from
-set_from_split f old low zero s h = let e : low + 0 ≡ low = omega arith in rw e
-set_from_split f old low (suc d) s h =
-    let m : low + suc d - old ≡ suc (low + d - old) = omega arith in
-    let k : old + (low + d - old) ≡ low + d = omega arith in
-    rw m (set_from_split f old low d _ h ∙ ap (λ j. set_from f old (low + d - old) (set_entry s j (f j))) (sym k))
+pub placed_more : {s₁ : List ℕ} {p v old u₁ : ℕ} {s : List ℕ} {u : ℕ} (t : List ℕ) → t ≡ set_entry s (u - 1) p → Placed s₁ p v old u₁ s u
+    → old < u → v < u → u ≤ 15 → Placed s₁ p v old u₁ t (u - 1)
+placed_more {s₁} {p} {v} {old} {u₁} {s} {u} t e h l m top = rw e record {
+  len = length_set_entry s (u - 1) p ∙ h.len;
+  lo = omega arith;
+  hi = omega (arith, h.hi);
+  same = λ k. nibble_entry s (u - 1) p (k + 240) (omega arith) ∙ h.same k;
+  rest = λ g q.
+      ap (λ x. set_from g old (u - 1 - old) (set_entry s (u - 1) x)) (sym (q (u - 1) (omega arith) (omega (arith, h.hi))))
+      ∙ sym (down_turn g old u s l) ∙ h.rest g q;
+}
 
 -- the loop over pages: it began with the bytes s₀ and the entries below end, and stands at s and u, before page p
 pub record Searched (s₀ : List ℕ) (n page old end : ℕ) (s : List ℕ) (u p : ℕ) : Type 0 where
@@ -68,23 +70,25 @@ pub record Left (s₀ : List ℕ) (n page old end : ℕ) (s : List ℕ) (u : ℕ
   pub hi : u ≤ end
   pub all : set_from (λ _. n) old (u - old) s ≡ set_from (next_page s₀ n page) old (end - old) s₀
 
+pub left_none : (s : List ℕ) (n page old end : ℕ) → end ≤ old → Left s n page old end s end
+left_none s n page old end h = record
+    { len = refl; hi = omega arith; all = down_done (λ _. n) old end s h ∙ sym (down_done (next_page s n page) old end s h) }
+
 module _ {s₀ : List ℕ} {n page old end : ℕ} {s₁ : List ℕ} {u₁ p : ℕ} where
-  -- the entries from low up, which page p takes
-  pub searched_here : (low : ℕ) {s : List ℕ} → Searched s₀ n page old end s₁ u₁ p → p < n → nibble s₁ p ≤ low → old ≤ low → low ≤ u₁ → u₁ ≤ 15
-      → s ≡ set_from (λ _. p) low (u₁ - low) s₁ → Searched s₀ n page old end s low p
-  searched_here low {s} h l v o m top e = rw e record {
-    len = set_from_length (λ _. p) low (u₁ - low) s₁ ∙ h.len;
-    lo = o;
-    hi = omega (arith, h.hi);
+  -- the entries that page p takes
+  pub searched_here : {v : ℕ} {s : List ℕ} {u : ℕ} → Searched s₀ n page old end s₁ u₁ p → p < n → v ≡ nibble s₁ p → Placed s₁ p v old u₁ s u
+      → Searched s₀ n page old end s u p
+  searched_here {v} {s} {u} h l e t = record {
+    len = t.len ∙ h.len;
+    lo = t.lo;
+    hi = omega (arith, t.hi, h.hi);
     from = h.from;
     upto = h.upto;
-    same = λ k. set_from_nibble (λ _. p) low (u₁ - low) s₁ k (omega arith) ∙ h.same k;
+    same = λ k. t.same k ∙ h.same k;
     rest =
-        ap (set_from (next_page s₀ n page) old (low - old))
-        (down_agree (λ _. p) (next_page s₀ n page) low (u₁ - low) s₁
-        (λ c ge lt. sym (h.ahead c (omega arith) ∙ first_here (nibble s₀) c p n l (omega (arith, h.same p)))))
-        ∙ set_from_split (next_page s₀ n page) old low (u₁ - low) s₁ o ∙ (let k : low + (u₁ - low) ≡ u₁ = omega arith in rw k h.rest);
-    ahead = λ c q. h.ahead c (omega arith);
+        t.rest (next_page s₀ n page) (λ c ge lt. h.ahead c lt ∙ first_here (nibble s₀) c p n l (omega (arith, e, h.same p)))
+        ∙ h.rest;
+    ahead = λ c m. h.ahead c (omega (arith, t.hi));
   }
 
   -- the next page

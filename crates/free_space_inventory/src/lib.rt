@@ -119,18 +119,21 @@ fn move_entries(inventory: &mut [u8], n: usize, page: usize, old: usize, end: us
     requires page_lt_n { (page < n) × (end ≤ 15) }
     ensures { inventory.new ≡ set_from (next_page inventory.old n page) old (end - old) inventory.old }
 {
-    if end <= old {
-        return;
-    }
     let mut u = end;
-    for p in page + 1..n {
-        let low = read_nibble(inventory, p + NIBBLES_BEFORE).max(old);
-        // Most pages suit none of the entries left; the entries' loop is dearer to enter than this test.
-        if low < u {
-            fill_entries(inventory, low, u, p);
-            u = low;
-            if u == old {
-                break;
+    if old < u {
+        'pages: for p in page + 1..n {
+            let nibble = read_nibble(inventory, p + NIBBLES_BEFORE);
+            // Most pages suit none of the entries left; the entries' loop is dearer to enter than this test.
+            if u <= nibble {
+                continue;
+            }
+            // Counted by hand: what is left of the entries is what the next page has to take.
+            while nibble < u {
+                u -= 1;
+                write_entry(inventory, u, p);
+                if u == old {
+                    break 'pages;
+                }
             }
         }
     }
