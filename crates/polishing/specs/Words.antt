@@ -1,8 +1,8 @@
 -- Words for the contracts: the head of a record, the passes over readings, and the rule by its two counts.
-use Rattle.std.specs.Prelude.{ℕ, zero, suc, ◌+◌, ◌/◌, ◌%◌, ◌^◌, ◌≡◌, Bool, true, false, Option, Some, None, Result, Ok, Err, cond, ◌&&◌, length, get_or, set, eqb, ltb, leb}
+use Rattle.std.specs.Prelude.{ℕ, zero, suc, ◌+◌, ◌/◌, ◌%◌, ◌^◌, ◌≡◌, Bool, true, false, Option, Some, None, Result, Ok, Err, cond, ◌&&◌, length, get_or, set, replicate, eqb, ltb, leb}
 use mathlib.Core.List.{List, foldl}
 use Rattle.std.specs.Int.Bits.{bit_and, bit_or}
-use Rattle.store.specs.Numbers.{cut, zeros}
+use Rattle.store.specs.Numbers.{cut}
 use Rattle.store.specs.Page.{sound, view}
 use Rattle.store.specs.Records.{records}
 use Rattle.store.specs.Segment.{SegView, seg_view}
@@ -39,19 +39,19 @@ part_head m p part.Nothing = None
 
 -- ---- the first pass: the windows that have a record, 64 reading numbers each
 
-abbrev pub with_mark : List ℕ → Option Row → List ℕ
-with_mark ws (Some h) = set ws (h.reading / 64) 1
+abbrev pub with_mark : List Bool → Option Row → List Bool
+with_mark ws (Some h) = set ws (h.reading / 64) true
 with_mark ws None = ws
 
 -- over records, and of a segment
-abbrev pub windows_over : ℕ → List ℕ → List (List ℕ) → List ℕ
-windows_over m ws bs = foldl (λ (w : List ℕ) (b : List ℕ). with_mark w (head_of m b)) ws bs
+abbrev pub windows_over : ℕ → List Bool → List (List ℕ) → List Bool
+windows_over m ws bs = foldl (λ (w : List Bool) (b : List ℕ). with_mark w (head_of m b)) ws bs
 
-abbrev pub windows_of : ℕ → SegView → List ℕ
-windows_of m u = windows_over m (zeros 1024) (readings (records u))
+abbrev pub windows_of : ℕ → SegView → List Bool
+windows_of m u = windows_over m (replicate 1024 false) (readings (records u))
 
 -- they are marked, if the pages are sound
-abbrev pub Marked : ℕ → SegView → Option (List ℕ) → Type 0
+abbrev pub Marked : ℕ → SegView → Option (List Bool) → Type 0
 Marked m u (Some ws) = (all_sound u ≡ true) × (ws ≡ windows_of m u)
 Marked m u None = all_sound u ≡ false
 

@@ -15,7 +15,7 @@ use crate::windows::{WINDOWS, marked_windows};
 #[derive(Drop)]
 pub struct Readings<'a> {
     segment: &'a [u8],
-    marked: [u8; WINDOWS],
+    marked: [bool; WINDOWS],
     mirror: usize,
     rows: usize,
     ghost size: { size_ok segment.now ≡ true },
@@ -50,7 +50,7 @@ impl<'a> Readings<'a> {
         requires { w < 1024 }
         ensures { result ≡ word (whole_in self.now.segment.now self.now.mirror self.now.rows) w }
     {
-        if self.marked[w] == 0 {
+        if !self.marked[w] {
             return 0;
         }
         let wanted = Wanted {

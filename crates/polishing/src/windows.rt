@@ -16,16 +16,16 @@ pub const SPAN: usize = 64;
 pub const WINDOWS: usize = 1024;
 
 // The window of one record.
-fn mark_head(marked: &mut [u8; WINDOWS], head: Option<Row>)
+fn mark_head(marked: &mut [bool; WINDOWS], head: Option<Row>)
     ensures { marked.new ≡ with_mark marked.old head }
 {
     if let Some(row) = head {
-        marked[usize::from(row.reading) / SPAN] = 1;
+        marked[usize::from(row.reading) / SPAN] = true;
     }
 }
 
 // The slots of a page that is sound; a fresh one has none.
-fn mark_page(marked: &mut [u8; WINDOWS], page: &Page, mirror: usize)
+fn mark_page(marked: &mut [bool; WINDOWS], page: &Page, mirror: usize)
     requires { sound (view page.now) ≡ true }
     ensures { marked.new ≡ windows_over mirror marked.old (page_readings (opened (view page.now))) }
 {
@@ -35,11 +35,11 @@ fn mark_page(marked: &mut [u8; WINDOWS], page: &Page, mirror: usize)
 }
 
 // Page by page; none where a page is not sound.
-pub fn marked_windows(segment: &[u8], mirror: usize) -> Option<[u8; WINDOWS]>
+pub fn marked_windows(segment: &[u8], mirror: usize) -> Option<[bool; WINDOWS]>
     requires { size_ok segment.now ≡ true }
     ensures { Marked mirror (seg_view segment.now) result }
 {
-    let mut marked = [0u8; WINDOWS];
+    let mut marked = [false; WINDOWS];
     for p in 0..segment.len() / PAGE_SIZE {
         let page = page_of(segment, p);
         if !page_check::is_sound(page) {

@@ -1,5 +1,6 @@
-use Prim.Native.Nat.{ℕ, ◌+◌}
+use Prim.Native.Nat.{◌+◌}
 use mathlib.Core.Path.{refl, sym, ap, ◌∙◌}
+use mathlib.Core.Bool.{Bool}
 use mathlib.Core.List.{List}
 use native.Mathlib.Omega.{arith}
 use Rattle.store.specs.Page.{view}
@@ -14,7 +15,7 @@ loop-k-init c = sym (over_all with_mark (λ w. refl) c.args.mirror (view c.args.
 pub loop-k-preserved : goal.loop-k-preserved
 loop-k-preserved c =
     let p = c.args.page.now in
-    ap (λ (v : List ℕ). windows_over c.args.mirror v (readings_from (view p) (c.loop-k.k + 1))) c.mark_head.ensures
+    ap (λ (v : List Bool). windows_over c.args.mirror v (readings_from (view p) (c.loop-k.k + 1))) c.mark_head.ensures
     ∙ sym (over_next with_mark (λ v. refl) _ p (c.told-page, c.requires) _ (omega (arith, c.get_slot_count-k-end.ensures.0)) _ _ c.head_at.ensures)
     ∙ c.loop-k.invariant
 

@@ -2,7 +2,7 @@ use Prim.Native.Nat.{ℕ, ◌+◌}
 use mathlib.Core.Path.{◌≡◌, sym, ap, subst, ◌∙◌}
 use mathlib.Core.List.{List}
 use native.Mathlib.Omega.{arith}
-use Rattle.store.specs.Numbers.{zeros}
+use Rattle.std.specs.Prelude.{false, replicate}
 use Rattle.store.specs.Page.{view, sound}
 use Rattle.store.specs.PageSteps.{opened}
 use Rattle.store.specs.Segment.{page_of}
@@ -30,7 +30,7 @@ loop-p-preserved c =
     let ok = sym (told (goal.at.loop-p-preserved c).After-is_sound) ∙ c.if-not-is_sound.false in
     let m = c.args.mirror in
     let e = c.mark_page.ensures ∙ ap (λ (q : List ℕ). windows_over m c.loop-p.marked (page_readings (opened (view q)))) c.page_of-page.ensures in
-    subst (MarkedTo m c.args.segment.now (zeros 1024) (c.loop-p.p + 1)) (sym e) (marked_next _ _ _ c.loop-p.p _ c.loop-p.invariant (omega arith) ok)
+    subst (MarkedTo m c.args.segment.now (replicate 1024 false) (c.loop-p.p + 1)) (sym e) (marked_next _ _ _ c.loop-p.p _ c.loop-p.invariant (omega arith) ok)
 
 pub returns : goal.returns
 returns c = marked_all _ _ _ c.loop-p.p _ c.loop-p.invariant (omega arith)
