@@ -82,7 +82,8 @@ module _ (v : View) (p k : ℕ) (d : Scanned) where
   unfolding on_page
   page_damaged e = rw e
 
-  pub page_first : damaged_at v k ≡ false → (n : ℕ) → n ≡ v.slot_count → (r : Option ℕ) → first_record n v k ≡ r → or_record r v p d ≡ on_page v p k d
+  pub page_first : damaged_at v k ≡ false → (n : ℕ) → n ≡ v.slot_count → (r : Option ℕ) → first_record n v k ≡ r
+      → or_record r v p d ≡ on_page v p k d
   unfolding on_page
   page_first e n count r q = rw e (ap (λ (x : Option ℕ). or_record x v p d) (sym q ∙ ap (λ (m : ℕ). first_record m v k) count))
 
