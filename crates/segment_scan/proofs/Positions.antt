@@ -1,5 +1,5 @@
 -- The scan's position: from slot to slot and from page to page.
-use Prim.Native.Nat.{ℕ, suc, ◌+◌, ◌-◌, ◌/◌, ◌≤◌, ◌<◌}
+use Prim.Native.Nat.{ℕ, zero, suc, ◌+◌, ◌-◌, ◌/◌, ◌≤◌, ◌<◌}
 use mathlib.Core.Path.{◌≡◌, refl, sym, ap, ◌∙◌}
 use mathlib.Core.Bool.{Bool, true, false, not, cond}
 use mathlib.Core.List.{List}
@@ -10,6 +10,7 @@ use native.Mathlib.Decide.{dec_lt}
 use lib.ListN.{length}
 use lib.Dec.{eqb, ltb, leb}
 use Rattle.std.proofs.Common.{ltb-true}
+use Rattle.std.specs.List.{find, range_with_len}
 use borrow.Author.Tests.{lt-ltb, le-ltb, lt-leb, le-leb, leb-true, not-false}
 use Rattle.store.specs.Slots.{is_record}
 use Rattle.store.specs.Page.{View, fresh, count_fits, sound_tests, passes, sound}
@@ -24,25 +25,31 @@ use Rattle.segment_scan.specs.Pages.{record_or, first_record, or_record, on_page
 
 -- ---- from slot to slot
 
-module _ (v : View) (n k : ℕ) where
-  pub first_here : k < n → is_record (v.at k) ≡ true → Some k ≡ first_record n v k
-  unfolding first_record
-  first_here h e = let m : n - k ≡ suc (n - (k + 1)) = omega arith in rw (m, e, lt-ltb k n h)
+-- the first of m slots from k on, as the definition of a step says it
+first_of : (v : View) (n m k : ℕ) → n - k ≡ m
+    → find (λ j. is_record (v.at j)) (range_with_len k m) ≡ cond (ltb (next_record m v k) n) (Some (next_record m v k)) None
+first_of v n zero k e = rw (le-ltb k n (omega arith)) refl
+first_of v n (suc m) k e = go (is_record (v.at k)) (first_of v n m (k + 1) (omega arith))
+  where
+    i : ℕ
+    i = next_record m v (k + 1)
 
-  pub first_turn : k < n → is_record (v.at k) ≡ false → first_record n v (k + 1) ≡ first_record n v k
-  unfolding first_record
-  first_turn h e = let m : n - k ≡ suc (n - (k + 1)) = omega arith in rw (m, e)
+    rest : Option ℕ
+    rest = find (λ j. is_record (v.at j)) (range_with_len (k + 1) m)
 
-  pub first_none : n ≤ k → None ≡ first_record n v k
-  unfolding first_record
-  first_none h = let m : n - k ≡ 0 = omega arith in rw (m, le-ltb k n h)
+    go : (b : Bool) → rest ≡ cond (ltb i n) (Some i) None → cond b (Some k) rest ≡ cond (ltb (cond b k i) n) (Some (cond b k i)) None
+    go true h = rw (lt-ltb k n (omega arith)) refl
+    go false h = h
+
+pub first_next : (v : View) (n k : ℕ) → let i = next_record (n - k) v k in first_record n v k ≡ cond (ltb i n) (Some i) None
+first_next v n k = first_of v n (n - k) k refl
 
 -- what is found is a slot that holds a record
 pub first_is : (v : View) (n k j : ℕ) → first_record n v k ≡ Some j → (j < n) × (is_record (v.at j) ≡ true)
-unfolding first_record
-first_is v n k j =
+first_is v n k j e =
     by_test (λ (r : Option ℕ). r ≡ Some j → (j < n) × (is_record (v.at j) ≡ true)) (ltb i n) (Some i) None
-    (λ t e. let q : i ≡ j = cc in let h = ltb-true i n t in rw (← q) (h, next_record_lem (n - k) v k (omega (arith, h)))) (λ t e. cc)
+    (λ t w. let q : i ≡ j = cc in let h = ltb-true i n t in rw (← q) (h, next_record_lem (n - k) v k (omega (arith, h)))) (λ t w. cc)
+    (sym (first_next v n k) ∙ e)
   where
     i : ℕ
     i = next_record (n - k) v k
@@ -75,7 +82,8 @@ module _ (v : View) (p k : ℕ) (d : Scanned) where
   unfolding on_page
   page_damaged e = rw e
 
-  pub page_first : damaged_at v k ≡ false → (n : ℕ) → n ≡ v.slot_count → (r : Option ℕ) → first_record n v k ≡ r → or_record r v p d ≡ on_page v p k d
+  pub page_first : damaged_at v k ≡ false → (n : ℕ) → n ≡ v.slot_count → (r : Option ℕ) → first_record n v k ≡ r
+      → or_record r v p d ≡ on_page v p k d
   unfolding on_page
   page_first e n count r q = rw e (ap (λ (x : Option ℕ). or_record x v p d) (sym q ∙ ap (λ (m : ℕ). first_record m v k) count))
 
@@ -87,12 +95,14 @@ or_found false j v p d = refl
 
 module _ (s : SegView) (n p k : ℕ) where
   pub from_turn : p < n → on_page (s.page p) p k (scan_from (n - (p + 1)) s (p + 1) 0) ≡ scan_from (n - p) s p k
-  unfolding on_page first_record record_or
+  unfolding on_page record_or
   from_turn h =
       let m : n - p ≡ suc (n - (p + 1)) = omega arith in
       let v = s.page p in
       let j = next_record (v.slot_count - k) v k in
-      rw m (ap (cond (damaged_at v k) (without DAMAGED over_page 0)) (or_found (ltb j v.slot_count) j v p (scan_from (n - (p + 1)) s (p + 1) 0)))
+      let d = scan_from (n - (p + 1)) s (p + 1) 0 in
+      rw m (ap (cond (damaged_at v k) (without DAMAGED over_page 0))
+      (ap (λ (r : Option ℕ). or_record r v p d) (first_next v v.slot_count k) ∙ or_found (ltb j v.slot_count) j v p d))
 
   pub from_done : n ≤ p → without DONE p k ≡ scan_from (n - p) s p k
   from_done h = let m : n - p ≡ 0 = omega arith in rw m

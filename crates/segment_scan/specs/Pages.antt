@@ -1,10 +1,12 @@
 -- The scan's step, page by page as the code makes it.
-use Rattle.std.specs.Prelude.{ℕ, ◌+◌, ◌-◌, ◌≤◌, ◌<◌, ◌≡◌, Bool, true, cond, not, ◌&&◌, ◌||◌, List, eqb, ltb, leb, Option, Some, None, Result, Ok, Err}
+use Rattle.std.specs.Prelude.{ℕ, ◌+◌, ◌-◌, ◌≤◌, ◌<◌, ◌≡◌, Bool, true, cond, not, ◌&&◌, ◌||◌, List, eqb, leb}
+use Rattle.std.specs.Prelude.{Option, Some, None, Result, Ok, Err}
+use Rattle.std.specs.List.{find, range_with_len}
 use Rattle.store.specs.Slots.{off, len, is_record, is_target}
 use Rattle.store.specs.Page.{View, lies_well}
 use Rattle.store.specs.Refusals.{DAMAGED}
 use Rattle.store.specs.Segment.{seg_view}
-use Rattle.store.specs.Scan.{Scanned, without, over_page, record_at, next_record, damaged_at}
+use Rattle.store.specs.Scan.{Scanned, without, over_page, record_at, damaged_at}
 use Rattle.store.specs.Laws.Lent.{Within}
 use Rattle.store.specs.Answers.{scanned_of}
 use Rattle.store.specs.declared.Slot.{Slot}
@@ -23,8 +25,8 @@ unfoldable pub record_or : View → ℕ → ℕ → Scanned
 record_or v p k = cond (lies_well v k) (record_at v p k) (without DAMAGED over_page 0)
 
 -- the first slot from k on, of n, that holds a record
-unfoldable pub first_record : ℕ → View → ℕ → Option ℕ
-first_record n v k = let j = next_record (n - k) v k in cond (ltb j n) (Some j) None
+abbrev pub first_record : ℕ → View → ℕ → Option ℕ
+first_record n v k = find (λ j. is_record (v.at j)) (range_with_len k (n - k))
 
 -- the record of the slot found, or else `later`
 abbrev pub or_record : Option ℕ → View → ℕ → Scanned → Scanned

@@ -91,12 +91,7 @@ fn next_record(segment: &[u8], p: usize, k: usize, n: usize) -> Option<usize>
     requires n_bound { n ≤ 2046 }
     ensures { result ≡ first_record n ((seg_view segment.now).page p) k }
 {
-    for j in k..n {
-        if segment_pages::slot_on(segment, p, j).is_record() {
-            return Some(j);
-        }
-    }
-    None
+    (k..n).find(|&j| segment_pages::slot_on(segment, p, j).is_record())
 }
 
 // Whether page p, of n slots, is damaged to a scan at slot k: "checks each page on reaching it", at slot 0; inside it the count alone.

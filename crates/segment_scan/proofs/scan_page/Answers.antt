@@ -34,7 +34,9 @@ pub damaged_at-requires : goal.damaged_at-requires
 damaged_at-requires c = record { within = c.requires.within; n_value = counted (goal.at.damaged_at-requires c).After-get_slot_count-n }
 
 pub returns-then-damaged_at : goal.returns-then-damaged_at
-returns-then-damaged_at c = λ d. page_damaged (page (goal.at.returns-then-damaged_at c).After-get_slot_count-n) c.args.p c.args.k d (sym c.damaged_at.ensures ∙ c.if-damaged_at.true)
+returns-then-damaged_at c = λ d.
+    page_damaged (page (goal.at.returns-then-damaged_at c).After-get_slot_count-n) c.args.p c.args.k d
+    (sym c.damaged_at.ensures ∙ c.if-damaged_at.true)
 
 pub next_record-requires : goal.next_record-requires
 next_record-requires c =
@@ -42,9 +44,10 @@ next_record-requires c =
     record { counted = k; n_bound = omega (arith, counted (goal.at.next_record-requires c).After-get_slot_count-n, k.few) }
 
 -- what it answers, by the slot found
-answered : (c : After-next_record) → (r : Option ℕ) → c.next_record.result ≡ r → (d : Scanned) → or_record r (page (goal.at.After-next_record c).After-get_slot_count-n) c.args.p d ≡ on_page (page (goal.at.After-next_record c).After-get_slot_count-n) c.args.p c.args.k d
+answered : (c : After-next_record) → (r : Option ℕ) → c.next_record.result ≡ r → (d : Scanned)
+    → let v = (seg_view c.args.segment.now).page c.args.p in or_record r v c.args.p d ≡ on_page v c.args.p c.args.k d
 answered c r e d =
-    page_first (page (goal.at.After-next_record c).After-get_slot_count-n) c.args.p c.args.k d (undamaged (goal.at.After-next_record c).Else-damaged_at) _
+    page_first _ c.args.p c.args.k d (undamaged (goal.at.After-next_record c).Else-damaged_at) _
     (counted (goal.at.After-next_record c).After-get_slot_count-n) r (sym c.next_record.ensures ∙ e)
 
 pub returns-in_default : goal.returns-in_default
@@ -61,7 +64,8 @@ record_or_damage-requires c =
 pub returns-in_err-record_or_damage : goal.returns-in_err-record_or_damage
 returns-in_err-record_or_damage c = λ d.
     let e = err_from_is_err_and c.from_residual.result c.from_residual.ensures.1 in
-    rw (e.1, e.2) (c.in_err-record_or_damage.ensures ∙ answered (goal.at.returns-in_err-record_or_damage c).After-next_record (Some c.in-Some.j) c.in-Some.is d)
+    rw (e.1, e.2)
+    (c.in_err-record_or_damage.ensures ∙ answered (goal.at.returns-in_err-record_or_damage c).After-next_record (Some c.in-Some.j) c.in-Some.is d)
 
 pub returns : goal.returns
 returns c = λ d. c.in_ok-record_or_damage.ensures ∙ answered (goal.at.returns c).After-next_record (Some c.in-Some.j) c.in-Some.is d
