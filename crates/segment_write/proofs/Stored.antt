@@ -16,7 +16,9 @@ use Rattle.store.specs.Inventory.{Room, update, found_in}
 use Rattle.store.specs.Segment.{seg_view, page_of, size_ok, inv_ok, OnPage, on, Result, result, refuse, step, Found, nowhere, found, find, points_back}
 use Rattle.store.specs.Segment.{forwarded, forwarded_again, at_home, at_target, root_of, by_root, store_by, store_plan, write_step, resize_step}
 use Rattle.store.specs.Answers.{outcome}
-use Rattle.store.specs.Laws.Lent.{Within, TakenOn}
+use Rattle.store.specs.Laws.Lent.{Within, SoundOn, TakenOn}
+use Rattle.store.proofs.Laws.Calls.{back_ok}
+use Rattle.segment_pages.proofs.Root.{back_taken}
 use Rattle.store.proofs.Laws.Numbers.{cut_same, cut_drop}
 use Rattle.std.specs.Prelude.{Ok, Err}
 use Rattle.std.specs.Prelude.{Result as ResultOf}
@@ -25,7 +27,7 @@ use Rattle.store.specs.declared.Slot.TheVariants.{Ordinary, Free, Redirect, Targ
 use Rattle.store.specs.declared.Refusal.{Refusal}
 use Rattle.store.specs.declared.Refusal.TheVariants as refusal
 use Rattle.page_relocate.specs.Words.{was_moved, refilled}
-use Rattle.segment_pages.proofs.Seen.{slot_bytes_lem}
+use Rattle.segment_pages.proofs.Seen.{slot_bytes_lem, target_long}
 use Rattle.segment_steps.specs.Words.{Sizes}
 use Rattle.segment_moves.specs.Words.{relocated_on}
 use Rattle.segment_steps.proofs.After.{sizes_room, Took, took_length, left_own, left_room, left_update}
@@ -74,10 +76,18 @@ saved t q at n h room old e =
     let l : length (cut t at n) ≡ n = length-take-le n (drop at t) (rw length-drop (omega arith)) in
     ap (take n) e ∙ cut_same q 0 (cut t at n) n l (omega arith)
 
--- those of a target lie behind its root's id
-pub target_cut : (s : List ℕ) (p k : ℕ) (x : Slot) → ((seg_view s).page p).at k ≡ x → off x + len x ≤ 16384
-    → cut s (p * 16384 + off x + 8) (len x - 8) ≡ drop 8 (((seg_view s).page p).bytes k)
-target_cut s p k x e high = sym (cut_drop s (p * 16384 + off x) (len x) 8) ∙ ap (drop 8) (slot_bytes_lem s p k x e high)
+-- a record's bytes behind its first m, as the slot's entry says where they lie
+pub record_cut : (s : List ℕ) (p k m : ℕ) (x : Slot) → ((seg_view s).page p).at k ≡ x → off x + len x ≤ 16384
+    → cut s (p * 16384 + off x + m) (len x - m) ≡ drop m (((seg_view s).page p).bytes k)
+record_cut s p k m x e high = sym (cut_drop s (p * 16384 + off x) (len x) m) ∙ ap (drop m) (slot_bytes_lem s p k x e high)
+
+-- the page of a target that points back, and the 8 bytes of its root's id
+module _ (s : List ℕ) (i t : ℕ) (back : points_back (seg_view s) i t ≡ true) where
+  pub target_sound : SoundOn s (page_no t)
+  target_sound = let h = back_taken s i t back in record { whole = h.whole; sound = h.sound }
+
+  pub target_skip : 8 ≤ len (((seg_view s).page (page_no t)).at (slot_no t))
+  target_skip = target_long s (page_no t) target_sound.whole target_sound.sound (slot_no t) _ refl (back_ok s i t back).1
 
 module _ (s v : List ℕ) (i size : ℕ) (new : List ℕ → List ℕ) where
   -- ---- 1, 3, 2, 4 (root), then by the slot
@@ -135,13 +145,23 @@ module _ (s v : List ℕ) (i size : ℕ) (new : List ℕ → List ℕ) where
         rw m.by (λ z. record { answer = 0; id = i; seg = m.took.is z; inv = h z })
 
     -- t is s: the page step refused, and left every byte
-    pub by_forward : was_moved (relocate home (slot_no i) size) ≡ false → (b : List ℕ) → b ≡ new (home.bytes (slot_no i))
-        → (t : List ℕ) → t ≡ s → (x : Result)
-        → x ≡ result t (forwarded (seg_view t) v i size (λ o. b) [] (find found_in (seg_view t) v (size + 8) (λ p. eqb p (page_no i))))
+    pub by_forward : was_moved (relocate home (slot_no i) size) ≡ false → (t : List ℕ) → t ≡ s → (x : Result)
+        → x ≡ result t (forwarded (seg_view t) v i size new (((seg_view t).page (page_no i)).bytes (slot_no i))
+        (find found_in (seg_view t) v (size + 8) (λ p. eqb p (page_no i))))
         → x ≡ result s (store_by found_in (seg_view s) v i size new (Ordinary o l))
-    by_forward f b eb t et x ex =
-        ex ∙ ap (λ (m : List ℕ). result m (forwarded (seg_view m) v i size (λ o. b) [] (find found_in (seg_view m) v (size + 8) (λ p. eqb p (page_no i))))) et
-        ∙ ap (result s) (same (find found_in (seg_view s) v (size + 8) (λ p. eqb p (page_no i))) ∙ rw (not_moved (relocate home (slot_no i) size) f))
+    by_forward f t et x ex =
+        ex ∙ ap (λ (m : List ℕ). result m (forwarded (seg_view m) v i size new (((seg_view m).page (page_no i)).bytes (slot_no i))
+        (find found_in (seg_view m) v (size + 8) (λ p. eqb p (page_no i))))) et
+        ∙ rw (not_moved (relocate home (slot_no i) size) f) refl
+
+  -- the bytes b that were handed over are what becomes of the old ones
+  module _ (b : List ℕ) (eb : b ≡ new (home.bytes (slot_no i))) where
+    abbrev first_place : Found
+    first_place = find found_in (seg_view s) v (size + 8) (λ p. eqb p (page_no i))
+
+    pub forward_same : result s (forwarded (seg_view s) v i size (λ o. b) [] first_place)
+        ≡ result s (forwarded (seg_view s) v i size new (home.bytes (slot_no i)) first_place)
+    forward_same = ap (result s) (same first_place)
       where
         same : (m : Found) → forwarded (seg_view s) v i size (λ o. b) [] m ≡ forwarded (seg_view s) v i size new (home.bytes (slot_no i)) m
         same (nowhere a) = refl
