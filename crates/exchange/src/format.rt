@@ -4,8 +4,6 @@ ghost use Rattle.std.specs.Prelude.{◌≡◌, ◌≤◌, length, drop};
 ghost use Rattle.exchange.specs.Exchange.{parse};
 ghost use Rattle.exchange.specs.Words.{follows, Lies, fault_of, format_no};
 
-pub const MARK: [u8; 2] = [0x52, 0x54];
-
 // What stands before a record's data: mark, mirror, reading, row and length. What the file has beside the store's record: mark and length.
 pub const BEFORE: usize = 12;
 
@@ -43,7 +41,10 @@ pub fn record_at(file: &[u8], at: usize) -> Result<Option<Record>, Fault>
     if left < BEFORE {
         return Err(Fault::Short);
     }
-    if !file[at..].starts_with(&MARK) {
+    if file[at] != 0x52 {
+        return Err(Fault::Mark);
+    }
+    if file[at + 1] != 0x54 {
         return Err(Fault::Mark);
     }
     let length = layout::get_u16(file, at + 10);

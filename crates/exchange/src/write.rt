@@ -8,7 +8,7 @@ ghost use Rattle.store.specs.Segment.{seg_view, size_ok};
 ghost use Rattle.exchange.specs.Exchange.{file_record};
 ghost use Rattle.exchange.specs.Words.{Reads, OnPage, part_length, part_file, page_file, segment_file};
 
-use crate::format::{AROUND, BEFORE, MARK};
+use crate::format::{AROUND, BEFORE};
 use crate::parts::{HEAD, Part, part_on};
 use segment_pages::page_of;
 use store::{PAGE_SIZE, Page};
@@ -19,7 +19,8 @@ fn write_reading(file: &mut [u8], at: usize, page: &Page, offset: usize, n: usiz
     requires n_in_bounds { at + (n + 4) ≤ length file.old }
     ensures { file.new ≡ put file.old at (file_record (cut page.now offset n)) }
 {
-    layout_runs::copy_in(file, at, &MARK);
+    file[at] = 0x52;
+    file[at + 1] = 0x54;
     layout::put_u64(file, at + 2, layout::get_u64(page, offset));
     layout::put_u16(file, at + 10, n - HEAD);
     layout_runs::copy_in(file, at + BEFORE, &page[offset + HEAD..offset + n]);

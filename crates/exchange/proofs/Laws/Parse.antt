@@ -1,12 +1,11 @@
 -- A file is read: how many turns are allowed plays no part, and what stands first says how it goes on. For all files.
-use Rattle.std.specs.Prelude.{ℕ, zero, suc, ◌+◌, ◌-◌, ◌^◌, ◌≤◌, ◌<◌, ◌≡◌, refl, Bool, true, false, cond, not, ◌&&◌, List, [], ◌∷◌, ◌++◌, ◌≢◌, length, take, drop}
-use Rattle.std.specs.Prelude.{eqb, ltb}
-use Rattle.std.proofs.Common.{sym, ap, ⊎_elim, ◌∙◌, arith, length-drop, drop-drop, eq-eqb, ne_eqb, lt-ltb, le-ltb}
-use Rattle.std.proofs.Math.Bool.{and-true}
-use lib.Pointwise.{pointwise}
-use Rattle.store.proofs.Laws.Cases.{eq_or_ne}
+use Rattle.std.specs.Prelude.{ℕ, zero, suc, ◌+◌, ◌-◌, ◌^◌, ◌≤◌, ◌<◌, ◌≡◌, refl, Bool, true, false, cond, not, ◌&&◌, List, [], ◌++◌, ◌≢◌, length, take, drop}
+use Rattle.std.specs.Prelude.{get_or, eqb, ltb}
+use Rattle.std.proofs.Common.{sym, ap, ◌∙◌, arith, length-drop, get_or-drop, drop-drop, eq-eqb, ne_eqb, lt-ltb, le-ltb}
+use Rattle.std.proofs.Math.Bool.{and-false}
 use Rattle.store.specs.Numbers.{cut, Bytes, be, to_be}
 use Rattle.store.specs.Refusals.{LONG}
+use Rattle.store.proofs.Laws.SoundPage.{and_in}
 use Rattle.store.proofs.Laws.Writes.{length_cut}
 use Rattle.store.proofs.Laws.Numbers.{length_to_be, be_to_be, bytes_to_be, bytes_take, bytes_drop, be_same}
 use Rattle.exchange.specs.Exchange.{MARK, SHORT, Parsed, wrong, holds, and_record, marked, data_length, first_record, too_long, cut_off}
@@ -34,16 +33,6 @@ parse_more m f h = same_turns m (length f) f h (omega arith)
 pub parse_turn : (f : List ℕ) → parse f ≡ turn f (parse (behind f))
 parse_turn f =
     sym (parse_more (suc (length f)) f (omega arith)) ∙ ap (turn f) (parse_more (length f) (behind f) (shorter (length f) f (omega arith)))
-
--- ---- the code's test of the mark
-
-other_way : (a b : ℕ) → eqb a b ≡ eqb b a
-other_way a b = ⊎_elim (λ e. rw e refl) (λ n. ne_eqb a b n ∙ sym (ne_eqb b a (λ e. n (sym e)))) (eq_or_ne a b)
-
-pub mark_test : (f : List ℕ) → 2 ≤ length f → marked f ≡ pointwise eqb (82 ∷ 84 ∷ []) (take 2 f)
-mark_test [] l = absurd (omega arith)
-mark_test (a ∷ []) l = absurd (omega arith)
-mark_test (a ∷ b ∷ f) l = rw (other_way a 82, other_way b 84) (ap (λ x. eqb 82 a && x) (sym (and-true (eqb 84 b))))
 
 -- ---- what stands first
 
@@ -84,6 +73,23 @@ number_back p b o r h e small =
 -- ---- the same at a place of a file
 
 module _ (f : List ℕ) (at : ℕ) where
+  byte_at : (i : ℕ) → get_or (drop at f) i 0 ≡ get_or f (at + i) 0
+  byte_at i = get_or-drop at f i 0
+
+  first_at : get_or (drop at f) 0 0 ≡ get_or f at 0
+  first_at = let e : at + 0 ≡ at = omega arith in byte_at 0 ∙ ap (λ (i : ℕ). get_or f i 0) e
+
+  pub marked_at : get_or f at 0 ≡ 82 → get_or f (at + 1) 0 ≡ 84 → marked (drop at f) ≡ true
+  marked_at a b = and_in (eqb (get_or (drop at f) 0 0) 82) (eqb (get_or (drop at f) 1 0) 84) (eq-eqb _ 82 (first_at ∙ a)) (eq-eqb _ 84 (byte_at 1 ∙ b))
+
+  pub other_first : get_or f at 0 ≢ 82 → marked (drop at f) ≡ false
+  other_first n = ap (λ (b : Bool). b && eqb (get_or (drop at f) 1 0) 84) (ne_eqb (get_or (drop at f) 0 0) 82 (λ e. n (sym first_at ∙ e)))
+
+  pub other_second : get_or f (at + 1) 0 ≢ 84 → marked (drop at f) ≡ false
+  other_second n =
+      ap (λ (b : Bool). eqb (get_or (drop at f) 0 0) 82 && b) (ne_eqb (get_or (drop at f) 1 0) 84 (λ e. n (sym (byte_at 1) ∙ e)))
+      ∙ and-false (eqb (get_or (drop at f) 0 0) 82)
+
   cut_at : (i n : ℕ) → cut (drop at f) i n ≡ cut f (at + i) n
   cut_at i n = ap (take n) (drop-drop i at f)
 
