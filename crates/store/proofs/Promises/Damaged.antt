@@ -17,7 +17,7 @@ use Rattle.store.specs.SoundSegment.{slot_on, bytes_on}
 use Rattle.store.proofs.Laws.Cases.{never}
 use Rattle.store.proofs.Laws.Roots.{by_root_lem}
 use Rattle.store.proofs.Laws.SoundSegment.{open_sound, seen_pages, sized}
-use Rattle.std.specs.Prelude.{Option, Some, None}
+use Rattle.std.specs.Prelude.{Some}
 use Rattle.store.specs.declared.Slot.{Slot}
 use Rattle.store.specs.declared.Slot.TheVariants.{Redirect}
 
