@@ -12,4 +12,4 @@ pub use segment_scan::{held, scan_step};
 pub use segment_write::resize::resize_record;
 pub use segment_write::write::write_record;
 // What the calls answer. The crate of a user lists `store` beside this one, since `store` declares them.
-pub use store::{Answer, Inserted, Reading, Repair, Reported, Step, Tally};
+pub use store::{ListRefusal, Part, Record, Refusal, RepairRefusal, ReportRefusal, Step, Tally};
