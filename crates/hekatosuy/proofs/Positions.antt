@@ -11,9 +11,11 @@ use Rattle.store.specs.Page.{View, lies_well}
 use Rattle.store.specs.Refusals.{DONE, SIZE, DAMAGED}
 use Rattle.store.specs.Segment.{seg_view, size_ok}
 use Rattle.store.specs.Scan.{without, record_at, over_page, next_record, damaged_at, scan_from, scan_plan, scan_step}
-use Rattle.store.specs.Answers.{scanned_of}
+use Rattle.store.specs.Answers.{step_of, scanned_of}
+use Rattle.std.proofs.Common.{Option, Some, None, Result, Ok, Err}
+use Rattle.store.specs.declared.Record.{Record}
+use Rattle.store.specs.declared.Refusal.{Refusal}
 use Rattle.store.specs.declared.Step.{Step}
-use Rattle.store.specs.declared.Step.TheVariants.{Record, End, Size, Damaged}
 use Rattle.store.proofs.Laws.Cases.{by_test}
 use Rattle.store.proofs.Laws.SoundSegment.{sized}
 use Rattle.segment_scan.proofs.Positions.{few_at}
@@ -48,8 +50,14 @@ module _ (s : List ℕ) where
       (λ z. over SIZE))
 
 -- a step's position does not depend on the segment's bytes
-pub same_position : (t : Step) (xs ys : List ℕ) → Positioned (scanned_of t xs) → Positioned (scanned_of t ys)
-same_position (Record i o l p k) xs ys h = record { page = h.page; slot = h.slot }
-same_position (End p k) xs ys h = record { page = h.page; slot = h.slot }
-same_position Size xs ys h = record { page = h.page; slot = h.slot }
-same_position Damaged xs ys h = record { page = h.page; slot = h.slot }
+same_step : (x : Option Record) (p k : ℕ) (xs ys : List ℕ) → Positioned (step_of x p k xs) → Positioned (step_of x p k ys)
+same_step (Some x) p k xs ys h = record { page = h.page; slot = h.slot }
+same_step None p k xs ys h = record { page = h.page; slot = h.slot }
+
+pub same_position : (t : Result Step Refusal) (xs ys : List ℕ) → Positioned (scanned_of t xs) → Positioned (scanned_of t ys)
+same_position (Ok t) xs ys h = same_step t.found t.page t.slot xs ys h
+same_position (Err r) xs ys h = record { page = h.page; slot = h.slot }
+
+pub step_fits : (x : Option Record) (p k : ℕ) (xs : List ℕ) → Positioned (step_of x p k xs) → (p < 2 ^ 48) × (k < 65536)
+step_fits (Some x) p k xs h = (h.page, h.slot)
+step_fits None p k xs h = (h.page, h.slot)

@@ -68,7 +68,10 @@ pub fn hk_allocate(segment: &mut [u8], inventory: &mut [u8], size: u64, id: &mut
     ensures { record { answer = result; id = id.new; seg = segment.new; inv = inventory.new }
         ≡ with_id id.old (allocate_step segment.old inventory.old size) }
 {
-    hand_id(segment_insert::allocate(segment, inventory, size as usize), id)
+    hand_id(
+        segment_insert::allocate(segment, inventory, size as usize),
+        id,
+    )
 }
 
 pub fn hk_write_record(segment: &mut [u8], inventory: &mut [u8], id: u64, bytes: &[u8]) -> u64
@@ -139,26 +142,22 @@ fn hand_step(step: Result<Step, Refusal>) -> Stepped
         length: 0,
     };
     match step {
-        Ok(Step {
-            found: Some(Record { id, part }),
-            page,
-            slot,
-        }) => Stepped {
-            position: position_of(page, slot),
-            found: 1,
-            id: id as u64,
-            offset: part.offset as u64,
-            length: part.length as u64,
-            ..none
-        },
-        Ok(Step {
-            found: None,
-            page,
-            slot,
-        }) => Stepped {
-            position: position_of(page, slot),
-            ..none
-        },
+        Ok(Step { found, page, slot }) => {
+            let over = Stepped {
+                position: position_of(page, slot),
+                ..none
+            };
+            match found {
+                Some(Record { id, part }) => Stepped {
+                    found: 1,
+                    id: id as u64,
+                    offset: part.offset as u64,
+                    length: part.length as u64,
+                    ..over
+                },
+                None => over,
+            }
+        }
         Err(refusal) => Stepped {
             answer: u64::from(refusal),
             position: position_of(OVER_PAGE, 0),

@@ -1,5 +1,4 @@
 use Rattle.hekatosuy.proofs.hk_export.Goals as goal
 
 pub returns : goal.returns
-returns c =
-    rw (c.exported_no.ensures, c.exported_length.ensures, c.exported_passed.ensures) c.export-r.ensures
+returns c = rw (c.answer_no.ensures, c.exported-told.ensures.0, c.exported-told.ensures.1) c.export-r.ensures

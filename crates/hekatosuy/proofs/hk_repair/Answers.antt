@@ -1,5 +1,4 @@
 use Rattle.hekatosuy.proofs.hk_repair.Goals as goal
 
 pub returns : goal.returns
-returns c =
-    rw (c.repair_no.ensures, c.repair_count.ensures) c.repair-r.ensures
+returns c = rw (c.answer_no.ensures, c.count.ensures) c.repair-r.ensures

@@ -3,5 +3,4 @@ use Rattle.hekatosuy.specs.Handed.{without_id}
 use Rattle.hekatosuy.proofs.hk_write_record.Goals as goal
 
 pub returns : goal.returns
-returns c =
-    rw c.answer_no.ensures (ap without_id c.write_record-a.ensures)
+returns c = rw c.answer_no.ensures (ap without_id c.write_record-r.ensures)
