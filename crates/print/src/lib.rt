@@ -27,7 +27,7 @@ pub fn named(rt: &impl Print, name: &[u8], n: u64) -> io::Result<()> {
     number(rt, n)
 }
 
-// An id as its page and slot.
+// An id as its page and slot. It is a number, as it is to the calls: no type of its own that could have a Display.
 pub fn id(rt: &impl Print, id: u64) -> io::Result<()> {
     let page = id / IDS_A_PAGE as u64;
     let slot = id % IDS_A_PAGE as u64;
@@ -46,7 +46,7 @@ pub fn least(a: usize, b: usize) -> usize
 }
 
 // Reads until `buf` is full or the input ends, and answers how many bytes it put at the start of `buf`: those that came next, and fewer
-// than `buf` holds only at the input's end.
+// than `buf` holds only at the input's end. Of std, read_exact takes an early end for an error, and read_to_end asks for a heap.
 pub fn read_full<R: Read>(reader: &mut R, buf: &mut [u8]) -> io::Result<usize>
     ensures within { ReadsAtMost result buf.new }
     ensures bytes { IfOk result (λ n. Consumes (R.remaining reader.old) (R.remaining reader.new) (take n buf.new)) }

@@ -6,12 +6,11 @@ use mathlib.Core.List.{List}
 use Rattle.std.proofs.Common.{Option, Some, None}
 use mathlib.Core.Logic.{⊎_elim}
 use native.Mathlib.Omega.{arith}
-use native.Mathlib.Decide.{dec_lt}
 use lib.ListN.{length}
-use lib.Dec.{eqb, ltb, leb}
+use lib.Dec.{eqb, ltb}
 use Rattle.std.proofs.Common.{ltb-true}
 use Rattle.std.specs.List.{find, range_with_len}
-use borrow.Author.Tests.{lt-ltb, le-ltb, lt-leb, le-leb, leb-true, not-false}
+use borrow.Author.Tests.{lt-ltb, le-ltb, leb-true, not-false}
 use Rattle.store.specs.Slots.{is_record}
 use Rattle.store.specs.Page.{View, fresh, count_fits, sound_tests, passes, sound}
 use Rattle.store.specs.Refusals.{DONE, SIZE, DAMAGED}
@@ -55,13 +54,6 @@ first_is v n k j e =
     i = next_record (n - k) v k
 
 -- ---- the test of a page
-
-pub many_slots : (n : ℕ) → ltb 2046 n ≡ not (leb n 2046)
-many_slots n = go (dec_lt 2046 n)
-  where
-    go : Dec (2046 < n) → ltb 2046 n ≡ not (leb n 2046)
-    go (yes l) = rw (lt-ltb 2046 n l, lt-leb n 2046 l)
-    go (no l) = let h : n ≤ 2046 = omega arith in rw (le-ltb 2046 n h, le-leb n 2046 h)
 
 -- a page that passes it, at any slot, has few slots
 pub few_at : (v : View) (k : ℕ) → damaged_at v k ≡ false → v.slot_count ≤ 2046

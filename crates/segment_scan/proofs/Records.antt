@@ -4,7 +4,6 @@ use mathlib.Core.Path.{◌≡◌, refl, sym, ap, subst, ◌∙◌}
 use mathlib.Core.Bool.{true, false, not, ◌||◌}
 use mathlib.Core.List.{List}
 use Rattle.std.proofs.Common.{Option, Some}
-use native.Mathlib.Omega.{arith}
 use lib.ListN.{take, drop}
 use lib.Dec.{leb}
 use borrow.Author.Tests.{leb-true}
@@ -17,7 +16,7 @@ use Rattle.store.specs.Segment.{seg_view, page_of, part_on}
 use Rattle.store.specs.Scan.{without, over_page, record_at}
 use Rattle.store.specs.Answers.{step_of}
 use Rattle.store.proofs.Laws.SoundPage.{and_both, in_page}
-use Rattle.store.proofs.Laws.Cases.{by_test}
+use Rattle.store.proofs.Laws.Cases.{by_test, never}
 use Rattle.store.proofs.Laws.Parts.{ordinary_part, target_part}
 use Rattle.store.specs.declared.Slot.{Slot}
 use Rattle.store.specs.declared.Slot.TheVariants.{Ordinary, Free, Redirect, Target}
@@ -45,7 +44,7 @@ seen_used : (s : List ℕ) (p k : ℕ) → is_record (((seg_view s).page p).at k
 unfolding seg_view
 seen_used s p k =
     by_test (λ (u : View). is_record (u.at k) ≡ true → view (page_of s p) ≡ u) (fresh (view (page_of s p))) initialised (view (page_of s p))
-    (λ f e. let z : ◌≡◌ {A = ℕ} 0 1 = cc in absurd (omega arith)) (λ f e. refl)
+    (λ f e. never e refl) (λ f e. refl)
 
 pub lies_seen : (s : List ℕ) (p k d : ℕ) (x : Slot) → is_record (((seg_view s).page p).at k) ≡ true → d ≡ (view (page_of s p)).data_start
     → x ≡ ((seg_view s).page p).at k
@@ -71,15 +70,15 @@ module _ (s : List ℕ) (p k : ℕ) (well : lies_well ((seg_view s).page p) k �
   plain (Ordinary o l) e r t =
       rw e (ap (λ (bs : List ℕ). record { answer = 0; some = true; id = id_of p k; bytes = bs; part = part_on p (Ordinary o l); page = p; slot = k + 1 })
       (ordinary_part s p k o l e (inside (Ordinary o l) e)))
-  plain Free e r t = let z : ◌≡◌ {A = ℕ} 0 1 = cc in absurd (omega arith)
-  plain (Redirect i) e r t = let z : ◌≡◌ {A = ℕ} 0 1 = cc in absurd (omega arith)
-  plain (Target o l) e r t = let z : ◌≡◌ {A = ℕ} 0 1 = cc in absurd (omega arith)
+  plain Free e r t = never r refl
+  plain (Redirect i) e r t = never r refl
+  plain (Target o l) e r t = never refl t
 
   target : (x : Slot) → ((seg_view s).page p).at k ≡ x → is_target x ≡ true
       → step_of (found (be (cut s (p * 16384 + off x) 8)) (p * 16384 + (off x + 8)) (len x - 8)) p (k + 1) s ≡ record_at ((seg_view s).page p) p k
-  target (Ordinary o l) e t = let z : ◌≡◌ {A = ℕ} 0 1 = cc in absurd (omega arith)
-  target Free e t = let z : ◌≡◌ {A = ℕ} 0 1 = cc in absurd (omega arith)
-  target (Redirect i) e t = let z : ◌≡◌ {A = ℕ} 0 1 = cc in absurd (omega arith)
+  target (Ordinary o l) e t = never t refl
+  target Free e t = never t refl
+  target (Redirect i) e t = never t refl
   target (Target o l) e t =
       let i : be (cut s (p * 16384 + o) 8) ≡ be (take 8 (((seg_view s).page p).bytes k)) =
       ap be (sym (target_head s p k o l e (long_enough (Target o l) e refl) (inside (Target o l) e))) in

@@ -1,5 +1,6 @@
 // One step of a scan: "The scan goes by page and slot, checks each page on reaching it, skips free slots and redirects, and gives a
 // target its root's id; past the end each step answers 0 without a record."
+// The functions that take a segment, a page and a slot are no methods of held::Scan: they look ahead of where a scan stands.
 #![tactic(auto)]
 
 pub mod held;
@@ -40,6 +41,7 @@ fn lies_well(d: usize, s: Slot) -> bool
 }
 
 // The record of slot k, which lies in its page: with its root's id if it is a target.
+#[tactic(auto, using(crate::proofs::Records::record_high, crate::proofs::Records::record_long))]
 fn record_at(segment: &[u8], p: usize, k: usize, s: Slot) -> Record
     requires { LiesOn segment.now p k s }
     ensures { step_of (Some result) p (k + 1) segment.now ≡ record_at ((seg_view segment.now).page p) p k }
