@@ -69,7 +69,8 @@ pub fn judge_records(page: &Page, n: usize, deeds: &mut Deeds)
     }
 }
 
-// Whether the record of slot k is kept.
+// Whether the record of slot k is kept. Never inlined: who asks it for few slots should not make room for its row for all.
+#[inline(never)]
 pub fn is_kept(page: &Page, k: usize) -> bool
     requires { CountedPage page.now (view page.now).slot_count × (k < (view page.now).slot_count) × (is_record ((view page.now).at k) ≡ true) }
     ensures { result ≡ keeps (view page.now) k }

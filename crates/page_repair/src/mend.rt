@@ -100,7 +100,8 @@ fn low_with(low: usize, s: Slot) -> usize
     }
 }
 
-// The slots as they become, gathered.
+// The slots as they become, gathered. A page and its count, n, stay two parameters: `mend` is lent its page to be written, and no fact can be
+// kept in a type beside that.
 pub fn gather(page: &Page, n: usize, deeds: &Deeds) -> Numbers
     requires { CountedPage page.now n × CodableBy (deeds_of deeds.now) (view page.now) }
     ensures { Gathered (deeds_of deeds.now) (view page.now) n result × (result.total ≤ n * 2 ^ 32) × (result.changes ≤ n) }

@@ -55,40 +55,40 @@ impl<'a> Judge<'a> {
     }
 
     // How many pages there are.
-    pub fn pages(self) -> usize
-        ensures { result ≡ length self.entry.segment.now / 16384 }
+    pub fn pages(&self) -> usize
+        ensures { result ≡ length self.now.segment.now / 16384 }
     {
         self.segment.len() / PAGE_SIZE
     }
 
     // Page p, to be read.
-    pub fn page(self, p: usize) -> &'a Page
-        requires { Within self.segment.now p }
-        ensures { result.now ≡ page_of self.entry.segment.now p }
+    pub fn page(&self, p: usize) -> &'a Page
+        requires { Within self.now.segment.now p }
+        ensures { result.now ≡ page_of self.now.segment.now p }
     {
         page_of(self.segment, p)
     }
 
     // Whether page p is known to be sound.
-    pub fn is_sound(self, p: usize) -> bool
-        requires { Within self.segment.now p }
-        ensures { result ≡ true → soundPage (view (page_of self.entry.segment.now p)) ≡ true }
+    pub fn is_sound(&self, p: usize) -> bool
+        requires { Within self.now.segment.now p }
+        ensures { result ≡ true → soundPage (view (page_of self.now.segment.now p)) ≡ true }
     {
         let sound = self.sound;
         is_marked(sound, p)
     }
 
     // Whether slot k of page p, which holds a target, is kept. On a sound page every record is.
-    fn target_kept(self, p: usize, k: usize) -> bool
-        requires { UsedOn self.segment.now p k × (is_target ((view (page_of self.segment.now p)).at k) ≡ true) }
-        ensures { result ≡ keeps (view (page_of self.entry.segment.now p)) k }
+    fn target_kept(&self, p: usize, k: usize) -> bool
+        requires { UsedOn self.now.segment.now p k × (is_target ((view (page_of self.now.segment.now p)).at k) ≡ true) }
+        ensures { result ≡ keeps (view (page_of self.now.segment.now p)) k }
     {
         self.is_sound(p) || page_repair::keep::is_kept(self.page(p), k)
     }
 
     // Whether the redirect of id i, which names t, has "a kept target pointing back from another page".
-    fn holds(self, i: usize, t: usize) -> bool
-        ensures { result ≡ holdsBy (standing self.entry.segment.now) i t }
+    fn holds(&self, i: usize, t: usize) -> bool
+        ensures { result ≡ holdsBy (standing self.now.segment.now) i t }
     {
         let p = t / IDS_A_PAGE;
         if self.pages() <= p {
@@ -114,9 +114,9 @@ impl<'a> Judge<'a> {
     }
 
     // Whether the kept target of id t, on page p, is named by a kept redirect: only the one at its back id, b, can be that.
-    fn named(self, t: usize, b: usize) -> bool
-        requires { KeptTarget self.segment.now t b }
-        ensures { result ≡ named_by (standing self.entry.segment.now) t }
+    fn named(&self, t: usize, b: usize) -> bool
+        requires { KeptTarget self.now.segment.now t b }
+        ensures { result ≡ named_by (standing self.now.segment.now) t }
     {
         let p = b / IDS_A_PAGE;
         if self.pages() <= p {
@@ -135,9 +135,9 @@ impl<'a> Judge<'a> {
     }
 
     // What is done to slot k of page p, which is in use; `freed` is what its page tells.
-    fn judge_slot(self, p: usize, k: usize, freed: Deed) -> Deed
-        requires { UsedOn self.segment.now p k × (freed ≡ judged (view (page_of self.segment.now p)) k) }
-        ensures { result ≡ deed (standing self.entry.segment.now) p k }
+    fn judge_slot(&self, p: usize, k: usize, freed: Deed) -> Deed
+        requires { UsedOn self.now.segment.now p k × (freed ≡ judged (view (page_of self.now.segment.now p)) k) }
+        ensures { result ≡ deed (standing self.now.segment.now) p k }
     {
         let i = p * IDS_A_PAGE + k;
         match layout::slots::get_slot(self.page(p), k) {
@@ -165,9 +165,9 @@ impl<'a> Judge<'a> {
     }
 
     // The same of all n slots of the page; those behind them stay.
-    pub fn judge_page(self, p: usize, n: usize) -> Deeds
-        requires { UsedPageOn self.segment.now p n }
-        ensures { Deeds (deed (standing self.entry.segment.now) p) result }
+    pub fn judge_page(&self, p: usize, n: usize) -> Deeds
+        requires { UsedPageOn self.now.segment.now p n }
+        ensures { Deeds (deed (standing self.now.segment.now) p) result }
     {
         let mut deeds = [Deed::Stays; MOST_SLOTS];
         page_repair::keep::judge_records(self.page(p), n, &mut deeds);
@@ -179,9 +179,9 @@ impl<'a> Judge<'a> {
 
     // Whether no slot of the page, which is sound and has n, changes. On such a page ordinary and free slots stay: their entries begin below
     // those of the other two kinds.
-    pub fn all_stay(self, p: usize, n: usize) -> bool
-        requires { UsedPageOn self.segment.now p n × (soundPage (view (page_of self.segment.now p)) ≡ true) }
-        ensures { result ≡ all n (λ k. not (changes (deed (standing self.entry.segment.now) p k))) }
+    pub fn all_stay(&self, p: usize, n: usize) -> bool
+        requires { UsedPageOn self.now.segment.now p n × (soundPage (view (page_of self.now.segment.now p)) ≡ true) }
+        ensures { result ≡ all n (λ k. not (changes (deed (standing self.now.segment.now) p k))) }
     {
         let page = self.page(p);
         for k in 0..n {

@@ -20,9 +20,9 @@ pub struct Counted {
 }
 
 // A page in use, of n slots, gone through in full.
-fn count_mended(judge: Judge, p: usize, n: usize) -> Counted
-    requires { UsedPageOn judge.segment.now p n }
-    ensures { CountedAs (standing judge.entry.segment.now) p result }
+fn count_mended(judge: &Judge, p: usize, n: usize) -> Counted
+    requires { UsedPageOn judge.now.segment.now p n }
+    ensures { CountedAs (standing judge.now.segment.now) p result }
 {
     let deeds = judge.judge_page(p, n);
     let page = judge.page(p);
@@ -39,9 +39,9 @@ fn count_mended(judge: Judge, p: usize, n: usize) -> Counted
 }
 
 // The same; one that is sound is looked at for its redirects and targets alone.
-fn count_used(judge: Judge, p: usize, n: usize) -> Counted
-    requires { UsedPageOn judge.segment.now p n }
-    ensures { CountedAs (standing judge.entry.segment.now) p result }
+fn count_used(judge: &Judge, p: usize, n: usize) -> Counted
+    requires { UsedPageOn judge.now.segment.now p n }
+    ensures { CountedAs (standing judge.now.segment.now) p result }
 {
     if judge.is_sound(p) && judge.all_stay(p, n) {
         return Counted {
@@ -53,9 +53,9 @@ fn count_used(judge: Judge, p: usize, n: usize) -> Counted
 }
 
 // A page that is lost gets a zero header; one that is fresh stays.
-fn count_page(judge: Judge, p: usize) -> Counted
-    requires { Within judge.segment.now p }
-    ensures { CountedAs (standing judge.entry.segment.now) p result }
+fn count_page(judge: &Judge, p: usize) -> Counted
+    requires { Within judge.now.segment.now p }
+    ensures { CountedAs (standing judge.now.segment.now) p result }
 {
     match state_of(judge.page(p)) {
         State::Lost => Counted {
@@ -71,10 +71,10 @@ fn count_page(judge: Judge, p: usize) -> Counted
 }
 
 // The entries of all pages; the true inventory is worked out in `inventory`, which is all zeros.
-pub fn count_pages(judge: Judge, inventory: &mut Page) -> usize
+pub fn count_pages(judge: &Judge, inventory: &mut Page) -> usize
     requires { inventory.old ≡ zeros 16384 }
-    ensures { (result ≡ length (seg_entries (standing judge.entry.segment.now) (length judge.entry.segment.now / 16384)))
-        × (inventory.new ≡ true_of (standing judge.entry.segment.now)) }
+    ensures { (result ≡ length (seg_entries (standing judge.now.segment.now) (length judge.now.segment.now / 16384)))
+        × (inventory.new ≡ true_of (standing judge.now.segment.now)) }
 {
     let n = judge.pages();
     let mut entries = 0;

@@ -29,7 +29,7 @@ pub fn repair(
     }
     let sound = segment_judge::check_pages(segment);
     let mut after = [0; PAGE_SIZE];
-    let mut count = crate::count::count_pages(Judge::new(segment, &sound), &mut after);
+    let mut count = crate::count::count_pages(&Judge::new(segment, &sound), &mut after);
     let same = crate::count::same_inventory(inventory.as_array().unwrap(), &after);
     if !same {
         count += 1;

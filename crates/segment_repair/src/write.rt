@@ -1,4 +1,6 @@
 // The changes written, page by page upward, each with its entry.
+// The segment and its marks stay two parameters here: no fact can be kept in a type beside what is lent to be written. So do the list and the
+// number of its next entry: in a type, each function would have to promise besides that it still lends the same list.
 ghost use Rattle.std.specs.Prelude.{◌≡◌, true, ◌+◌, ◌*◌, ◌/◌, ◌%◌, ◌≤◌, length};
 ghost use Rattle.store.specs.Numbers.{put};
 ghost use Rattle.store.specs.Page.{view};

@@ -19,7 +19,7 @@ judge_slot-requires c =
 pub returns-then-ne : goal.returns-then-ne
 returns-then-ne c =
     let a = c.args in
-    stay_fails a.self.segment.now a.p c.loop-k.k a.n c.loop-k-test.true
+    stay_fails a.self.now.segment.now a.p c.loop-k.k a.n c.loop-k-test.true
     (ap changes (sym c.judge_slot.ensures) ∙ differs c.judge_slot.result c.ne.ensures ∙ c.if-ne.true)
 
 pub loop-k-preserved : goal.loop-k-preserved
@@ -27,10 +27,10 @@ loop-k-preserved c =
     let a = c.args in
     let used = slot_used _ _ _ c.loop-k.k c.requires.0 c.loop-k-test.true in
     let half = c.get_u32.ensures.is ∙ ap (λ (q : List ℕ). be (cut q (12 + 8 * c.loop-k.k) 4)) c.page-page.ensures in
-    stay_more a.self.segment.now a.p c.loop-k.k c.loop-k.invariant
+    stay_more a.self.now.segment.now a.p c.loop-k.k c.loop-k.invariant
     (elim c.else-get_u32-ge-REDIRECT.branch [
       | else-get_u32-ge-REDIRECT-via-then-get_u32-ge-REDIRECT+else-ne w ↦
           ap changes (sym w.judge_slot.ensures) ∙ differs w.judge_slot.result w.ne.ensures ∙ w.if-ne.false
       | else-get_u32-ge-REDIRECT-via-else-get_u32-ge-REDIRECT w ↦
-          low_stays _ _ _ used c.requires.1 c.args.self.bytes _ half w.if-get_u32-ge-REDIRECT.false
+          low_stays _ _ _ used c.requires.1 c.args.self.now.bytes _ half w.if-get_u32-ge-REDIRECT.false
     ])

@@ -16,13 +16,13 @@ use Rattle.segment_judge.proofs.Judge.holds.Goals as goal
 
 count : (c : After-get_slot_count)
     → let a = c.args in
-    c.get_slot_count.result ≡ (view (page_of a.self.segment.now (page_no a.t))).slot_count
+    c.get_slot_count.result ≡ (view (page_of a.self.now.segment.now (page_no a.t))).slot_count
 count c = c.get_slot_count.ensures.0 ∙ ap (λ (q : List ℕ). (view q).slot_count) c.page.ensures
 
 -- what the tests told by then
 told : (c : Else-get_slot_count-gt-MOST_SLOTS)
     → let a = c.args in
-    let s = a.self.segment.now in
+    let s = a.self.now.segment.now in
     (page_no a.t < length s / 16384) × (page_no a.t ≢ page_no a.i) × ((view (page_of s (page_no a.t))).slot_count ≤ 2046)
 told c = (
   omega (arith, c.pages.ensures, c.if-pages-p.false),
@@ -37,23 +37,23 @@ told c = (
 
 is : (c : In-Target)
     → let a = c.args in
-    Target c.in-Target.offset c.in-Target.length ≡ ((seg_view a.self.segment.now).page (page_no a.t)).at (slot_no a.t)
+    Target c.in-Target.offset c.in-Target.length ≡ ((seg_view a.self.now.segment.now).page (page_no a.t)).at (slot_no a.t)
 is c = sym c.in-Target.is ∙ c.slot_on.ensures.0
 
 pub returns-then-pages-p : goal.returns-then-pages-p
 returns-then-pages-p c =
     let a = c.args in
-    hold_past a.self.segment.now a.i a.t (omega (arith, c.pages.ensures, c.if-pages-p.true))
+    hold_past a.self.now.segment.now a.i a.t (omega (arith, c.pages.ensures, c.if-pages-p.true))
 
 pub returns-then-p-i : goal.returns-then-p-i
 returns-then-p-i c =
     let a = c.args in
-    hold_home a.self.segment.now a.i a.t c.if-p-i.true
+    hold_home a.self.now.segment.now a.i a.t c.if-p-i.true
 
 pub returns-then-get_slot_count-gt-MOST_SLOTS : goal.returns-then-get_slot_count-gt-MOST_SLOTS
 returns-then-get_slot_count-gt-MOST_SLOTS c =
     let a = c.args in
-    hold_lost a.self.segment.now a.i a.t (omega (
+    hold_lost a.self.now.segment.now a.i a.t (omega (
       arith,
       c.if-get_slot_count-gt-MOST_SLOTS.true,
       count
@@ -63,7 +63,7 @@ returns-then-get_slot_count-gt-MOST_SLOTS c =
 pub slot_on-requires : goal.slot_on-requires
 slot_on-requires c =
     let a = c.args in
-    let s = a.self.segment.now in
+    let s = a.self.now.segment.now in
     let t = told (goal.at.slot_on-requires c).Else-get_slot_count-gt-MOST_SLOTS in
     let inside : page_no a.t * 16384 + 16384 ≤ length s = omega (arith, t.0) in
     record { within = inside; p_bound = omega (arith, seen_count s (page_no a.t) inside, t.2) }
@@ -71,7 +71,7 @@ slot_on-requires c =
 pub returns-in_default : goal.returns-in_default
 returns-in_default c =
     let a = c.args in
-    hold_other a.self.segment.now a.i a.t _ c.slot_on.ensures.0 (not_target c.slot_on.result c.in_default.not-Target)
+    hold_other a.self.now.segment.now a.i a.t _ c.slot_on.ensures.0 (not_target c.slot_on.result c.in_default.not-Target)
 
 pub overflow_add-offset : goal.overflow_add-offset
 overflow_add-offset c = let h = subst Codable c.in-Target.is c.slot_on.ensures.1 in omega arith
@@ -79,18 +79,18 @@ overflow_add-offset c = let h = subst Codable c.in-Target.is c.slot_on.ensures.1
 pub returns-then-offset-gt-PAGE_SIZE : goal.returns-then-offset-gt-PAGE_SIZE
 returns-then-offset-gt-PAGE_SIZE c =
     let a = c.args in
-    hold_long a.self.segment.now a.i a.t _ _ (is (goal.at.returns-then-offset-gt-PAGE_SIZE c).In-Target) c.if-offset-gt-PAGE_SIZE.true
+    hold_long a.self.now.segment.now a.i a.t _ _ (is (goal.at.returns-then-offset-gt-PAGE_SIZE c).In-Target) c.if-offset-gt-PAGE_SIZE.true
 
 pub returns-then-back_id_on-i : goal.returns-then-back_id_on-i
 returns-then-back_id_on-i c =
     let a = c.args in
-    hold_back a.self.segment.now a.i a.t _ _ (is (goal.at.returns-then-back_id_on-i c).In-Target) _ c.back_id_on.ensures c.if-back_id_on-i.true
+    hold_back a.self.now.segment.now a.i a.t _ _ (is (goal.at.returns-then-back_id_on-i c).In-Target) _ c.back_id_on.ensures c.if-back_id_on-i.true
 
 pub target_kept-requires : goal.target_kept-requires
 target_kept-requires c =
     let a = c.args in
     let t = told (goal.at.target_kept-requires c).Else-get_slot_count-gt-MOST_SLOTS in
-    let w = target_asks a.self.segment.now a.t _ _ (is (goal.at.target_kept-requires c).In-Target) t.0 t.2 in
+    let w = target_asks a.self.now.segment.now a.t _ _ (is (goal.at.target_kept-requires c).In-Target) t.0 t.2 in
     (w.0, w.1)
 
 pub returns : goal.returns
@@ -98,4 +98,4 @@ returns c =
     let a = c.args in
     let t = told (goal.at.returns c).Else-get_slot_count-gt-MOST_SLOTS in
     c.target_kept.ensures
-    ∙ hold_kept a.self.segment.now a.i a.t _ _ (is (goal.at.returns c).In-Target) _ c.back_id_on.ensures t.0 t.1 t.2 c.if-back_id_on-i.false
+    ∙ hold_kept a.self.now.segment.now a.i a.t _ _ (is (goal.at.returns c).In-Target) _ c.back_id_on.ensures t.0 t.1 t.2 c.if-back_id_on-i.false

@@ -22,4 +22,4 @@ pub returns : goal.returns
 returns c =
     let a = c.args in
     let e : c.loop-k.k ≡ a.n = omega arith in
-    half_all _ _ _ c.requires _ (subst (λ (k : ℕ). Half a.self.segment.now a.p a.n k c.loop-k.deeds) e c.loop-k.invariant)
+    half_all _ _ _ c.requires _ (subst (λ (k : ℕ). Half a.self.now.segment.now a.p a.n k c.loop-k.deeds) e c.loop-k.invariant)

@@ -11,7 +11,7 @@ use Rattle.segment_judge.proofs.Judge.target_kept.Goals as goal
 
 pub returns-then-is_sound : goal.returns-then-is_sound
 returns-then-is_sound c =
-    let s = c.args.self.segment.now in
+    let s = c.args.self.now.segment.now in
     let p = c.args.p in
     let k = c.args.k in
     let used = c.requires.0 in
@@ -21,7 +21,7 @@ returns-then-is_sound c =
 
 pub is_kept-requires : goal.is_kept-requires
 is_kept-requires c =
-    kept_asks c.args.self.segment.now c.args.p c.args.k _ c.page.ensures c.requires.0 c.requires.1
+    kept_asks c.args.self.now.segment.now c.args.p c.args.k _ c.page.ensures c.requires.0 c.requires.1
 
 pub returns-else-is_sound : goal.returns-else-is_sound
 returns-else-is_sound c =

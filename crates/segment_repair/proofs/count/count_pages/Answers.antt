@@ -12,7 +12,7 @@ use Rattle.segment_repair.proofs.count.count_pages.Goals as goal
 
 pub loop-p-init : goal.loop-p-init
 loop-p-init c =
-    let s = c.args.judge.segment.now in
+    let s = c.args.judge.now.segment.now in
     (entries_none (standing s), c.requires ∙ true_none (seg_after (standing s)) (length s / 16384))
 
 pub count_page-c-requires : goal.count_page-c-requires
@@ -20,21 +20,21 @@ count_page-c-requires c = omega (arith, c.pages-n.ensures)
 
 pub overflow_add-entries : goal.overflow_add-entries
 overflow_add-entries c =
-    let u = standing c.args.judge.segment.now in
-    omega (arith, seg_most u c.loop-p.p, page_most u c.loop-p.p, c.count_page-c.ensures.entries, c.loop-p.invariant.0, c.pages-n.ensures, c.args.judge.known.few)
+    let u = standing c.args.judge.now.segment.now in
+    omega (arith, seg_most u c.loop-p.p, page_most u c.loop-p.p, c.count_page-c.ensures.entries, c.loop-p.invariant.0, c.pages-n.ensures, c.args.judge.now.known.few)
 
 pub update_page_size-requires : goal.update_page_size-requires
 update_page_size-requires c =
-    let s = c.args.judge.segment.now in
+    let s = c.args.judge.now.segment.now in
     let l : length c.loop-p.inventory ≡ 16384 = ap length c.loop-p.invariant.1 ∙ true_length (seg_after (standing s)) _ _ in
     record {
-      room = record { entries = omega arith; pages = omega (arith, c.pages-n.ensures, c.args.judge.known.few) };
+      room = record { entries = omega arith; pages = omega (arith, c.pages-n.ensures, c.args.judge.now.known.few) };
       page_lt_n = (omega arith, c.count_page-c.ensures.small c.in-Some.space c.in-Some.is);
     }
 
 pub loop-p-preserved : goal.loop-p-preserved
 loop-p-preserved c =
-    let n = length c.args.judge.segment.now / 16384 in
+    let n = length c.args.judge.now.segment.now / 16384 in
     let told = c.count_page-c.ensures in (
       entries_more told c.loop-p.invariant.0,
       elim c.match-c.branch [
@@ -47,6 +47,6 @@ loop-p-preserved c =
 
 pub returns : goal.returns
 returns c =
-    let s = c.args.judge.segment.now in
+    let s = c.args.judge.now.segment.now in
     let e : c.loop-p.p ≡ length s / 16384 = omega (arith, c.pages-n.ensures) in
     (c.loop-p.invariant.0 ∙ ap (λ (p : ℕ). length (seg_entries (standing s) p)) e, c.loop-p.invariant.1 ∙ true_all s c.loop-p.p e)
