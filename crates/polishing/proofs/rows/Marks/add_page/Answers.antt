@@ -16,7 +16,7 @@ loop-k-preserved c =
     let w = c.args.w in
     let p = c.args.page.now in
     ap (λ (x : Marks). marks_over w x (readings_from (view p) (c.loop-k.k + 1))) c.add_head.ensures
-    ∙ sym (over_next (with_head w) (λ s. refl) w.mirror p (c.told-page, c.requires.1) c.loop-k.k (omega (arith, c.get_slot_count-k-end.ensures.0)) _ _
+    ∙ sym (over_next (with_head w) (λ s. refl) w.mirror p (c.told-page, c.requires) c.loop-k.k (omega (arith, c.get_slot_count-k-end.ensures.0)) _ _
     c.head_at.ensures)
     ∙ c.loop-k.invariant
 

@@ -17,10 +17,8 @@ pub loop-p-init : goal.loop-p-init
 loop-p-init c = sym (over_pages_all (with_head c.args.w) (λ s. refl) c.args.w.mirror c.args.segment.now _)
 
 pub add_page-requires : goal.add_page-requires
-add_page-requires c = (
-  c.requires.rows_bound,
-  ap (λ (q : List ℕ). sound (view q)) c.page_of.ensures ∙ each_sound c.args.segment.now c.requires.segment_value.1 c.loop-p.p (omega arith),
-)
+add_page-requires c =
+    ap (λ (q : List ℕ). sound (view q)) c.page_of.ensures ∙ each_sound c.args.segment.now c.requires.1 c.loop-p.p (omega arith)
 
 pub loop-p-preserved : goal.loop-p-preserved
 loop-p-preserved c =
