@@ -5,11 +5,8 @@ use Rattle.store.specs.Page.{view}
 use Rattle.exchange.proofs.Laws.Left.{readings_from}
 use Rattle.polishing.specs.Words.{with_head, marks_over}
 use Rattle.polishing.specs.declared.rows.Marks.{Marks}
-use Rattle.polishing.proofs.PassLaws.{over_all, over_next, over_none}
+use Rattle.polishing.proofs.PassLaws.{over_next, over_none}
 use Rattle.polishing.proofs.rows.Marks.add_page.Goals as goal
-
-pub loop-k-init : goal.loop-k-init
-loop-k-init c = sym (over_all (with_head c.args.w) (λ s. refl) c.args.w.mirror (view c.args.page.now) _)
 
 pub loop-k-preserved : goal.loop-k-preserved
 loop-k-preserved c =
