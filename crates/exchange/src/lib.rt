@@ -19,7 +19,7 @@ use segment_insert::row::Headed;
 use segment_insert::rows::{REMEMBERED, insert_row};
 use store::Refusal;
 
-// Why an import is refused: the whole file; or where it stopped, after so many records, with that insert's refusal.
+// Why an import is refused: by the sizes or by the file; or where it stopped, after so many records, with that insert's refusal.
 #[derive(Clone, Copy)]
 pub enum ImportRefusal {
     Size,

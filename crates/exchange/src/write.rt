@@ -26,7 +26,8 @@ fn write_reading(file: &mut [u8], at: usize, page: &Page, offset: usize, n: usiz
     layout_runs::copy_in(file, at + BEFORE, &page[offset + HEAD..offset + n]);
 }
 
-// What a slot of the page is in the file; where the file goes on behind it.
+// What a slot of the page is in the file; where the file goes on behind it. The place is handed on: as a field beside the lent file it
+// would be no plainer, `out.at = ..` for each `at = ..`.
 fn write_part(file: &mut [u8], at: usize, page: &Page, part: Part) -> usize
     requires on_page { OnPage page.now part }
     requires part_in_bounds { at + part_length part ≤ length file.old }

@@ -51,7 +51,7 @@ module _ (s : List ℕ) where
     both_most = most_added (p * 65536) 65536 ((p + 1) * 65536) (numbers t) (numbers f) (omega arith) h.most g.small
 
     -- there is room for a page more
-    pub filled_room : p < 32527 → (r : Option Tally) → Summed (added (numbers t) (numbers f)) r → IsSome r
+    pub filled_room : p < 32527 → (r : Option Tally) → Summed numbers (added (numbers t) (numbers f)) r → IsSome r
     filled_room l r h = summed_some (added (numbers t) (numbers f)) r h (most_fit ((p + 1) * 65536) (added (numbers t) (numbers f)) (omega arith) both_most)
 
     pub filled_more : sound (view (page_of s p)) ≡ true → (r : Tally) → numbers r ≡ added (numbers t) (numbers f) → FilledTo s (p + 1) r

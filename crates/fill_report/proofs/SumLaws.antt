@@ -26,13 +26,13 @@ use Rattle.fill_report.specs.Words.{AtMost, Summed}
 pub not_fit : (l : List ℕ) (i : ℕ) → 2 ^ 64 ≤ get_or l i 0 → all_fit l ≡ false
 not_fit l i h = false_by (all_fit l) (λ e. omega (arith, fits_at l e i))
 
-pub summed_some : (l : List ℕ) (r : Option Tally) → Summed l r → all_fit l ≡ true → IsSome r
+pub summed_some : (l : List ℕ) (r : Option Tally) → Summed numbers l r → all_fit l ≡ true → IsSome r
 summed_some l (Some t) h e = refl
 summed_some l None h e = never e h
 
 -- a sum with a sound segment's figures is what its report tells
 module _ (s : List ℕ) (t f : Tally) (size : size_ok s ≡ true) (pages : all_sound (seg_view s) ≡ true) (is : numbers f ≡ figures (seg_view s)) where
-  pub sum_told : (r : Option Tally) → Summed (added (numbers t) (numbers f)) r → summed (ok_or r fill.Tally) t ≡ report_step s (numbers t)
+  pub sum_told : (r : Option Tally) → Summed numbers (added (numbers t) (numbers f)) r → summed (ok_or r fill.Tally) t ≡ report_step s (numbers t)
   sum_told (Some x) h =
       let after = ap (added (numbers t)) is in
       ap (report DONE) (h.1 ∙ after) ∙ sym (on_done s (numbers t) size pages (sym (ap all_fit after) ∙ h.0))

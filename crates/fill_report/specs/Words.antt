@@ -38,14 +38,10 @@ abbrev pub AtMost : ℕ → List ℕ → Type 0
 AtMost b [] = Unit {0}
 AtMost b (x ∷ xs) = (x ≤ b) × AtMost b xs
 
--- the sum l, if each of its figures fits
-abbrev pub SummedList : List ℕ → Option (List ℕ) → Type 0
-SummedList l (Some r) = (all_fit l ≡ true) × (r ≡ l)
-SummedList l None = all_fit l ≡ false
-
-abbrev pub Summed : List ℕ → Option Tally → Type 0
-Summed l (Some t) = (all_fit l ≡ true) × (numbers t ≡ l)
-Summed l None = all_fit l ≡ false
+-- the sum l, seen as a list, if each of its figures fits
+abbrev pub Summed : {T : Type 0} → (T → List ℕ) → List ℕ → Option T → Type 0
+Summed seen l (Some t) = (all_fit l ≡ true) × (seen t ≡ l)
+Summed seen l None = all_fit l ≡ false
 
 -- ---- pages
 

@@ -1,12 +1,13 @@
 // The sum of two tallies, if each of its figures fits: "9 TALLY when a figure would pass 2^64 − 1".
 ghost use Rattle.store.specs.Report.{added};
 ghost use Rattle.store.specs.Answers.{numbers};
-ghost use Rattle.fill_report.specs.Words.{Summed, SummedList};
+ghost use Rattle.fill_report.specs.Words.{Summed};
 
 use store::Tally;
 
+// The figures of the classes.
 fn checked_classes(a: [u64; 16], b: [u64; 16]) -> Option<[u64; 16]>
-    ensures { SummedList (added a b) result }
+    ensures { Summed (λ l. l) (added a b) result }
 {
     let mut sum = a;
     for c in 0..16 {
@@ -17,7 +18,7 @@ fn checked_classes(a: [u64; 16], b: [u64; 16]) -> Option<[u64; 16]>
 
 // Figure by figure.
 pub fn checked_sum(a: Tally, b: Tally) -> Option<Tally>
-    ensures { Summed (added (numbers a) (numbers b)) result }
+    ensures { Summed numbers (added (numbers a) (numbers b)) result }
 {
     Some(Tally {
         pages: a.pages.checked_add(b.pages)?,

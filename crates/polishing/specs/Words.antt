@@ -14,7 +14,7 @@ use Rattle.store.specs.Report.{all_sound}
 use Rattle.polishing.specs.declared.RuleRefusal.{RuleRefusal}
 use Rattle.polishing.specs.declared.RuleRefusal.TheVariants as refusal
 use Rattle.polishing.specs.declared.heads.Row.{Row}
-use Rattle.polishing.specs.declared.rows.Wanted.{Wanted}
+use Rattle.polishing.specs.declared.wanted.Wanted.{Wanted}
 use Rattle.polishing.specs.declared.rows.Marks.{Marks}
 use Rattle.polishing.specs.declared.rule.Edition.{Edition}
 use Rattle.polishing.specs.declared.rule.Edition.TheVariants as edition

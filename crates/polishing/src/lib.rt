@@ -6,6 +6,7 @@ mod heads;
 mod readings;
 mod rows;
 mod rule;
+mod wanted;
 mod windows;
 
 ghost use Rattle.std.specs.Prelude.{◌≡◌};

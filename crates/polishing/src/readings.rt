@@ -7,8 +7,9 @@ ghost use Rattle.polishing.specs.Polishing.{whole_in, words, word, rows_named, m
 ghost use Rattle.polishing.specs.Words.{windows_of, edition_number, RefusedBy};
 
 use crate::RuleRefusal;
-use crate::rows::{MOST_ROWS, Wanted};
+use crate::rows::MOST_ROWS;
 use crate::rule::{Counts, Edition};
+use crate::wanted::Wanted;
 use crate::windows::{WINDOWS, marked_windows};
 
 // The segment, whose pages are sound, and the windows in which the mirror has a record.

@@ -1,6 +1,6 @@
 // A window's pass: "each row below the named number of rows is there exactly once, with no other row", of 64 readings at once. Word k of the map
 // tells of row k, and bit j of a word of the window's reading j; so the readings that have every row are what the words have in common.
-ghost use Rattle.std.specs.Prelude.{◌≡◌, true, ◌≤◌, ◌<◌};
+ghost use Rattle.std.specs.Prelude.{◌≡◌, true};
 ghost use Rattle.store.specs.Page.{view, sound};
 ghost use Rattle.store.specs.PageSteps.{opened};
 ghost use Rattle.store.specs.Records.{records};
@@ -12,20 +12,13 @@ ghost use Rattle.polishing.specs.Polishing.{whole_in, word};
 ghost use Rattle.polishing.specs.Words.{with_row, with_head, marks_over, in_rows};
 
 use crate::heads::Row;
+use crate::wanted::Wanted;
 use crate::windows::SPAN;
 use segment_pages::page_of;
 use store::{PAGE_SIZE, Page};
 
 // The most rows that may be named.
 pub const MOST_ROWS: usize = 2048;
-
-// The mirror, how many rows a reading has, and the window.
-#[derive(Clone, Copy)]
-pub struct Wanted {
-    pub mirror: usize,
-    pub rows: usize,
-    pub window: usize,
-}
 
 // Which rows of the window's readings are there, and which readings are spoiled.
 #[derive(Drop)]
@@ -36,13 +29,12 @@ struct Marks {
 
 impl Marks {
     // One row: a row that is there already spoils its reading, and so does one from `rows` on.
-    fn add_row(&mut self, rows: usize, head: Row)
-        requires { rows ≤ 2048 }
-        ensures { self.new ≡ with_row rows self.old head.reading head.row }
+    fn add_row(&mut self, w: Wanted, head: Row)
+        ensures { self.new ≡ with_row w.rows self.old head.reading head.row }
     {
         let bit = 1 << (usize::from(head.reading) % SPAN);
         let row = usize::from(head.row);
-        if rows <= row {
+        if w.rows <= row {
             self.spoiled |= bit;
             return;
         }
@@ -52,7 +44,6 @@ impl Marks {
 
     // One record, if it is of the window.
     fn add_head(&mut self, w: Wanted, head: Option<Row>)
-        requires { w.rows ≤ 2048 }
         ensures { self.new ≡ with_head w self.old head }
     {
         let Some(row) = head else {
@@ -61,12 +52,12 @@ impl Marks {
         if usize::from(row.reading) / SPAN != w.window {
             return;
         }
-        self.add_row(w.rows, row);
+        self.add_row(w, row);
     }
 
     // The slots of a page that is sound.
     fn add_page(&mut self, w: Wanted, page: &Page)
-        requires { (w.rows ≤ 2048) × (sound (view page.now) ≡ true) }
+        requires { sound (view page.now) ≡ true }
         ensures { self.new ≡ marks_over w self.old (page_readings (opened (view page.now))) }
     {
         for k in 0..layout::header::get_slot_count(page) {
@@ -76,8 +67,7 @@ impl Marks {
 
     // Page by page: all are sound, so that nothing is checked any more.
     fn add_segment(&mut self, w: Wanted, segment: &[u8])
-        requires rows_bound { w.rows ≤ 2048 }
-        requires segment_value { (size_ok segment.now ≡ true) × (all_sound (seg_view segment.now) ≡ true) }
+        requires { (size_ok segment.now ≡ true) × (all_sound (seg_view segment.now) ≡ true) }
         ensures { self.new ≡ marks_over w self.old (readings (records (seg_view segment.now))) }
     {
         for p in 0..segment.len() / PAGE_SIZE {
@@ -85,13 +75,12 @@ impl Marks {
         }
     }
 
-    // The bits of `word` that the first `rows` words of the map have too.
-    fn in_rows(&self, rows: usize, word: usize) -> usize
-        requires { rows ≤ 2048 }
-        ensures { result ≡ in_rows rows self.now.map word }
+    // The bits of `word` that the words of all rows have too.
+    fn in_rows(&self, w: Wanted, word: usize) -> usize
+        ensures { result ≡ in_rows w.rows self.now.map word }
     {
         let mut common = word;
-        for row in &self.map[..rows] {
+        for row in &self.map[..w.rows] {
             common &= row;
         }
         common
@@ -100,8 +89,7 @@ impl Marks {
 
 // The window's whole readings, a bit each: those that are not spoiled and have every row.
 pub fn whole_in(segment: &[u8], w: Wanted) -> usize
-    requires segment_value { (size_ok segment.now ≡ true) × (all_sound (seg_view segment.now) ≡ true) }
-    requires rows_bound { (w.rows ≤ 2048) × (w.window < 1024) }
+    requires { (size_ok segment.now ≡ true) × (all_sound (seg_view segment.now) ≡ true) }
     ensures { result ≡ word (whole_in segment.now w.mirror w.rows) w.window }
 {
     let mut marks = Marks {
@@ -109,5 +97,5 @@ pub fn whole_in(segment: &[u8], w: Wanted) -> usize
         spoiled: 0,
     };
     marks.add_segment(w, segment);
-    marks.in_rows(w.rows, !marks.spoiled)
+    marks.in_rows(w, !marks.spoiled)
 }

@@ -15,7 +15,7 @@ pub enum Edition {
 impl TryFrom<usize> for Edition {
     type Error = RuleRefusal;
 
-    ghost try_from_gives = { λ n r. EditionOf n r };
+    ghost try_from_gives = { EditionOf };
 
     fn try_from(edition: usize) -> Result<Edition, RuleRefusal> {
         match edition {

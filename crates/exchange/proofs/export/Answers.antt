@@ -22,14 +22,6 @@ returns-then-file-sums c =
     (λ i. record { answer = ROOM; length = told.length i; passed = told.passed i; place = c.args.file.now })
     ∙ sym (on_room c.args.segment.now c.args.file.now (right (goal.at.returns-then-file-sums c).Else-not-is_segment) told.sound (omega (arith, told.length)))
 
-pub write_file-requires : goal.write_file-requires
-write_file-requires c =
-    let told = c.in-Some.ensures in
-    record {
-      segment_value = (right (goal.at.write_file-requires c).Else-not-is_segment, told.sound);
-      segment_in_bounds = omega (arith, told.length);
-    }
-
 pub returns : goal.returns
 returns c =
     let told = c.in-Some.ensures in

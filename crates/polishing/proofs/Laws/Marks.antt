@@ -17,7 +17,7 @@ use Rattle.polishing.specs.Polishing.{mirror_of, reading_of, row_of, is_of, row_
 use Rattle.polishing.specs.Words.{head_of, with_row, with_head, marks_over, in_rows}
 use Rattle.polishing.proofs.Laws.Bits.{others, word_lt, bit_word, bit_pow, bit_others, same_bits}
 use Rattle.polishing.proofs.Laws.Whole.{whole_parts}
-use Rattle.polishing.specs.declared.rows.Wanted.{Wanted}
+use Rattle.polishing.specs.declared.wanted.Wanted.{Wanted}
 use Rattle.polishing.specs.declared.rows.Marks.{Marks}
 
 -- no row is there, and no reading is spoiled
@@ -235,7 +235,7 @@ bit_is x false h f g = go (eq_or_ne x 1)
 sized_none : Sized no_marks
 sized_none = record { long = length-replicate {A = ℕ} 2048 0; small = omega arith }
 
-module _ (bs : List (List ℕ)) (w : Wanted) (few : w.rows ≤ 2048) where
+module _ (bs : List (List ℕ)) (w : Wanted) where
   abbrev after : Marks
   after = marks_over w no_marks bs
 
@@ -250,7 +250,7 @@ module _ (bs : List (List ℕ)) (w : Wanted) (few : w.rows ≤ 2048) where
     beyond = other_rows bs w.mirror w.rows (nth w j)
 
     noted : Noted w.rows j no_marks after beyond times
-    noted = noted_all w few j h no_marks sized_none bs
+    noted = noted_all w w.few j h no_marks sized_none bs
 
     none : (k : ℕ) → k < w.rows → has j no_marks k ≡ 0
     none k l = ap (bit j) (get_or-replicate {A = ℕ} 2048 k 0 0 (omega arith)) ∙ bit_zero j

@@ -1,12 +1,6 @@
 use native.Mathlib.Omega.{arith}
-use Rattle.exchange.proofs.MeasureLaws.{measured_none, measured_room, measured_next, measured_all}
+use Rattle.exchange.proofs.MeasureLaws.{measured_room, measured_next, measured_all}
 use Rattle.exchange.proofs.measure.measure_page.Goals as goal
-
-pub loop-k-init : goal.loop-k-init
-loop-k-init c = measured_none _ _ c.default-sums.ensures
-
-pub part_on-requires : goal.part_on-requires
-part_on-requires c = (c.requires, omega (arith, c.get_slot_count-k-end.ensures.0))
 
 pub with_part-sums-requires : goal.with_part-sums-requires
 with_part-sums-requires c =

@@ -5,14 +5,10 @@ use native.Mathlib.Omega.{arith}
 use Rattle.store.specs.Page.{view, sound}
 use Rattle.store.specs.PageSteps.{opened}
 use Rattle.store.specs.Segment.{page_of}
-use Rattle.store.proofs.Laws.SoundSegment.{sized}
 use Rattle.exchange.specs.Words.{PageSums}
-use Rattle.exchange.proofs.MeasureLaws.{pages_none, pages_next, pages_stop, pages_all}
+use Rattle.exchange.proofs.MeasureLaws.{pages_next, pages_stop, pages_all}
 use Rattle.exchange.proofs.measure.measure_segment.Goals.{After-is_sound}
 use Rattle.exchange.proofs.measure.measure_segment.Goals as goal
-
-pub loop-p-init : goal.loop-p-init
-loop-p-init c = pages_none _ _ c.default-sums.ensures
 
 -- whether page p is sound
 told : (c : After-is_sound) → c.is_sound.result ≡ sound (view (page_of c.args.segment.now c.loop-p.p))
@@ -21,13 +17,6 @@ told c = c.is_sound.ensures ∙ ap (λ (q : List ℕ). sound (view q)) c.page_of
 pub returns-then-not-is_sound : goal.returns-then-not-is_sound
 returns-then-not-is_sound c =
     pages_stop c.args.segment.now c.loop-p.p (omega arith) (sym (told (goal.at.returns-then-not-is_sound c).After-is_sound) ∙ c.if-not-is_sound.true)
-
--- the numbers stay small
-pub overflow_add-sums : goal.overflow_add-sums
-overflow_add-sums c = omega (arith, (sized c.args.segment.now c.requires).few, c.measure_page-more.ensures.short, c.loop-p.invariant.short)
-
-pub overflow_add-sums-in-loop-p : goal.overflow_add-sums-in-loop-p
-overflow_add-sums-in-loop-p c = omega (arith, (sized c.args.segment.now c.requires).few, c.measure_page-more.ensures.few, c.loop-p.invariant.few)
 
 pub loop-p-preserved : goal.loop-p-preserved
 loop-p-preserved c =

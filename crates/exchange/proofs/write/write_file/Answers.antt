@@ -10,13 +10,10 @@ use Rattle.store.specs.Segment.{seg_view}
 use Rattle.store.proofs.Laws.Report.{each_sound}
 use Rattle.store.proofs.Laws.SoundSegment.{seen_pages, seen_page}
 use Rattle.exchange.specs.Words.{page_file}
-use Rattle.exchange.proofs.LeftLaws.{pages_file, pages_all, pages_next, pages_none}
-use Rattle.exchange.proofs.WriteLaws.{left_all, left_next, left_none}
+use Rattle.exchange.proofs.LeftLaws.{pages_file, pages_next, pages_none}
+use Rattle.exchange.proofs.WriteLaws.{left_next, left_none}
 use Rattle.exchange.proofs.write.write_file.Goals.{After-page_of}
 use Rattle.exchange.proofs.write.write_file.Goals as goal
-
-pub loop-p-init : goal.loop-p-init
-loop-p-init c = left_all _ _ _ _ (pages_all (seg_view c.args.segment.now))
 
 -- page p: it is sound, and what is left is its file and the rest
 module _ (c : After-page_of) where
@@ -56,6 +53,3 @@ pub returns : goal.returns
 returns c =
     let s = c.args.segment.now in
     (left_none _ _ _ _ _ _ c.loop-p.invariant (pages_none (seg_view s) c.loop-p.p (omega (arith, seen_pages s)))).0
-
-pub shape_of-file : goal.shape_of-file
-shape_of-file c = c.loop-p.invariant.long

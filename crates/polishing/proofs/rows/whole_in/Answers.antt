@@ -12,4 +12,4 @@ pub returns : goal.returns
 returns c =
     let w = c.args.w in
     c.in_rows.ensures ∙ ap (λ (x : Marks). in_rows w.rows x.map (others x.spoiled)) c.add_segment.ensures
-    ∙ marks_whole (readings (records (seg_view c.args.segment.now))) w c.requires.rows_bound.0
+    ∙ marks_whole (readings (records (seg_view c.args.segment.now))) w

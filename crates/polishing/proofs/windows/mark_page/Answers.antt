@@ -6,11 +6,8 @@ use native.Mathlib.Omega.{arith}
 use Rattle.store.specs.Page.{view}
 use Rattle.exchange.proofs.Laws.Left.{readings_from}
 use Rattle.polishing.specs.Words.{windows_over, with_mark}
-use Rattle.polishing.proofs.PassLaws.{over_all, over_next, over_none}
+use Rattle.polishing.proofs.PassLaws.{over_next, over_none}
 use Rattle.polishing.proofs.windows.mark_page.Goals as goal
-
-pub loop-k-init : goal.loop-k-init
-loop-k-init c = sym (over_all with_mark (λ w. refl) c.args.mirror (view c.args.page.now) c.args.marked.now)
 
 pub loop-k-preserved : goal.loop-k-preserved
 loop-k-preserved c =

@@ -9,12 +9,9 @@ use Rattle.store.specs.Segment.{page_of}
 use Rattle.store.proofs.Laws.Report.{damaged}
 use Rattle.exchange.specs.Words.{page_readings}
 use Rattle.polishing.specs.Words.{windows_over}
-use Rattle.polishing.proofs.WindowPassLaws.{MarkedTo, marked_none, marked_next, marked_all}
+use Rattle.polishing.proofs.WindowPassLaws.{MarkedTo, marked_next, marked_all}
 use Rattle.polishing.proofs.windows.marked_windows.Goals.{After-is_sound}
 use Rattle.polishing.proofs.windows.marked_windows.Goals as goal
-
-pub loop-p-init : goal.loop-p-init
-loop-p-init c = marked_none _ _ _
 
 -- whether page p is sound
 told : (c : After-is_sound) → c.is_sound.result ≡ sound (view (page_of c.args.segment.now c.loop-p.p))

@@ -3,7 +3,7 @@ use mathlib.Core.Path.{sym, ◌∙◌}
 use mathlib.Core.Bool.{Bool}
 use native.Mathlib.Omega.{arith}
 use Rattle.polishing.specs.Polishing.{whole_in}
-use Rattle.polishing.proofs.Laws.Counted.{counts_none, counts_few, counts_next, counts_met, counts_all}
+use Rattle.polishing.proofs.Laws.Counted.{counts_none, counts_few, counts_next, counts_met}
 use Rattle.polishing.proofs.readings.Readings.are_enough.Goals.{At-loop-w}
 use Rattle.polishing.proofs.readings.Readings.are_enough.Goals as goal
 
@@ -34,8 +34,3 @@ loop-w-preserved c =
 
 pub meet-requires-2 : goal.meet-requires-2
 meet-requires-2 c = omega (arith, few (goal.at.meet-requires-2 c).At-loop-w)
-
-pub returns : goal.returns
-returns c =
-    c.meet-2.ensures
-    ∙ counts_all (whole (goal.at.returns c).At-loop-w) c.loop-w.w c.loop-w.counts c.loop-w.invariant (omega arith) _ _ c.demands-demands.ensures

@@ -5,18 +5,15 @@ use Rattle.store.specs.Page.{view}
 use Rattle.exchange.proofs.Laws.Left.{readings_from}
 use Rattle.polishing.specs.Words.{with_head, marks_over}
 use Rattle.polishing.specs.declared.rows.Marks.{Marks}
-use Rattle.polishing.proofs.PassLaws.{over_all, over_next, over_none}
+use Rattle.polishing.proofs.PassLaws.{over_next, over_none}
 use Rattle.polishing.proofs.rows.Marks.add_page.Goals as goal
-
-pub loop-k-init : goal.loop-k-init
-loop-k-init c = sym (over_all (with_head c.args.w) (λ s. refl) c.args.w.mirror (view c.args.page.now) _)
 
 pub loop-k-preserved : goal.loop-k-preserved
 loop-k-preserved c =
     let w = c.args.w in
     let p = c.args.page.now in
     ap (λ (x : Marks). marks_over w x (readings_from (view p) (c.loop-k.k + 1))) c.add_head.ensures
-    ∙ sym (over_next (with_head w) (λ s. refl) w.mirror p (c.told-page, c.requires.1) c.loop-k.k (omega (arith, c.get_slot_count-k-end.ensures.0)) _ _
+    ∙ sym (over_next (with_head w) (λ s. refl) w.mirror p (c.told-page, c.requires) c.loop-k.k (omega (arith, c.get_slot_count-k-end.ensures.0)) _ _
     c.head_at.ensures)
     ∙ c.loop-k.invariant
 

@@ -10,17 +10,12 @@ use Rattle.exchange.specs.Words.{page_readings}
 use Rattle.exchange.proofs.Laws.Left.{pages_readings}
 use Rattle.polishing.specs.Words.{with_head, marks_over}
 use Rattle.polishing.specs.declared.rows.Marks.{Marks}
-use Rattle.polishing.proofs.PassLaws.{over_pages_all, over_pages_next, over_pages_none}
+use Rattle.polishing.proofs.PassLaws.{over_pages_next, over_pages_none}
 use Rattle.polishing.proofs.rows.Marks.add_segment.Goals as goal
 
-pub loop-p-init : goal.loop-p-init
-loop-p-init c = sym (over_pages_all (with_head c.args.w) (λ s. refl) c.args.w.mirror c.args.segment.now _)
-
 pub add_page-requires : goal.add_page-requires
-add_page-requires c = (
-  c.requires.rows_bound,
-  ap (λ (q : List ℕ). sound (view q)) c.page_of.ensures ∙ each_sound c.args.segment.now c.requires.segment_value.1 c.loop-p.p (omega arith),
-)
+add_page-requires c =
+    ap (λ (q : List ℕ). sound (view q)) c.page_of.ensures ∙ each_sound c.args.segment.now c.requires.1 c.loop-p.p (omega arith)
 
 pub loop-p-preserved : goal.loop-p-preserved
 loop-p-preserved c =
