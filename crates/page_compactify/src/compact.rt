@@ -57,6 +57,7 @@ pub fn compactify(page: &mut Page) -> usize
     ensures { (page.new ≡ run (compactify (view page.old)).edits page.old)
         × (result ≡ (compactify (view page.old)).after.data_start) }
 {
-    let table = Table::of(page, layout::header::get_slot_count(page));
+    let mut table = Table::new();
+    table.collect(page, layout::header::get_slot_count(page));
     pack(page, table.keys())
 }
