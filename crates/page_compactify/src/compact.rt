@@ -6,6 +6,7 @@ ghost use Rattle.store.specs.PageSteps.{pack, compactify, run};
 ghost use Rattle.store.specs.Laws.Views.{Sound};
 ghost use Rattle.page_compactify.specs.Keys.{kind_in, len_in, live, Movable, move_key, slots_of, Ready};
 
+use crate::head::Header;
 use crate::table::{Table, is_target, len_in, offset_in, slot_in};
 use store::{PAGE_SIZE, Page, Slot};
 
@@ -42,10 +43,11 @@ fn pack(page: &mut Page, keys: &[usize]) -> usize
         d -= len_in(*e);
         place(page, *e, d);
     }
-    let c = layout::header::get_slot_count(page);
-    let f = layout::header::get_first_free_slot(page);
-    let r = layout::header::get_free_space(page);
-    layout::header::set_header(page, c, f, d, r);
+    Header {
+        start: d,
+        ..Header::of(page)
+    }
+    .write(page);
     d
 }
 
@@ -55,6 +57,7 @@ pub fn compactify(page: &mut Page) -> usize
     ensures { (page.new ≡ run (compactify (view page.old)).edits page.old)
         × (result ≡ (compactify (view page.old)).after.data_start) }
 {
-    let table = Table::of(page, layout::header::get_slot_count(page));
+    let mut table = Table::new();
+    table.collect(page, layout::header::get_slot_count(page));
     pack(page, table.keys())
 }

@@ -2,5 +2,6 @@
 #![tactic(auto)]
 
 mod compact;
+pub mod head;
 pub mod room;
 mod table;

@@ -4,17 +4,17 @@ ghost use Rattle.store.specs.Page.{view};
 ghost use Rattle.store.specs.Laws.Views.{Sound};
 ghost use Rattle.page_compactify.specs.Room.{Roomed};
 
-use store::{ENTRY, HEADER, Page};
+use crate::head::Header;
+use store::Page;
 
 // A gap of n bytes, by compactify where it has to be made; the data start.
 pub fn make_room(page: &mut Page, n: usize) -> usize
     requires { Sound (view page.old) × (n ≤ (view page.old).free_space) }
     ensures { Roomed n page.old page.new result }
 {
-    let c = layout::header::get_slot_count(page);
-    let d = layout::header::get_data_start(page);
-    if d - (HEADER + ENTRY * c) < n {
+    let header = Header::of(page);
+    if header.gap() < n {
         return crate::compact::compactify(page);
     }
-    d
+    header.start
 }

@@ -28,14 +28,8 @@ module _ (at : ℕ → Slot) (c i : ℕ) (h : i < c) where
   suc_sub : c - i ≡ suc (c - (i + 1))
   suc_sub = omega arith
 
-  pub next_here : true ≡ is_free (at i) → next_free (c - i) at i ≡ i
-  next_here e = rw (suc_sub, ← e)
-
   pub next_past : false ≡ is_free (at i) → next_free (c - i) at i ≡ next_free (c - (i + 1)) at (i + 1)
   next_past e = rw (suc_sub, ← e)
-
-pub next_end : (at : ℕ → Slot) (c i : ℕ) → c ≤ i → next_free (c - i) at i ≡ i
-next_end at c i h = let e : c - i ≡ 0 = omega arith in rw e
 
 next_same : (n : ℕ) (at bt : ℕ → Slot) (j : ℕ) → ((i : ℕ) → is_free (bt i) ≡ is_free (at i)) → next_free n bt j ≡ next_free n at j
 next_same zero at bt j h = refl

@@ -6,22 +6,20 @@ ghost use Rattle.store.specs.PageSteps.{next_free, allocate};
 ghost use Rattle.store.specs.Laws.Lent.{UsedPage};
 ghost use Rattle.page_places.specs.Words.{page_bare, Inside, PastEntry};
 
-use store::{Page, Place, Slot};
+use page_compactify::head::Header;
+use store::{ENTRY, Page, Place, Slot};
 
 // The lowest free slot from k on, or the count.
 fn next_free(page: &Page, k: usize, c: usize) -> usize
     requires { (c ≡ (view page.now).slot_count) × (c ≤ 2046) × (k ≤ c + 1) }
     ensures { result ≡ next_free (c - k) (view page.now).at k }
 {
-    let mut i = k;
-    while i < c {
-        let s = layout::slots::get_slot(page, i);
-        if s.is_free() {
+    for i in k..c {
+        if layout::slots::get_slot(page, i).is_free() {
             return i;
         }
-        i += 1;
     }
-    i
+    c.max(k)
 }
 
 // The bytes for a new slot.
@@ -29,10 +27,7 @@ fn added_for(f: usize, c: usize) -> usize
     requires { f ≤ c }
     ensures { (result ≡ cond (eqb f c) 8 0) × (result ≤ 8) × (8 * f + 8 ≤ 8 * c + result) }
 {
-    if f == c {
-        return 8;
-    }
-    0
+    if f == c { ENTRY } else { 0 }
 }
 
 // Allocate but for the record's bytes: room is made, and the header and the slot's entry are written.
@@ -42,23 +37,28 @@ pub fn reserve(page: &mut Page, size: usize) -> Option<Place>
     ensures { (page.new ≡ page_bare (allocate (view page.old) size) page.old)
         × (given_place result ≡ allotted (allocate (view page.old) size)) × Inside result size × PastEntry result }
 {
-    let c = layout::header::get_slot_count(page);
-    let f = layout::header::get_first_free_slot(page);
-    let n = layout::header::get_free_space(page);
-    let more = added_for(f, c);
-    if n < size + more {
+    let header = Header::of(page);
+    let slot = header.first;
+    let more = added_for(slot, header.count);
+    if header.space < size + more {
         return None;
     }
-    let next = next_free(page, f + 1, c);
-    let d = page_compactify::room::make_room(page, size + more) - size;
-    layout::header::set_header(page, c + more / 8, next, d, n - (size + more));
+    let first = next_free(page, slot + 1, header.count);
+    let offset = page_compactify::room::make_room(page, size + more) - size;
+    Header {
+        count: header.count + more / ENTRY,
+        first,
+        start: offset,
+        space: header.space - (size + more),
+    }
+    .write(page);
     layout::slots::write_slot(
         page,
-        f,
+        slot,
         Slot::Ordinary {
-            offset: d,
+            offset,
             length: size,
         },
     );
-    Some(Place { slot: f, offset: d })
+    Some(Place { slot, offset })
 }

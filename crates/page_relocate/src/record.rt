@@ -1,4 +1,5 @@
 // The record of a slot at another size, and its bytes. Write passes the new bytes; resize keeps the old ones, cut off or filled up with zeros.
+// Each is the move and then one write: with the write as a closure, its contract would be longer than both.
 ghost use Rattle.std.specs.Prelude.{◌≡◌, ◌++◌, ◌+◌, ◌≤◌, length, drop};
 ghost use Rattle.store.specs.Numbers.{to_be, fit};
 ghost use Rattle.store.specs.Page.{view};

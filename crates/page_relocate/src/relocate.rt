@@ -6,6 +6,7 @@ ghost use Rattle.store.specs.PageSteps.{gap, relocate};
 ghost use Rattle.store.specs.Laws.Lent.{UsedSlot};
 ghost use Rattle.page_relocate.specs.Words.{page_moved, was_moved};
 
+use page_compactify::head::Header;
 use store::{PAGE_SIZE, Page, Place, Slot};
 
 // Relocate to a larger size, where the page is compactified: "the growing record's old bytes are saved by value".
@@ -18,11 +19,7 @@ fn grow_packed(page: &mut Page, k: usize, s: Slot, size: usize) -> bool
     let n = s.len();
     let mut saved = [0u8; PAGE_SIZE];
     layout_runs::save(page, s.offset(), n, &mut saved);
-    let Some(Place { offset, .. }) = crate::relocation::move_slot(page, k, size) else {
-        return false;
-    };
-    layout_runs::fit_in(page, offset, &saved[..n], size);
-    true
+    crate::record::rewrite(page, k, &saved[..n], size)
 }
 
 // Relocate to a larger size, where the gap holds it: the old bytes stand where they stood.
@@ -62,13 +59,11 @@ pub fn relocate(page: &mut Page, k: usize, size: usize) -> bool
     if size <= n {
         return settle(page, k, size);
     }
-    let room = layout::header::get_free_space(page);
-    if room < size - n {
+    let header = Header::of(page);
+    if header.space < size - n {
         return false;
     }
-    let c = layout::header::get_slot_count(page);
-    let d = layout::header::get_data_start(page);
-    if d - (12 + 8 * c) < size {
+    if header.gap() < size {
         return grow_packed(page, k, s, size);
     }
     grow(page, k, s, size)

@@ -11,42 +11,27 @@ ghost use Rattle.layout.specs.Run.{head_of};
 ghost use Rattle.page_places.specs.Words.{unfilled, page_bare, Inside};
 ghost use Rattle.page_relocate.specs.Words.{under_page, shrink_plan, home_of, alloc_of};
 
+use page_compactify::head::Header;
 use store::{Page, Place, Slot};
 
 // The record at another place, of the same kind.
-fn placed_slot(s: Slot, d: usize, n: usize) -> Slot
-    requires { (d < 2 ^ 30) × (n < 2 ^ 32) }
-    ensures { (result ≡ placed s d n) × Codable result }
+fn placed_slot(s: Slot, offset: usize, length: usize) -> Slot
+    requires { (offset < 2 ^ 30) × (length < 2 ^ 32) }
+    ensures { (result ≡ placed s offset length) × Codable result }
 {
     match s {
-        Slot::Ordinary {
-            offset: _,
-            length: _,
-        } => Slot::Ordinary {
-            offset: d,
-            length: n,
-        },
         Slot::Free => Slot::Free,
-        Slot::Redirect { id: _ } => Slot::Ordinary {
-            offset: d,
-            length: n,
-        },
-        Slot::Target {
-            offset: _,
-            length: _,
-        } => Slot::Target {
-            offset: d,
-            length: n,
-        },
+        Slot::Ordinary { .. } | Slot::Redirect { .. } => Slot::Ordinary { offset, length },
+        Slot::Target { .. } => Slot::Target { offset, length },
     }
 }
 
 // The header and slot k's entry.
-fn commit(page: &mut Page, k: usize, s: Slot, c: usize, f: usize, d: usize, n: usize)
+fn commit(page: &mut Page, k: usize, s: Slot, h: Header)
     requires { (20 + 8 * k ≤ length page.old) × Codable s }
-    ensures { page.new ≡ put (put page.old 0 (head_of c f d n)) (12 + 8 * k) (slot_bytes s) }
+    ensures { page.new ≡ put (put page.old 0 (head_of h.count h.first h.start h.space)) (12 + 8 * k) (slot_bytes s) }
 {
-    layout::header::set_header(page, c, f, d, n);
+    h.write(page);
     layout::slots::write_slot(page, k, s);
 }
 
@@ -57,11 +42,14 @@ fn put_under(page: &mut Page, k: usize, s: Slot, size: usize) -> usize
     ensures { (page.new ≡ under_page (view page.old) k s size page.old)
         × (result ≡ (make_room (view page.old) size).after.data_start - size) × (result + size ≤ 16384) }
 {
-    let c = layout::header::get_slot_count(page);
-    let f = layout::header::get_first_free_slot(page);
-    let n = layout::header::get_free_space(page);
+    let h = Header::of(page);
     let d = page_compactify::room::make_room(page, size) - size;
-    commit(page, k, placed_slot(s, d, size), c, f, d, n - size);
+    let placed = Header {
+        start: d,
+        space: h.space - size,
+        ..h
+    };
+    commit(page, k, placed_slot(s, d, size), placed);
     d
 }
 
@@ -71,13 +59,12 @@ fn shrink(page: &mut Page, k: usize, s: Slot, size: usize)
     requires s_value { (s ≡ (view page.old).at k) × (is_record s ≡ true) × (size < len s) }
     ensures { page.new ≡ run (unfilled (shrink_plan (view page.old) k size).edits) page.old }
 {
-    let c = layout::header::get_slot_count(page);
-    let f = layout::header::get_first_free_slot(page);
-    let d = layout::header::get_data_start(page);
-    let n = layout::header::get_free_space(page);
-    let len = s.len();
-    let t = placed_slot(s, s.offset(), size);
-    commit(page, k, t, c, f, d, n + (len - size));
+    let h = Header::of(page);
+    let shrunk = Header {
+        space: h.space + (s.len() - size),
+        ..h
+    };
+    commit(page, k, placed_slot(s, s.offset(), size), shrunk);
 }
 
 // Slot k is a redirect to 0 while its record of len bytes has no place.
@@ -88,11 +75,12 @@ fn park(page: &mut Page, k: usize, len: usize)
         ≡ put (put page.old 0 (head_of (view page.old).slot_count (view page.old).first_free
         (view page.old).data_start ((view page.old).free_space + len))) (12 + 8 * k) (slot_bytes (Slot.Redirect 0)) }
 {
-    let c = layout::header::get_slot_count(page);
-    let f = layout::header::get_first_free_slot(page);
-    let d = layout::header::get_data_start(page);
-    let n = layout::header::get_free_space(page);
-    commit(page, k, Slot::Redirect { id: 0 }, c, f, d, n + len);
+    let h = Header::of(page);
+    let parked = Header {
+        space: h.space + len,
+        ..h
+    };
+    commit(page, k, Slot::Redirect { id: 0 }, parked);
 }
 
 // Slot k's record s gets room for `size` bytes; its place.

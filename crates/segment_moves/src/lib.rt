@@ -1,5 +1,5 @@
 // One page of the segment lent on from its middle, to be written by write and resize: a record of page p at another size, and a root that
-// becomes a redirect. Allocate and erase: segment_steps.
+// becomes a redirect. Allocate and erase: segment_steps, which says why each step splits the segment itself.
 #![tactic(auto)]
 
 ghost use Rattle.std.specs.Prelude.{◌≡◌, ◌++◌, ◌+◌, ◌≤◌, ◌<◌, ◌^◌, length, drop};

@@ -1,4 +1,5 @@
 // One page of the segment lent on from its middle, to be written: allocate and erase on page p, and the update of its class.
+// Each step splits the segment itself: of a function that returns the page to be written, no clause can say what it leaves of the segment.
 #![tactic(auto)]
 
 ghost use Rattle.std.specs.Prelude.{◌≡◌, ◌/◌, ◌≤◌, length};

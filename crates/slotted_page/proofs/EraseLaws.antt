@@ -4,9 +4,8 @@ use mathlib.Core.Bool.{true, false, cond}
 use mathlib.Core.List.{List, []}
 use Prim.Native.Nat.{ℕ, suc, ◌+◌, ◌-◌, ◌*◌, ◌<◌, min}
 use native.Mathlib.Omega.{arith}
-use lib.Dec.{eqb}
 use Rattle.store.specs.Numbers.{put}
-use Rattle.store.specs.Slots.{slot_bytes, off, len, is_free}
+use Rattle.store.specs.Slots.{slot_bytes, len, is_free}
 use Rattle.store.specs.Page.{View}
 use Rattle.store.specs.PageSteps.{run, with_head, free_below, pruned, start_without, erase_for_redirect, erase}
 use Rattle.store.proofs.Laws.Numbers.{put_nil}
@@ -29,27 +28,20 @@ module _ (at : ℕ → Slot) (j : ℕ) (h : 0 < j) where
 
 -- ---- erase
 
-pub erase_done : (v : View) (k c n l m up lo : ℕ) (p q₁ q₂ : List ℕ)
-    → c ≡ v.slot_count → n ≡ v.free_space → l ≡ len (v.at k) → up ≡ start_without v k → m ≡ pruned v k → lo ≡ min v.first_free k
-    → q₁ ≡ put p 0 (head_of (c - m) lo up (n + l + 8 * m))
-    → q₂ ≡ put q₁ (12 + 8 * k) (slot_bytes Free)
-    → q₂ ≡ run (erase v k).edits p
+pub erase_done : (v : View) (k c n m lo : ℕ) (p q : List ℕ)
+    → c ≡ v.slot_count → n ≡ v.free_space → m ≡ pruned v k → lo ≡ min v.first_free k
+    → q ≡ put (put p 0 (head_of (c - m) lo (start_without v k) (n + 8 * m + len (v.at k)))) (12 + 8 * k) (slot_bytes Free)
+    → q ≡ run (erase v k).edits p
 unfolding erase
-erase_done v k c n l m up lo p q₁ q₂ ec en el eu em ew e₁ e₂ =
+erase_done v k c n m lo p q ec en em ew e =
     let w : View = with_head v (v.slot_count - pruned v k) (min v.first_free k) (start_without v k) (v.free_space + len (v.at k) + 8 * pruned v k) in
-    e₂ ∙ rw (e₁, ec, en, el, eu, em, ew) (sym (commit_writes w k Free [] p ∙ put_nil _ 0))
+    let y : n + 8 * m + len (v.at k) ≡ n + len (v.at k) + 8 * m = omega arith in
+    e ∙ rw (y, ec, en, em, ew) (sym (commit_writes w k Free [] p ∙ put_nil _ 0))
 
-pub redirect_done : (v : View) (k id c f n l up : ℕ) (p q₁ q₂ : List ℕ)
-    → c ≡ v.slot_count → f ≡ v.first_free → n ≡ v.free_space → l ≡ len (v.at k) → up ≡ start_without v k
-    → q₁ ≡ put p 0 (head_of c f up (n + l))
-    → q₂ ≡ put q₁ (12 + 8 * k) (slot_bytes (Redirect id))
-    → q₂ ≡ run (erase_for_redirect v k id).edits p
+pub redirect_done : (v : View) (k id c f n : ℕ) (p q : List ℕ) → c ≡ v.slot_count → f ≡ v.first_free → n ≡ v.free_space
+    → q ≡ put (put p 0 (head_of c f (start_without v k) (n + len (v.at k)))) (12 + 8 * k) (slot_bytes (Redirect id))
+    → q ≡ run (erase_for_redirect v k id).edits p
 unfolding erase_for_redirect
-redirect_done v k id c f n l up p q₁ q₂ ec ef en el eu e₁ e₂ =
+redirect_done v k id c f n p q ec ef en e =
     let w : View = with_head v v.slot_count v.first_free (start_without v k) (v.free_space + len (v.at k)) in
-    e₂ ∙ rw (e₁, ec, ef, en, el, eu) (sym (commit_writes w k (Redirect id) [] p ∙ put_nil _ 0))
-
--- data start without the record, from the slot that was read
-pub start_done : (v : View) (k o l d up : ℕ) (s : Slot) → s ≡ v.at k → o ≡ off s → l ≡ len s → d ≡ v.data_start → up ≡ cond (eqb o d) (d + l) d
-    → up ≡ start_without v k
-start_done v k o l d up s es eo el ed eu = eu ∙ rw (eo, el, ed, es)
+    e ∙ rw (ec, ef, en) (sym (commit_writes w k (Redirect id) [] p ∙ put_nil _ 0))

@@ -5,13 +5,20 @@ ghost use Rattle.store.specs.Answers.{given_place, allotted};
 ghost use Rattle.store.specs.PageSteps.{opened, put_head, initialised, allocate};
 ghost use Rattle.page_places.specs.Words.{page_bare, Inside, PastEntry};
 
+use page_compactify::head::Header;
 use store::{PAGE_SIZE, Page, Place, ROOM};
 
 // The header of a page just initialised.
 fn initialize(page: &mut Page)
     ensures { page.new ≡ put_head initialised page.old }
 {
-    layout::header::set_header(page, 0, 0, PAGE_SIZE, ROOM);
+    Header {
+        count: 0,
+        first: 0,
+        start: PAGE_SIZE,
+        space: ROOM,
+    }
+    .write(page);
 }
 
 // On a sound page a count of 0 says that it is fresh. A size of at most 16,364 finds room there, so a refusal never leaves one initialised.
@@ -22,7 +29,6 @@ pub fn allocate(page: &mut Page, size: usize) -> Option<Place>
 {
     if layout::header::get_slot_count(page) == 0 {
         initialize(page);
-        return page_places::reserve::reserve(page, size);
     }
     page_places::reserve::reserve(page, size)
 }

@@ -33,4 +33,4 @@ pub returns : goal.returns
 returns c =
     let l = c.loop-e in
     to_pack_end c.args.keys.now l.e-index l.d _ _ _ _ _ _ _ (omega arith) l.invariant.0
-    c.get_slot_count-c.ensures.0 c.get_first_free_slot-f.ensures.0 c.get_free_space-r.ensures.0 c.set_header.ensures
+    c.of.ensures.count c.of.ensures.first c.of.ensures.space c.write.ensures

@@ -2,12 +2,12 @@ use native.Mathlib.Omega.{arith}
 use Rattle.page_compactify.proofs.RoomLaws.{room_made, room_there}
 use Rattle.page_compactify.proofs.room.make_room.Goals as goal
 
-pub returns-then-d-c : goal.returns-then-d-c
-returns-then-d-c c =
+pub returns-then-gap-n : goal.returns-then-gap-n
+returns-then-gap-n c =
     let w = c.compactify in
     room_made c.args.page.now c.args.n w.result c.told-page c.requires.0 w.new.page c.requires.1 (omega arith) w.ensures.0 w.ensures.1
 
 pub returns : goal.returns
 returns c =
-    let d = c.get_data_start-d in
-    room_there c.args.page.now c.args.n d.result c.told-page c.requires.0 (omega arith) d.ensures.0
+    let h = c.of-header in
+    room_there c.args.page.now c.args.n h.result.start c.told-page c.requires.0 (omega arith) h.ensures.start

@@ -1,12 +1,10 @@
-use mathlib.Core.Path.{◌≡◌, ap, ◌∙◌}
+use mathlib.Core.Path.{◌≡◌, sym, ap, ◌∙◌}
 use Prim.Native.Nat.{◌+◌, ◌≤◌}
 use native.Mathlib.Omega.{arith}
 use lib.ListN.{length-take, length-replicate, replicate}
 use Rattle.store.specs.Slots.{len, off}
-use Rattle.store.specs.PageSteps.{relocate}
 use Rattle.store.specs.Page.{view}
-use Rattle.page_relocate.proofs.RecordLaws.{saved_old, old_done}
-use Rattle.page_relocate.proofs.MovedLaws.{refused_done}
+use Rattle.page_relocate.proofs.RecordLaws.{saved_old, again_done}
 use Rattle.store.proofs.Laws.Numbers.{length_put}
 use Rattle.page_relocate.proofs.relocate.grow_packed.Goals.{After-len-n}
 use Rattle.page_relocate.proofs.relocate.grow_packed.Goals as goal
@@ -23,18 +21,9 @@ pub save-requires : goal.save-requires
 save-requires c =
     omega (arith, in_page (goal.at.save-requires c).After-len-n, c.offset.ensures)
 
-pub slice_bounds-fit_in-end-2 : goal.slice_bounds-fit_in-end-2
-slice_bounds-fit_in-end-2 c =
-    rw (length-take, c.save.ensures, length_put, length-replicate) (omega (arith, in_page (goal.at.slice_bounds-fit_in-end-2 c).After-len-n))
-
-pub fit_in-requires : goal.fit_in-requires
-fit_in-requires c = omega (arith, c.in-Some.ensures.2)
-
-pub returns-in_default : goal.returns-in_default
-returns-in_default c =
-    let a = c.args in
-    let y = refused_done a.page.now c.move_slot.new.page a.k (relocate (view a.page.now) a.k a.size) c.in_default.ensures.1 c.in_default.ensures.0 in
-    (y.0, y.1)
+pub slice_bounds-rewrite-end : goal.slice_bounds-rewrite-end
+slice_bounds-rewrite-end c =
+    rw (length-take, c.save.ensures, length_put, length-replicate) (omega (arith, in_page (goal.at.slice_bounds-rewrite-end c).After-len-n))
 
 pub returns : goal.returns
 returns c =
@@ -42,7 +31,4 @@ returns c =
     let x = saved_old a.page.now a.k a.size c.requires.used_slot c.offset.result c.len-n.result (replicate 16384 0)
     c.save.new.to (c.offset.ensures ∙ ap off c.requires.s_value) (length_is (goal.at.returns c).After-len-n)
     (rw length-replicate (omega (arith, in_page (goal.at.returns c).After-len-n))) c.save.ensures in
-    let d = c.in-Some.field-0.offset in
-    old_done a.page.now a.k a.size c.requires.used_slot c.in-Some.field-0.slot d c.move_slot.new.page c.fit_in.new.page
-    c.in-Some.ensures.1 c.in-Some.ensures.0
-    (c.fit_in.ensures ∙ rw x)
+    (rw x at c.rewrite.ensures.0 ∙ sym (again_done a.page.now a.k a.size c.requires.used_slot), c.rewrite.ensures.1)

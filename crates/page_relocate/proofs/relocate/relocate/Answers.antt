@@ -13,10 +13,10 @@ pub settle-requires : goal.settle-requires
 settle-requires c =
     record { used_slot = c.requires; size_bound = omega (arith, length_is (goal.at.settle-requires c).After-len-n, c.if-size-n.true) }
 
-pub returns-then-room-size : goal.returns-then-room-size
-returns-then-room-size c =
+pub returns-then-header-size : goal.returns-then-header-size
+returns-then-header-size c =
     let a = c.args in
-    let e = length_is (goal.at.returns-then-room-size c).After-len-n in
+    let e = length_is (goal.at.returns-then-header-size c).After-len-n in
     rw (relocate_refused a.page.now a.k a.size c.requires (omega arith) (omega arith)) (refl, refl)
 
 pub grow-requires : goal.grow-requires

@@ -3,4 +3,4 @@ use Rattle.slotted_page.proofs.FreshLaws.{head_init}
 use Rattle.slotted_page.proofs.allocate.initialize.Goals as goal
 
 pub returns : goal.returns
-returns c = c.set_header.ensures ∙ head_init c.args.page.now
+returns c = c.write.ensures ∙ head_init c.args.page.now
