@@ -95,10 +95,9 @@ on_target-requires g c =
       size_bound = c.requires.size_bound;
     }
 
-pub update_on-requires : goal.update_on-requires
-update_on-requires g c =
-    let q = told_asks c.args.segment.now _ _ _ _ _ (moved_there g (goal.at.update_on-requires g c).Then-on_target) c.args.inventory.now c.requires.sizes in
-    record { room = q.0; within = q.1 }
+pub update_on-requires-clause-within : goal.update_on-requires-clause-within
+update_on-requires-clause-within g c =
+    told_asks c.args.segment.now _ _ _ _ _ (moved_there g (goal.at.update_on-requires-clause-within g c).Then-on_target) c.args.inventory.now
 
 pub returns-then-on_target : goal.returns-then-on_target
 returns-then-on_target g c =

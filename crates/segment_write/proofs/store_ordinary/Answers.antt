@@ -39,10 +39,9 @@ same_here g c =
     unmoved s p k c.requires.taken_on (m.sized a.change.now) (m.made a.change.now old)
     step.new.segment step.ensures.0 step.result step.ensures.1 c.if-on_page.false
 
-pub update_on-requires : goal.update_on-requires
-update_on-requires g c =
-    let q = told_asks c.args.segment.now _ _ _ _ _ (moved_here g (goal.at.update_on-requires g c).Then-on_page) c.args.inventory.now c.requires.sizes in
-    record { room = q.0; within = q.1 }
+pub update_on-requires-clause-within : goal.update_on-requires-clause-within
+update_on-requires-clause-within g c =
+    told_asks c.args.segment.now _ _ _ _ _ (moved_here g (goal.at.update_on-requires-clause-within g c).Then-on_page) c.args.inventory.now
 
 pub returns-then-on_page : goal.returns-then-on_page
 returns-then-on_page g c =
