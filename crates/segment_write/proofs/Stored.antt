@@ -2,7 +2,7 @@
 use Prim.Native.Nat.{ℕ, ◌+◌, ◌-◌, ◌*◌, ◌/◌, ◌≤◌, ◌<◌}
 use mathlib.Core.Path.{◌≡◌, refl, sym, ap, ◌∙◌}
 use mathlib.Core.Bool.{Bool, true, false, ◌&&◌, ◌||◌}
-use mathlib.Core.List.{List, [], ◌++◌}
+use mathlib.Core.List.{List, ◌++◌}
 use native.Mathlib.Omega.{arith}
 use lib.ListN.{length, take, drop, length-drop}
 use lib.Seq.{length-take-le}
@@ -13,7 +13,7 @@ use Rattle.store.specs.Slots.{off, len, is_target}
 use Rattle.store.specs.Page.{View, view}
 use Rattle.store.specs.PageSteps.{Plan, filled, Relocated, moved, relocate}
 use Rattle.store.specs.Inventory.{update, found_in}
-use Rattle.store.specs.Segment.{seg_view, page_of, size_ok, inv_ok, OnPage, on, Result, result, refuse, step, Found, nowhere, found, find, points_back}
+use Rattle.store.specs.Segment.{seg_view, page_of, size_ok, inv_ok, OnPage, on, Result, result, refuse, step, Found, find, points_back}
 use Rattle.store.specs.Segment.{forwarded, forwarded_again, at_home, at_target, root_of, by_root, store_by, store_plan, write_step, resize_step}
 use Rattle.store.specs.Answers.{outcome}
 use Rattle.store.specs.Laws.Lent.{Within, SoundOn, TakenOn}
@@ -139,19 +139,6 @@ module _ (s v : List ℕ) (i size : ℕ) (new : List ℕ → List ℕ) where
         (find found_in (seg_view m) v (size + 8) (λ p. eqb p (page_no i))))) et
         ∙ rw (not_moved (relocate home (slot_no i) size) f) refl
 
-  -- the bytes b that were handed over are what becomes of the old ones
-  module _ (b : List ℕ) (eb : b ≡ new (home.bytes (slot_no i))) where
-    abbrev first_place : Found
-    first_place = find found_in (seg_view s) v (size + 8) (λ p. eqb p (page_no i))
-
-    pub forward_same : result s (forwarded (seg_view s) v i size (λ o. b) [] first_place)
-        ≡ result s (forwarded (seg_view s) v i size new (home.bytes (slot_no i)) first_place)
-    forward_same = ap (result s) (same first_place)
-      where
-        same : (m : Found) → forwarded (seg_view s) v i size (λ o. b) [] m ≡ forwarded (seg_view s) v i size new (home.bytes (slot_no i)) m
-        same (nowhere a) = refl
-        same (found q j a) = ap (λ (c : List ℕ). forwarded (seg_view s) v i size (λ o. c) [] (found q j a)) eb
-
   -- ---- a redirect: 4 (target), then home, at the target, else forwarded again
 
   module _ (j : ℕ) where
@@ -165,29 +152,7 @@ module _ (s v : List ℕ) (i size : ℕ) (new : List ℕ → List ℕ) where
     unfolding result
     by_damaged e = rw e
 
-    -- the bytes b that were handed over are what becomes of the old ones
-    module _ (b : List ℕ) (eb : b ≡ new old_bytes) where
-      pub home_same : was_moved (relocate home (slot_no i) size) ≡ true
-          → result s (at_home found_in (seg_view s) v i size (λ o. b) j [] (relocate home (slot_no i) size))
-          ≡ result s (at_home found_in (seg_view s) v i size new j old_bytes (relocate home (slot_no i) size))
-      home_same f =
-          let m = moved_to (relocate home (slot_no i) size) f in
-          ap (λ (r : Relocated). result s (at_home found_in (seg_view s) v i size (λ o. b) j [] r)) m.is
-          ∙ ap (λ (c : List ℕ). result s (at_home found_in (seg_view s) v i size (λ o. c) j [] (moved m.to))) eb
-          ∙ ap (λ (r : Relocated). result s (at_home found_in (seg_view s) v i size new j old_bytes r)) (sym m.is)
-
-      pub again_same : result s (forwarded_again (seg_view s) v i size (λ o. b) j [] new_place)
-          ≡ result s (forwarded_again (seg_view s) v i size new j old_bytes new_place)
-      again_same = ap (result s) (same new_place)
-        where
-          same : (m : Found) → forwarded_again (seg_view s) v i size (λ o. b) j [] m ≡ forwarded_again (seg_view s) v i size new j old_bytes m
-          same (nowhere a) = refl
-          same (found q k a) = ap (λ (c : List ℕ). forwarded_again (seg_view s) v i size (λ o. c) j [] (found q k a)) eb
-
     module _ (follows : Follows s i j) where
-      pub goes_home : leb size home.free_space ≡ true → was_moved (relocate home (slot_no i) size) ≡ true
-      goes_home f = home_is home (slot_no i) size j follows.root.entry ∙ f
-
       pub by_home : result s (at_home found_in (seg_view s) v i size new j old_bytes (relocate home (slot_no i) size))
           ≡ result s (store_by found_in (seg_view s) v i size new (Redirect j))
       by_home = rw follows.back refl
