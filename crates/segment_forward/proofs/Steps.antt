@@ -1,6 +1,6 @@
 -- Steps on several pages, taken in the code's order, and what the inventory is told of them.
 use Prim.Native.Nat.{ℕ, ◌/◌, ◌≤◌}
-use mathlib.Core.Path.{◌≡◌, refl, sym, ap, ◌∙◌}
+use mathlib.Core.Path.{◌≡◌, sym, ap, ◌∙◌}
 use mathlib.Core.Bool.{true, false}
 use mathlib.Core.List.{List, [], ◌∷◌}
 use mathlib.Core.Logic.{◌≢◌}
@@ -10,14 +10,13 @@ use Rattle.store.specs.Numbers.{page_no, slot_no}
 use Rattle.store.specs.Slots.{is_free}
 use Rattle.store.specs.Page.{View, view, sound}
 use Rattle.store.specs.PageSteps.{erase}
-use Rattle.store.specs.Inventory.{update, Room}
+use Rattle.store.specs.Inventory.{update}
 use Rattle.store.specs.Segment.{seg_view, page_of, OnPage, on, carried_on, carried, points_back}
 use Rattle.store.specs.Laws.Lent.{Within, TakenOn}
 use Rattle.store.proofs.Laws.Segments.{ExactOn, exact_skip}
 use Rattle.store.proofs.Laws.Calls.{back_ok}
 use Rattle.segment_pages.proofs.Root.{back_taken}
-use Rattle.segment_steps.specs.Words.{Sizes}
-use Rattle.segment_steps.proofs.After.{sizes_room, Took, took_length, Left, left_own, left_other, left_room, left_update, still, carried_swap}
+use Rattle.segment_steps.proofs.After.{Took, took_length, Left, left_own, left_other, left_room, left_update, still, carried_swap}
 use Rattle.segment_steps.proofs.After.{erase_on_page}
 
 -- ---- after one step, on another page
@@ -64,11 +63,11 @@ pub record BothLeft (s r : List ℕ) (p q : ℕ) : Type 0 where
   pub second : Left r q two
 
 module _ (s v r : List ℕ) (p q : ℕ) (h : BothLeft s r p q) where
-  pub asks_first : Sizes s v → Room v (length r / 16384) × (Within r p × ((view (page_of r p)).free_space ≤ 16372))
-  asks_first z = (sizes_room s v r v z h.long refl, (omega (arith, h.long, h.within.0), left_room r p h.one h.first))
+  pub asks_first : Within r p × ((view (page_of r p)).free_space ≤ 16372)
+  asks_first = (omega (arith, h.long, h.within.0), left_room r p h.one h.first)
 
-  pub asks_second : Sizes s v → (w : List ℕ) → length w ≡ length v → Room w (length r / 16384) × (Within r q × ((view (page_of r q)).free_space ≤ 16372))
-  asks_second z w m = (sizes_room s v r w z h.long m, (omega (arith, h.long, h.within.1), left_room r q h.two h.second))
+  pub asks_second : Within r q × ((view (page_of r q)).free_space ≤ 16372)
+  asks_second = (omega (arith, h.long, h.within.1), left_room r q h.two h.second)
 
   pub told_both : (w y : List ℕ) → w ≡ update v (length r / 16384) p (view (page_of r p)).free_space
       → y ≡ update w (length r / 16384) q (view (page_of r q)).free_space

@@ -1,4 +1,5 @@
 // "Last comes a new target of size + 8 on another page, with the root as redirect"; and "moving home frees the target".
+// `bytes` and `size` go on as they are to page_relocate, which takes the two: a struct would be made here and taken apart in each call.
 #![tactic(auto)]
 
 ghost use Rattle.std.specs.Prelude.{◌≡◌, ◌||◌, [], ◌+◌, ◌≤◌, eqb, leb};
@@ -78,7 +79,8 @@ pub fn forward(
     Ok(id)
 }
 
-// The second: the root's redirect names the new target, and the old one at t is freed.
+// The second: the root's redirect names the new target, and the old one at t is freed. Apart from the first: between the search and the
+// inventory no step is the same.
 pub fn forward_again(
     segment: &mut [u8],
     inventory: &mut [u8],

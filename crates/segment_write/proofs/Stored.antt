@@ -2,7 +2,7 @@
 use Prim.Native.Nat.{ℕ, ◌+◌, ◌-◌, ◌*◌, ◌/◌, ◌≤◌, ◌<◌}
 use mathlib.Core.Path.{◌≡◌, refl, sym, ap, ◌∙◌}
 use mathlib.Core.Bool.{Bool, true, false, ◌&&◌, ◌||◌}
-use mathlib.Core.List.{List, [], ◌++◌}
+use mathlib.Core.List.{List, ◌++◌}
 use native.Mathlib.Omega.{arith}
 use lib.ListN.{length, take, drop, length-drop}
 use lib.Seq.{length-take-le}
@@ -12,8 +12,8 @@ use Rattle.store.specs.Numbers.{cut, put, to_be, fit, page_no, slot_no}
 use Rattle.store.specs.Slots.{off, len, is_target}
 use Rattle.store.specs.Page.{View, view}
 use Rattle.store.specs.PageSteps.{Plan, filled, Relocated, moved, relocate}
-use Rattle.store.specs.Inventory.{Room, update, found_in}
-use Rattle.store.specs.Segment.{seg_view, page_of, size_ok, inv_ok, OnPage, on, Result, result, refuse, step, Found, nowhere, found, find, points_back}
+use Rattle.store.specs.Inventory.{update, found_in}
+use Rattle.store.specs.Segment.{seg_view, page_of, size_ok, inv_ok, OnPage, on, Result, result, refuse, step, Found, find, points_back}
 use Rattle.store.specs.Segment.{forwarded, forwarded_again, at_home, at_target, root_of, by_root, store_by, store_plan, write_step, resize_step}
 use Rattle.store.specs.Answers.{outcome}
 use Rattle.store.specs.Laws.Lent.{Within, SoundOn, TakenOn}
@@ -23,14 +23,13 @@ use Rattle.store.proofs.Laws.Numbers.{cut_same, cut_drop}
 use Rattle.std.specs.Prelude.{Ok, Err}
 use Rattle.std.specs.Prelude.{Result as ResultOf}
 use Rattle.store.specs.declared.Slot.{Slot}
-use Rattle.store.specs.declared.Slot.TheVariants.{Ordinary, Free, Redirect, Target}
+use Rattle.store.specs.declared.Slot.TheVariants.{Ordinary, Redirect}
 use Rattle.store.specs.declared.Refusal.{Refusal}
 use Rattle.store.specs.declared.Refusal.TheVariants as refusal
 use Rattle.page_relocate.specs.Words.{was_moved, refilled}
 use Rattle.segment_pages.proofs.Seen.{slot_bytes_lem, target_long}
-use Rattle.segment_steps.specs.Words.{Sizes}
 use Rattle.segment_moves.specs.Words.{relocated_on}
-use Rattle.segment_steps.proofs.After.{sizes_room, Took, took_length, left_own, left_room, left_update}
+use Rattle.segment_steps.proofs.After.{Took, took_length, left_own, left_room, left_update}
 use Rattle.segment_moves.proofs.Moved.{moved_to, not_moved, took_filled, refused_same}
 use Rattle.segment_forward.specs.Words.{Follows}
 use Rattle.segment_forward.proofs.Home.{home_is}
@@ -60,10 +59,9 @@ module _ (s : List ℕ) (p k n : ℕ) (bs t : List ℕ) (m : Moves s p k n bs t)
   abbrev move_step : OnPage
   move_step = on p (filled m.plan k bs)
 
-  pub told_asks : Sizes s v → Room v (length t / 16384) × (Within t p × ((view (page_of t p)).free_space ≤ 16372))
-  told_asks z =
-      let l = took_length s move_step t m.took in
-      (sizes_room s v t v z l refl, (omega (arith, l, m.took.exact.inside), left_room t p move_step.plan.after (left_own s move_step t m.took)))
+  pub told_asks : Within t p × ((view (page_of t p)).free_space ≤ 16372)
+  told_asks =
+      (omega (arith, took_length s move_step t m.took, m.took.exact.inside), left_room t p move_step.plan.after (left_own s move_step t m.took))
 
   told : (w : List ℕ) → w ≡ update v (length t / 16384) p (view (page_of t p)).free_space
       → w ≡ update v (seg_view s).pages p move_step.plan.after.free_space
@@ -117,19 +115,6 @@ module _ (s v : List ℕ) (i size : ℕ) (new : List ℕ → List ℕ) where
       pub step_by : (x : Slot) → root_of (seg_view s) i ≡ Ok x → result s (store_by found_in (seg_view s) v i size new x) ≡ stored
       step_by x e = by_root_lem (Ok x) e
 
-  -- ---- 5 and 6: x is the entry y of the slot
-
-  pub by_entry : (y x : Slot) → y ≡ x → result s (store_by found_in (seg_view s) v i size new x) ≡ result s (store_by found_in (seg_view s) v i size new y)
-  by_entry y x e = ap (λ (z : Slot). result s (store_by found_in (seg_view s) v i size new z)) (sym e)
-
-  pub by_free : outcome (Err refusal.NoRecord) s v ≡ result s (store_by found_in (seg_view s) v i size new Free)
-  unfolding result
-  by_free = refl
-
-  pub by_target : (o l : ℕ) → outcome (Err refusal.Forwarded) s v ≡ result s (store_by found_in (seg_view s) v i size new (Target o l))
-  unfolding result
-  by_target o l = refl
-
   -- ---- an ordinary slot: on its page, else forwarded
 
   abbrev pub home : View
@@ -154,19 +139,6 @@ module _ (s v : List ℕ) (i size : ℕ) (new : List ℕ → List ℕ) where
         (find found_in (seg_view m) v (size + 8) (λ p. eqb p (page_no i))))) et
         ∙ rw (not_moved (relocate home (slot_no i) size) f) refl
 
-  -- the bytes b that were handed over are what becomes of the old ones
-  module _ (b : List ℕ) (eb : b ≡ new (home.bytes (slot_no i))) where
-    abbrev first_place : Found
-    first_place = find found_in (seg_view s) v (size + 8) (λ p. eqb p (page_no i))
-
-    pub forward_same : result s (forwarded (seg_view s) v i size (λ o. b) [] first_place)
-        ≡ result s (forwarded (seg_view s) v i size new (home.bytes (slot_no i)) first_place)
-    forward_same = ap (result s) (same first_place)
-      where
-        same : (m : Found) → forwarded (seg_view s) v i size (λ o. b) [] m ≡ forwarded (seg_view s) v i size new (home.bytes (slot_no i)) m
-        same (nowhere a) = refl
-        same (found q j a) = ap (λ (c : List ℕ). forwarded (seg_view s) v i size (λ o. c) [] (found q j a)) eb
-
   -- ---- a redirect: 4 (target), then home, at the target, else forwarded again
 
   module _ (j : ℕ) where
@@ -180,29 +152,7 @@ module _ (s v : List ℕ) (i size : ℕ) (new : List ℕ → List ℕ) where
     unfolding result
     by_damaged e = rw e
 
-    -- the bytes b that were handed over are what becomes of the old ones
-    module _ (b : List ℕ) (eb : b ≡ new old_bytes) where
-      pub home_same : was_moved (relocate home (slot_no i) size) ≡ true
-          → result s (at_home found_in (seg_view s) v i size (λ o. b) j [] (relocate home (slot_no i) size))
-          ≡ result s (at_home found_in (seg_view s) v i size new j old_bytes (relocate home (slot_no i) size))
-      home_same f =
-          let m = moved_to (relocate home (slot_no i) size) f in
-          ap (λ (r : Relocated). result s (at_home found_in (seg_view s) v i size (λ o. b) j [] r)) m.is
-          ∙ ap (λ (c : List ℕ). result s (at_home found_in (seg_view s) v i size (λ o. c) j [] (moved m.to))) eb
-          ∙ ap (λ (r : Relocated). result s (at_home found_in (seg_view s) v i size new j old_bytes r)) (sym m.is)
-
-      pub again_same : result s (forwarded_again (seg_view s) v i size (λ o. b) j [] new_place)
-          ≡ result s (forwarded_again (seg_view s) v i size new j old_bytes new_place)
-      again_same = ap (result s) (same new_place)
-        where
-          same : (m : Found) → forwarded_again (seg_view s) v i size (λ o. b) j [] m ≡ forwarded_again (seg_view s) v i size new j old_bytes m
-          same (nowhere a) = refl
-          same (found q k a) = ap (λ (c : List ℕ). forwarded_again (seg_view s) v i size (λ o. c) j [] (found q k a)) eb
-
     module _ (follows : Follows s i j) where
-      pub goes_home : leb size home.free_space ≡ true → was_moved (relocate home (slot_no i) size) ≡ true
-      goes_home f = home_is home (slot_no i) size j follows.root.entry ∙ f
-
       pub by_home : result s (at_home found_in (seg_view s) v i size new j old_bytes (relocate home (slot_no i) size))
           ≡ result s (store_by found_in (seg_view s) v i size new (Redirect j))
       by_home = rw follows.back refl

@@ -7,7 +7,7 @@ use Rattle.store.specs.Segment.{seg_view, points_back}
 use Rattle.store.specs.Laws.Lent.{TakenOn}
 use Rattle.store.specs.declared.Slot.TheVariants.{Redirect}
 use Rattle.segment_pages.proofs.Root.{root_taken, back_taken}
-use Rattle.segment_steps.proofs.After.{sizes_room, Took, left_room}
+use Rattle.segment_steps.proofs.After.{Took, left_room}
 use Rattle.segment_erase.proofs.Erased.{erasing, took_erasing, by_damaged, still_taken, both_length, target_left, root_left, by_redirect}
 use Rattle.segment_erase.proofs.erase_forwarded.Goals.{After-erase_on, After-erase_on-2, Else-not-points_back, Start}
 use Rattle.segment_erase.proofs.erase_forwarded.Goals as goal
@@ -38,48 +38,33 @@ returns-then-not-points_back c =
     let a = c.args in
     by_damaged a.segment.now a.inventory.now a.id a.t (sym c.points_back.ensures ∙ c.if-not-points_back.true)
 
-pub erase_on-requires : goal.erase_on-requires
-erase_on-requires c = taken (goal.at.erase_on-requires c).Start
-
 pub erase_on-requires-2 : goal.erase_on-requires-2
 erase_on-requires-2 c =
     let a = c.args in
     still_taken a.segment.now a.inventory.now a.id a.t (back_then (goal.at.erase_on-requires-2 c).After-erase_on) c.erase_on.new.segment
     (took (goal.at.erase_on-requires-2 c).After-erase_on)
 
-pub update_on-requires : goal.update_on-requires
-update_on-requires c =
+pub update_on-requires-clause-within : goal.update_on-requires-clause-within
+update_on-requires-clause-within c =
     let a = c.args in
     let s = a.segment.now in
-    let v = a.inventory.now in
     let r = c.erase_on-2.new.segment in
-    record {
-      room = sizes_room s v r v c.requires.sizes (same_size (goal.at.update_on-requires c).After-erase_on-2) refl;
-      within = (
-        omega (
-          arith,
-          same_size (goal.at.update_on-requires c).After-erase_on-2,
-          (back_taken s a.id a.t (back_then (goal.at.update_on-requires c).After-erase_on)).whole,
-        ),
-        left_room r (page_no a.t) (erasing s a.t).plan.after (target_left s v a.id a.t (back_then (goal.at.update_on-requires c).After-erase_on)
-            c.erase_on.new.segment (took (goal.at.update_on-requires c).After-erase_on) r c.erase_on-2.ensures),
-      );
-    }
+    let at = (goal.at.update_on-requires-clause-within c).After-erase_on in (
+      omega (arith, same_size (goal.at.update_on-requires-clause-within c).After-erase_on-2, (back_taken s a.id a.t (back_then at)).whole),
+      left_room r (page_no a.t) (erasing s a.t).plan.after
+          (target_left s a.inventory.now a.id a.t (back_then at) c.erase_on.new.segment (took at) r c.erase_on-2.ensures),
+    )
 
-pub update_on-requires-2 : goal.update_on-requires-2
-update_on-requires-2 c =
+pub update_on-requires-2-clause-within : goal.update_on-requires-2-clause-within
+update_on-requires-2-clause-within c =
     let a = c.args in
     let s = a.segment.now in
-    let v = a.inventory.now in
     let r = c.erase_on-2.new.segment in
-    record {
-      room = sizes_room s v r _ c.requires.sizes (same_size (goal.at.update_on-requires-2 c).After-erase_on-2) c.update_on.auto.inventory;
-      within = (
-        omega (arith, same_size (goal.at.update_on-requires-2 c).After-erase_on-2, c.requires.root_is.whole),
-        left_room r (page_no a.id) (erasing s a.id).plan.after (root_left s v a.id a.t (back_then (goal.at.update_on-requires-2 c).After-erase_on)
-            c.erase_on.new.segment (took (goal.at.update_on-requires-2 c).After-erase_on) r c.erase_on-2.ensures),
-      );
-    }
+    let at = (goal.at.update_on-requires-2-clause-within c).After-erase_on in (
+      omega (arith, same_size (goal.at.update_on-requires-2-clause-within c).After-erase_on-2, c.requires.root_is.whole),
+      left_room r (page_no a.id) (erasing s a.id).plan.after
+          (root_left s a.inventory.now a.id a.t (back_then at) c.erase_on.new.segment (took at) r c.erase_on-2.ensures),
+    )
 
 pub returns : goal.returns
 returns c =

@@ -1,6 +1,5 @@
-use mathlib.Core.Path.{refl}
 use native.Mathlib.Omega.{arith}
-use Rattle.segment_steps.proofs.After.{sizes_room, Took, took_length, left_own, left_room}
+use Rattle.segment_steps.proofs.After.{Took, took_length, left_own, left_room}
 use Rattle.segment_erase.proofs.Erased.{erasing, took_erasing, by_ordinary}
 use Rattle.segment_erase.proofs.erase_ordinary.Goals.{After-erase_on}
 use Rattle.segment_erase.proofs.erase_ordinary.Goals as goal
@@ -9,21 +8,13 @@ use Rattle.segment_erase.proofs.erase_ordinary.Goals as goal
 took : (c : After-erase_on) → let a = c.args in Took a.segment.now (erasing a.segment.now a.id) c.erase_on.new.segment
 took c = let a = c.args in took_erasing a.segment.now a.id c.requires.taken_on c.erase_on.new.segment c.erase_on.ensures
 
-pub update_on-requires : goal.update_on-requires
-update_on-requires c =
+pub update_on-requires-clause-within : goal.update_on-requires-clause-within
+update_on-requires-clause-within c =
     let s = c.args.segment.now in
-    let v = c.args.inventory.now in
     let e = erasing s c.args.id in
     let t = c.erase_on.new.segment in
-    let l = took_length s e t (took (goal.at.update_on-requires c).After-erase_on) in
-    record {
-      room = sizes_room s v t v c.requires.sizes l refl;
-      within = (
-        omega (arith, l, c.requires.taken_on.whole),
-        left_room t e.on e.plan.after
-            (left_own s e t (took (goal.at.update_on-requires c).After-erase_on)),
-      );
-    }
+    let x = took (goal.at.update_on-requires-clause-within c).After-erase_on in
+    (omega (arith, took_length s e t x, c.requires.taken_on.whole), left_room t e.on e.plan.after (left_own s e t x))
 
 pub returns : goal.returns
 returns c =

@@ -3,7 +3,6 @@ use mathlib.Core.Bool.{true, ◌&&◌}
 use Rattle.std.proofs.lemmas.Result.{err_from_is_err_and}
 use Rattle.store.specs.Segment.{size_ok, inv_ok}
 use Rattle.segment_pages.proofs.Root.{root_is}
-use Rattle.segment_steps.proofs.After.{sizes}
 use Rattle.segment_erase.proofs.Erased.{refused_is, step_size, step_by}
 use Rattle.segment_erase.proofs.erase_record.Goals.{After-root_of}
 use Rattle.segment_erase.proofs.erase_record.Goals as goal
@@ -17,14 +16,8 @@ returns-then-not-sizes_ok c =
     let a = c.args in
     step_size a.segment.now a.inventory.now a.id (sym c.sizes_ok.ensures ∙ c.if-not-sizes_ok.true)
 
-pub erase_slot-requires : goal.erase_slot-requires
-erase_slot-requires c =
-    let a = c.args in
-    let s = a.segment.now in
-    record {
-      sizes = sizes s a.inventory.now (sizes_here (goal.at.erase_slot-requires c).After-root_of);
-      root_is = root_is s a.id _ (sym c.root_of.ensures ∙ c.in_ok-slot.was);
-    }
+pub erase_slot-requires-clause-root_is : goal.erase_slot-requires-clause-root_is
+erase_slot-requires-clause-root_is c = root_is c.args.segment.now c.args.id _ (sym c.root_of.ensures ∙ c.in_ok-slot.was)
 
 pub returns-in_err-slot : goal.returns-in_err-slot
 returns-in_err-slot c =

@@ -1,8 +1,5 @@
-use mathlib.Core.Path.{refl}
 use Rattle.store.specs.Numbers.{fit, page_no}
 use Rattle.store.proofs.Laws.Fit.{length_fit}
-use Rattle.store.specs.declared.Slot.TheVariants.{Redirect}
-use Rattle.segment_pages.proofs.Root.{root_taken}
 use Rattle.segment_forward.proofs.Steps.{BothLeft, asks_first, asks_second}
 use Rattle.segment_forward.proofs.Home.{home_asks, home_left, home_done}
 use Rattle.segment_forward.proofs.at_home.Goals.{After-erase_on}
@@ -16,30 +13,19 @@ left c =
     home_left a.segment.now a.id a.size (fit a.size a.bytes.now) a.t c.requires.follows c.requires.size_bound
     (length_fit a.size a.bytes.now) c.rewrite_on.new.segment c.rewrite_on.ensures.0 c.erase_on.new.segment c.erase_on.ensures
 
-pub rewrite_on-requires : goal.rewrite_on-requires
-rewrite_on-requires c =
-    root_taken c.args.segment.now c.args.id (Redirect c.args.t) c.requires.follows.root refl
-
 pub erase_on-requires : goal.erase_on-requires
 erase_on-requires c =
     let a = c.args in
     home_asks a.segment.now a.id a.size (fit a.size a.bytes.now) a.t c.requires.follows c.requires.size_bound
     (length_fit a.size a.bytes.now) c.rewrite_on.new.segment c.rewrite_on.ensures.0
 
-pub update_on-requires : goal.update_on-requires
-update_on-requires c =
-    let q = asks_first c.args.segment.now c.args.inventory.now _ _ _ (left (goal.at.update_on-requires c).After-erase_on) c.requires.sizes in record {
-      room = q.0;
-      within = q.1;
-    }
+pub update_on-requires-clause-within : goal.update_on-requires-clause-within
+update_on-requires-clause-within c =
+    asks_first c.args.segment.now c.args.inventory.now _ _ _ (left (goal.at.update_on-requires-clause-within c).After-erase_on)
 
-pub update_on-requires-2 : goal.update_on-requires-2
-update_on-requires-2 c =
-    let q = asks_second c.args.segment.now c.args.inventory.now _ _ _ (left (goal.at.update_on-requires-2 c).After-erase_on) c.requires.sizes _
-    c.update_on.auto.inventory in record {
-      room = q.0;
-      within = q.1;
-    }
+pub update_on-requires-2-clause-within : goal.update_on-requires-2-clause-within
+update_on-requires-2-clause-within c =
+    asks_second c.args.segment.now c.args.inventory.now _ _ _ (left (goal.at.update_on-requires-2-clause-within c).After-erase_on)
 
 pub returns : goal.returns
 returns c =

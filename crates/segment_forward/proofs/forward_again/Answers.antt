@@ -63,20 +63,13 @@ erase_on-requires c =
     again_asks a.segment.now a.id (fit a.size a.bytes.now) a.t _ _ _ (placed (goal.at.erase_on-requires c).In_ok-new_target) c.requires.follows
     c.set_redirect_on.new.segment c.set_redirect_on.ensures
 
-pub update_on-requires : goal.update_on-requires
-update_on-requires c =
-    let q = asks_first c.args.segment.now c.args.inventory.now _ _ _ (left (goal.at.update_on-requires c).After-erase_on) c.requires.sizes in record {
-      room = q.0;
-      within = q.1;
-    }
+pub update_on-requires-clause-within : goal.update_on-requires-clause-within
+update_on-requires-clause-within c =
+    asks_first c.args.segment.now c.args.inventory.now _ _ _ (left (goal.at.update_on-requires-clause-within c).After-erase_on)
 
-pub update_on-requires-2 : goal.update_on-requires-2
-update_on-requires-2 c =
-    let q = asks_second c.args.segment.now c.args.inventory.now _ _ _ (left (goal.at.update_on-requires-2 c).After-erase_on) c.requires.sizes _
-    c.update_on.auto.inventory in record {
-      room = q.0;
-      within = q.1;
-    }
+pub update_on-requires-2-clause-within : goal.update_on-requires-2-clause-within
+update_on-requires-2-clause-within c =
+    asks_second c.args.segment.now c.args.inventory.now _ _ _ (left (goal.at.update_on-requires-2-clause-within c).After-erase_on)
 
 pub returns : goal.returns
 returns c =

@@ -1,16 +1,13 @@
-use mathlib.Core.Path.{◌≡◌, refl, sym, ap, subst, ◌∙◌}
+use mathlib.Core.Path.{◌≡◌, sym, ap, subst, ◌∙◌}
 use mathlib.Core.Bool.{false}
 use mathlib.Core.List.{List, ◌++◌}
 use Prim.Native.Nat.{ℕ, ◌+◌}
 use native.Mathlib.Omega.{arith}
 use lib.ListN.{drop}
 use lib.Dec.{leb}
-use borrow.Author.Tests.{leb-true}
 use Rattle.store.specs.Numbers.{to_be, page_no, slot_no}
 use Rattle.store.specs.Segment.{seg_view}
-use Rattle.store.specs.declared.Slot.TheVariants.{Redirect}
-use Rattle.segment_pages.proofs.Root.{root_taken, back_taken}
-use Rattle.segment_steps.specs.Words.{Sizes}
+use Rattle.segment_pages.proofs.Root.{back_taken}
 use Rattle.segment_moves.proofs.Moved.{target_length}
 use Rattle.segment_forward.specs.Words.{Follows}
 use Rattle.segment_write.proofs.Stored.{Moves, moves, unmoved, told_asks, by_damaged, by_home, by_stay, by_again}
@@ -66,20 +63,6 @@ returns-then-not-points_back g c =
     by_damaged a.segment.now a.inventory.now a.id (m.sized a.change.now) (m.made a.change.now) a.t
     (sym c.points_back.ensures ∙ c.if-not-points_back.true)
 
-pub fits_home-requires : goal.fits_home-requires
-fits_home-requires g c = root_taken c.args.segment.now c.args.id (Redirect c.args.t) c.requires.root_is refl
-
-pub go_home-requires : goal.go_home-requires
-go_home-requires g c =
-    let a = c.args in
-    let free = ((seg_view a.segment.now).page (page_no a.id)).free_space in
-    let at = (goal.at.go_home-requires g c).After-fits_home in
-    record {
-      sizes = c.requires.sizes;
-      follows = follows g at;
-      size_bound = leb-true (g.C.Change.sized a.change.now) free (sym (fits g at) ∙ c.if-fits_home.true);
-    }
-
 pub returns-then-fits_home : goal.returns-then-fits_home
 returns-then-fits_home g c =
     let a = c.args in
@@ -88,17 +71,13 @@ returns-then-fits_home g c =
     ∙ by_home a.segment.now a.inventory.now a.id (m.sized a.change.now) (m.made a.change.now) a.t
     (follows g (goal.at.returns-then-fits_home g c).After-fits_home)
 
-pub on_target-requires : goal.on_target-requires
-on_target-requires g c =
-    record {
-      taken_on = back_taken c.args.segment.now c.args.id c.args.t (follows g (goal.at.on_target-requires g c).After-fits_home).back;
-      size_bound = c.requires.size_bound;
-    }
+pub on_target-requires-clause-taken_on : goal.on_target-requires-clause-taken_on
+on_target-requires-clause-taken_on g c =
+    back_taken c.args.segment.now c.args.id c.args.t (follows g (goal.at.on_target-requires-clause-taken_on g c).After-fits_home).back
 
-pub update_on-requires : goal.update_on-requires
-update_on-requires g c =
-    let q = told_asks c.args.segment.now _ _ _ _ _ (moved_there g (goal.at.update_on-requires g c).Then-on_target) c.args.inventory.now c.requires.sizes in
-    record { room = q.0; within = q.1 }
+pub update_on-requires-clause-within : goal.update_on-requires-clause-within
+update_on-requires-clause-within g c =
+    told_asks c.args.segment.now _ _ _ _ _ (moved_there g (goal.at.update_on-requires-clause-within g c).Then-on_target) c.args.inventory.now
 
 pub returns-then-on_target : goal.returns-then-on_target
 returns-then-on_target g c =
@@ -108,12 +87,11 @@ returns-then-on_target g c =
     (follows g (goal.at.returns-then-on_target g c).After-fits_home) (far g (goal.at.returns-then-on_target g c).Else-fits_home)
     c.on_target.new.segment _ (moved_there g (goal.at.returns-then-on_target g c).Then-on_target) c.update_on.ensures
 
-pub forward_again-requires : goal.forward_again-requires
-forward_again-requires g c =
+pub forward_again-requires-clause-follows : goal.forward_again-requires-clause-follows
+forward_again-requires-clause-follows g c =
     let a = c.args in
-    let q = subst (λ (l : List ℕ). Sizes l a.inventory.now × Follows l a.id a.t) (sym (same_there g (goal.at.forward_again-requires g c).Else-on_target))
-    (c.requires.sizes, follows g (goal.at.forward_again-requires g c).After-fits_home) in
-    record { sizes = q.0; follows = q.1; size_bound = c.requires.size_bound }
+    subst (λ (l : List ℕ). Follows l a.id a.t) (sym (same_there g (goal.at.forward_again-requires-clause-follows g c).Else-on_target))
+    (follows g (goal.at.forward_again-requires-clause-follows g c).After-fits_home)
 
 pub returns : goal.returns
 returns g c =

@@ -4,7 +4,6 @@ use Prim.Native.Nat.{ℕ}
 use Rattle.store.specs.Numbers.{page_no, slot_no}
 use Rattle.store.specs.Segment.{seg_view}
 use Rattle.store.specs.Laws.Lent.{TakenOn}
-use Rattle.segment_steps.specs.Words.{Sizes}
 use Rattle.segment_moves.proofs.Moved.{no_target}
 use Rattle.segment_write.proofs.Stored.{Moves, moves, unmoved, told_asks, by_page, by_forward}
 use Rattle.segment_write.proofs.store_ordinary.Goals.{Else-on_page, Then-on_page}
@@ -39,10 +38,9 @@ same_here g c =
     unmoved s p k c.requires.taken_on (m.sized a.change.now) (m.made a.change.now old)
     step.new.segment step.ensures.0 step.result step.ensures.1 c.if-on_page.false
 
-pub update_on-requires : goal.update_on-requires
-update_on-requires g c =
-    let q = told_asks c.args.segment.now _ _ _ _ _ (moved_here g (goal.at.update_on-requires g c).Then-on_page) c.args.inventory.now c.requires.sizes in
-    record { room = q.0; within = q.1 }
+pub update_on-requires-clause-within : goal.update_on-requires-clause-within
+update_on-requires-clause-within g c =
+    told_asks c.args.segment.now _ _ _ _ _ (moved_here g (goal.at.update_on-requires-clause-within g c).Then-on_page) c.args.inventory.now
 
 pub returns-then-on_page : goal.returns-then-on_page
 returns-then-on_page g c =
@@ -51,12 +49,11 @@ returns-then-on_page g c =
     by_page a.segment.now a.inventory.now a.id (m.sized a.change.now) (m.made a.change.now) 0 0
     c.on_page.new.segment _ (moved_here g (goal.at.returns-then-on_page g c).Then-on_page) c.update_on.ensures
 
-pub forward-requires : goal.forward-requires
-forward-requires g c =
+pub forward-requires-clause-taken_on : goal.forward-requires-clause-taken_on
+forward-requires-clause-taken_on g c =
     let a = c.args in
-    let q = subst (λ (l : List ℕ). Sizes l a.inventory.now × TakenOn l (page_no a.id) (slot_no a.id))
-    (sym (same_here g (goal.at.forward-requires g c).Else-on_page)) (c.requires.sizes, c.requires.taken_on) in
-    record { sizes = q.0; taken_on = q.1; size_bound = c.requires.id_value.1 }
+    subst (λ (l : List ℕ). TakenOn l (page_no a.id) (slot_no a.id)) (sym (same_here g (goal.at.forward-requires-clause-taken_on g c).Else-on_page))
+    c.requires.taken_on
 
 pub returns : goal.returns
 returns g c =

@@ -5,7 +5,6 @@ use native.Mathlib.Omega.{arith}
 use Rattle.std.proofs.lemmas.Result.{err_from_is_err_and}
 use Rattle.store.specs.Segment.{size_ok, inv_ok}
 use Rattle.segment_pages.proofs.Root.{root_is}
-use Rattle.segment_steps.proofs.After.{sizes}
 use Rattle.segment_write.proofs.Stored.{step_size, step_long, step_refused, step_by}
 use Rattle.segment_write.proofs.store_record.Goals.{After-root_of, Else-not-sizes_ok}
 use Rattle.segment_write.proofs.store_record.Given as given
@@ -31,14 +30,8 @@ returns-then-size-gt-LONGEST g c =
     step_long a.segment.now a.inventory.now a.id (m.sized a.change.now) (m.made a.change.now)
     (sizes_here g (goal.at.returns-then-size-gt-LONGEST g c).Else-not-sizes_ok) (omega (arith, c.if-size-gt-LONGEST.true, c.size.ensures))
 
-pub store_slot-requires : goal.store_slot-requires
-store_slot-requires g c =
-    let a = c.args in
-    record {
-      sizes = sizes a.segment.now a.inventory.now (sizes_here g (goal.at.store_slot-requires g c).Else-not-sizes_ok);
-      root_is = root_is a.segment.now a.id _ (sym c.root_of.ensures ∙ c.in_ok-slot.was);
-      size_bound = short g (goal.at.store_slot-requires g c).After-root_of;
-    }
+pub store_slot-requires-clause-root_is : goal.store_slot-requires-clause-root_is
+store_slot-requires-clause-root_is g c = root_is c.args.segment.now c.args.id _ (sym c.root_of.ensures ∙ c.in_ok-slot.was)
 
 pub returns-in_err-slot : goal.returns-in_err-slot
 returns-in_err-slot g c =

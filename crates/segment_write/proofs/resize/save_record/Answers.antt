@@ -18,10 +18,9 @@ inside c =
       slot_high a.segment.now (page_no a.id) on.whole on.sound (slot_no a.id) x.result (sym x.ensures.0),
     )
 
-pub slot_on-slot-requires : goal.slot_on-slot-requires
-slot_on-slot-requires c =
-    let on = c.requires.sound_on in
-    record { within = on.whole; p_bound = few_slots c.args.segment.now (page_no c.args.id) on.whole on.sound }
+pub slot_on-slot-requires-clause-p_bound : goal.slot_on-slot-requires-clause-p_bound
+slot_on-slot-requires-clause-p_bound c =
+    let on = c.requires.sound_on in few_slots c.args.segment.now (page_no c.args.id) on.whole on.sound
 
 pub save-requires : goal.save-requires
 save-requires c = let i = inside (goal.at.save-requires c).After-slot_on-slot in (
