@@ -8,7 +8,7 @@
 ghost use Rattle.std.specs.Prelude.{◌≡◌, cond, List, ℕ, ◌^◌, ◌<◌, eqb};
 ghost use Rattle.store.specs.Numbers.{id_of, page_no, slot_no};
 ghost use Rattle.store.specs.Segment.{insert_step, allocate_step, write_step, resize_step, erase_step, locate_step};
-ghost use Rattle.store.specs.Scan.{without, scan_step};
+ghost use Rattle.store.specs.Scan.{scan_step};
 ghost use Rattle.store.specs.ManyRows.{insert_rows_step};
 ghost use Rattle.store.specs.Repair.{repair_step};
 ghost use Rattle.store.specs.Report.{report_step};

@@ -1,5 +1,5 @@
 // Room on a page: "If the gap between directory and data start is too small for what is added, the page is compactified first; otherwise it isn't."
-ghost use Rattle.std.specs.Prelude.{◌≡◌, ◌≤◌, length};
+ghost use Rattle.std.specs.Prelude.{◌≤◌};
 ghost use Rattle.store.specs.Page.{view};
 ghost use Rattle.store.specs.Laws.Views.{Sound};
 ghost use Rattle.page_compactify.specs.Room.{Roomed};

@@ -1,5 +1,6 @@
 -- Words for the contracts: the head of a record, the passes over readings, and the rule by its two counts.
-use Rattle.std.specs.Prelude.{ℕ, zero, suc, ◌+◌, ◌/◌, ◌%◌, ◌^◌, ◌≡◌, Bool, true, false, Option, Some, None, Result, Ok, Err, cond, ◌&&◌, length, get_or, set, replicate, eqb, ltb, leb}
+use Rattle.std.specs.Prelude.{ℕ, zero, suc, ◌+◌, ◌/◌, ◌%◌, ◌^◌, ◌≡◌, Bool, true, false, Option, Some}
+use Rattle.std.specs.Prelude.{None, Result, Ok, Err, cond, ◌&&◌, length, get_or, set, replicate, eqb, ltb, leb}
 use mathlib.Core.List.{List, foldl}
 use Rattle.std.specs.Int.Bits.{bit_and, bit_or}
 use Rattle.store.specs.Numbers.{cut}

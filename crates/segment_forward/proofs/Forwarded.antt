@@ -89,7 +89,8 @@ module _ (s v : List ℕ) (i n : ℕ) (bs : List ℕ) (t : List ℕ) where
       → outcome y t v ≡ placing s v i n bs ex
       → Placed s i bs ex (find found_in (seg_view s) v (n + 8) ex) k t
   unfolding result
-  placed_at few size ex y k is e = go (find found_in (seg_view s) v (n + 8) ex) (found_by s v (n + 8) ex) (ap (λ (x : ResultOf ℕ Refusal). outcome x t v) (sym is) ∙ e)
+  placed_at few size ex y k is e = go (find found_in (seg_view s) v (n + 8) ex) (found_by s v (n + 8) ex)
+      (ap (λ (x : ResultOf ℕ Refusal). outcome x t v) (sym is) ∙ e)
     where
       go : (f : Found) → FoundBy s (n + 8) ex f → outcome (Ok k) t v ≡ result s (new_target v i bs f) → Placed s i bs ex f k t
       go (nowhere a) o e = let z : 0 ≡ a = ap (λ (r : Result). r.answer) e in absurd (omega arith)

@@ -1,7 +1,7 @@
 // One page of the segment lent on from its middle, to be read: the sizes that document 01 asks for, and what is seen of a page.
 #![tactic(auto)]
 
-ghost use Rattle.std.specs.Prelude.{◌≡◌, ◌&&◌, ◌+◌, ◌*◌, ◌≤◌, length};
+ghost use Rattle.std.specs.Prelude.{◌≡◌, ◌&&◌, ◌+◌, ◌*◌, ◌≤◌};
 ghost use Rattle.store.specs.Numbers.{cut, be};
 ghost use Rattle.store.specs.Page.{view, sound};
 ghost use Rattle.store.specs.Segment.{size_ok, inv_ok, page_of, seg_view, root_of, points_back};

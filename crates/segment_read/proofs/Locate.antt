@@ -113,7 +113,8 @@ module _ (s : List ℕ) (i : ℕ) (r : Result Part Refusal) (e : located r ≡ l
       (ap (cut s d.offset) k ∙ ap (λ (x : Result Part Refusal). held s (located x).part) (sym q))
 
   pub read_refused : (x : Refusal) → r ≡ Err x → no_read (number_of x) ≡ read_step s i
-  read_refused x q = same_read _ _ (ap (λ (y : Result Part Refusal). (located y).answer) (sym q)) (ap (λ (y : Result Part Refusal). held s (located y).part) (sym q))
+  read_refused x q = same_read _ _ (ap (λ (y : Result Part Refusal). (located y).answer) (sym q))
+      (ap (λ (y : Result Part Refusal). held s (located y).part) (sym q))
 
   pub read_inside : (d : Part) → r ≡ Ok d → d.offset + d.length ≤ length s
   read_inside d q = subst (Inside s) (sym e ∙ ap located q) (locate_inside s i)

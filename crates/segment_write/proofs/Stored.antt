@@ -148,7 +148,8 @@ module _ (s v : List ℕ) (i size : ℕ) (new : List ℕ → List ℕ) where
     abbrev pub new_place : Found
     new_place = find found_in (seg_view s) v (size + 8) (λ p. eqb p (page_no i) || eqb p (page_no j))
 
-    pub by_damaged : points_back (seg_view s) i j ≡ false → outcome (Err refusal.Damaged) s v ≡ result s (store_by found_in (seg_view s) v i size new (Redirect j))
+    pub by_damaged : points_back (seg_view s) i j ≡ false → outcome (Err refusal.Damaged) s v ≡ result s
+        (store_by found_in (seg_view s) v i size new (Redirect j))
     unfolding result
     by_damaged e = rw e
 

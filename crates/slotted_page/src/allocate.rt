@@ -1,5 +1,5 @@
 // Allocate on any sound page, but for the record's bytes: a fresh one is initialised first.
-ghost use Rattle.std.specs.Prelude.{◌≡◌, true, ◌≤◌, length};
+ghost use Rattle.std.specs.Prelude.{◌≡◌, true, ◌≤◌};
 ghost use Rattle.store.specs.Page.{view, sound};
 ghost use Rattle.store.specs.Answers.{given_place, allotted};
 ghost use Rattle.store.specs.PageSteps.{opened, put_head, initialised, allocate};

@@ -13,4 +13,5 @@ pub returns : goal.returns
 returns c =
     let e = c.in-Some.ensures in
     rw c.ok_or.ensures.value
-    (sum_told c.args.segment.now c.args.tally c.in-Some.figures (sym c.is_segment.ensures ∙ c.if-not-is_segment.false) e.0 e.1 c.checked_sum.result c.checked_sum.ensures)
+    (sum_told c.args.segment.now c.args.tally c.in-Some.figures (sym c.is_segment.ensures ∙ c.if-not-is_segment.false) e.0 e.1 c.checked_sum.result
+    c.checked_sum.ensures)

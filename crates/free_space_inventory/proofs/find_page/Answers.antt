@@ -25,4 +25,5 @@ read_entry-page-requires c = omega (arith, class_top c.in_ok-used.used)
 pub returns : goal.returns
 unfolding found_in
 returns c =
-    rw (le-ltb _ _ c.in_ok-used.ensures.0, ← c.in_ok-used.ensures.1, ← c.class_of.ensures, ← c.read_entry-page.ensures) (c.then_some.ensures ∙ choice (ltb c.read_entry-page.result c.args.n) c.read_entry-page.result)
+    rw (le-ltb _ _ c.in_ok-used.ensures.0, ← c.in_ok-used.ensures.1, ← c.class_of.ensures, ← c.read_entry-page.ensures)
+    (c.then_some.ensures ∙ choice (ltb c.read_entry-page.result c.args.n) c.read_entry-page.result)

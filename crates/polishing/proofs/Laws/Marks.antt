@@ -162,7 +162,8 @@ module _ (w : Wanted) where
   -- of reading j of the window
   module _ (few : w.rows ≤ 2048) (j : ℕ) (h : j < 64) where
     noted_row : (x : Marks) → Sized x → (q i : ℕ)
-        → Noted w.rows j x (with_head w x (Some (record { reading = q; row = i }))) (one (eqb q (nth w j) && leb w.rows i)) (λ k. one (eqb q (nth w j) && eqb i k))
+        → Noted w.rows j x (with_head w x (Some (record { reading = q; row = i }))) (one (eqb q (nth w j) && leb w.rows i))
+        (λ k. one (eqb q (nth w j) && eqb i k))
     noted_row x s q i = go (eqb (q / 64) w.window) (eqb q (nth w j)) refl refl
       where
         p : ℕ

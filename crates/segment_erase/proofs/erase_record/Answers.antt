@@ -30,4 +30,5 @@ returns-in_err-slot c =
 pub returns : goal.returns
 returns c =
     let a = c.args in
-    c.erase_slot.ensures ∙ step_by a.segment.now a.inventory.now a.id (sizes_here (goal.at.returns c).After-root_of) _ (sym c.root_of.ensures ∙ c.in_ok-slot.was)
+    c.erase_slot.ensures ∙ step_by a.segment.now a.inventory.now a.id (sizes_here (goal.at.returns c).After-root_of) _
+    (sym c.root_of.ensures ∙ c.in_ok-slot.was)

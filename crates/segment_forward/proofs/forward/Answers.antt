@@ -54,7 +54,8 @@ returns-in_err-target c =
     let p = err_from_is_err_and c.from_residual.result c.from_residual.ensures.1 in
     rw (p.1, p.2)
     (forward_refused s v a.id a.size bs c.place_target.new.segment _
-    (find found_in (seg_view s) v (a.size + 8) (root_or_old a.id a.id)) (ap (λ (x : ResultOf ℕ Refusal). outcome x c.place_target.new.segment v) (sym c.in_err-target.was) ∙ c.place_target.ensures) ∙ alone s v a.id a.size bs)
+    (find found_in (seg_view s) v (a.size + 8) (root_or_old a.id a.id))
+    (ap (λ (x : ResultOf ℕ Refusal). outcome x c.place_target.new.segment v) (sym c.in_err-target.was) ∙ c.place_target.ensures) ∙ alone s v a.id a.size bs)
 
 pub erase_for_redirect_on-requires : goal.erase_for_redirect_on-requires
 erase_for_redirect_on-requires c =

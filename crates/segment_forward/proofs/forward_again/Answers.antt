@@ -46,7 +46,8 @@ returns-in_err-new_target c =
     let p = err_from_is_err_and c.from_residual.result c.from_residual.ensures.1 in
     rw (p.1, p.2)
     (again_refused s v a.id a.size bs c.place_target.new.segment _ a.t
-    (find found_in (seg_view s) v (a.size + 8) (root_or_old a.id a.t)) (ap (λ (x : ResultOf ℕ Refusal). outcome x c.place_target.new.segment v) (sym c.in_err-new_target.was) ∙ c.place_target.ensures))
+    (find found_in (seg_view s) v (a.size + 8) (root_or_old a.id a.t))
+    (ap (λ (x : ResultOf ℕ Refusal). outcome x c.place_target.new.segment v) (sym c.in_err-new_target.was) ∙ c.place_target.ensures))
 
 pub set_redirect_on-requires : goal.set_redirect_on-requires
 set_redirect_on-requires c =

@@ -19,7 +19,7 @@ use Rattle.segment_steps.proofs.Written.{none_written, target_written}
 use Rattle.segment_forward.specs.Words.{root_or_old}
 use Rattle.segment_forward.proofs.Search.{named_fits, named_short, place_full, place_damaged, place_excluded, place_no_room}
 use Rattle.segment_forward.proofs.Search.{place_taken, is_root_lem, is_old, is_other}
-use Rattle.segment_forward.proofs.place_target.Goals.{After-allocate_on, After-write_target, After-unwrap, Else-page-old, Else-not-page_sound, In-Some, In-Some-allocate_on}
+use Rattle.segment_forward.proofs.place_target.Goals.{After-allocate_on, After-unwrap, Else-page-old, Else-not-page_sound, In-Some, In-Some-allocate_on}
 use Rattle.segment_forward.proofs.place_target.Goals.{then-page-id-via-then-page-id, then-page-id-via-else-page-id+then-page-old}
 use Rattle.segment_forward.proofs.place_target.Goals as goal
 

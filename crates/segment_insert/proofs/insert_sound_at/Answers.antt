@@ -32,7 +32,8 @@ returns-in_default g c =
 pub put-requires : goal.put-requires
 put-requires g c =
     let a = c.args in
-    place_inside a.segment.now a.inventory.now (g.R.Row.bytes a.row.now) a.p c.requires.sound_on.0 _ _ (asked g (goal.at.put-requires g c).After-allocate_on) _ _
+    place_inside a.segment.now a.inventory.now (g.R.Row.bytes a.row.now) a.p c.requires.sound_on.0 _ _
+    (asked g (goal.at.put-requires g c).After-allocate_on) _ _
     c.in-Some.is
 
 pub update_on-requires : goal.update_on-requires

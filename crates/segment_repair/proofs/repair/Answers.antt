@@ -88,7 +88,8 @@ returns-then-not-same-2 c =
     let b = passed_same (passed (goal.at.returns-then-not-same-2 c).After-same_inventory-same) false c.if-not-same-2.true in
     all_done c.args.segment.now c.args.inventory.now c.args.entries.now (right (goal.at.returns-then-not-same-2 c).Else-not-sizes_ok) c.if-not-same.count
     (is_count (goal.at.returns-then-not-same-2 c).Joined-not-same) c.if-entries-count.false b c.write_pages-at.result c.write_pages-at.ensures.2
-    c.write_pages-at.new.segment c.copy_from_slice.new.self c.count_pages-count.new.inventory c.write_pages-at.new.entries c.tell.new.entries c.write_pages-at.ensures.0
+    c.write_pages-at.new.segment c.copy_from_slice.new.self c.count_pages-count.new.inventory c.write_pages-at.new.entries c.tell.new.entries
+    c.write_pages-at.ensures.0
     c.write_pages-at.ensures.1 c.tell.ensures (passed (goal.at.returns-then-not-same-2 c).After-same_inventory-same).is c.copy_from_slice.ensures.after
 
 pub returns-else-not-same-2 : goal.returns-else-not-same-2

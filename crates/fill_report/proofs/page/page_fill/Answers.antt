@@ -14,7 +14,8 @@ abbrev seen : After-is_fresh → View
 seen c = view c.args.page.now
 
 pub returns-then-is_fresh : goal.returns-then-is_fresh
-returns-then-is_fresh c = rw (c.one_of.ensures, default_is _ c.default.ensures) (fills_fresh (seen (goal.at.returns-then-is_fresh c).After-is_fresh) (sym c.is_fresh.ensures ∙ c.if-is_fresh.true))
+returns-then-is_fresh c = rw (c.one_of.ensures, default_is _ c.default.ensures)
+    (fills_fresh (seen (goal.at.returns-then-is_fresh c).After-is_fresh) (sym c.is_fresh.ensures ∙ c.if-is_fresh.true))
 
 -- ---- in use
 not_fresh : (c : Else-is_fresh) → fresh (seen (goal.at.Else-is_fresh c).After-is_fresh) ≡ false

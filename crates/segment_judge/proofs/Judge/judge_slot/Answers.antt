@@ -42,7 +42,8 @@ returns-then-ne c =
 pub back_id_on-b-requires : goal.back_id_on-b-requires
 back_id_on-b-requires c =
     let a = c.args in
-    let w = target_inside a.self.now.segment.now a.p a.k _ _ (is (goal.at.back_id_on-b-requires c).In-Target) (kept (goal.at.back_id_on-b-requires c).Else-ne) in
+    let w = target_inside a.self.now.segment.now a.p a.k _ _ (is (goal.at.back_id_on-b-requires c).In-Target)
+    (kept (goal.at.back_id_on-b-requires c).Else-ne) in
     record { within = c.requires.0.within; offset_bound = omega (arith, w.0, w.1) }
 
 pub named-requires : goal.named-requires
@@ -69,7 +70,8 @@ returns-then-holds c =
 pub returns-else-holds : goal.returns-else-holds
 returns-else-holds c =
     let a = c.args in
-    deed_loose a.self.now.segment.now a.p a.k _ (sym c.in-Redirect.is ∙ slot_is (goal.at.returns-else-holds c).After-get_slot) _ c.holds.ensures c.if-holds.false
+    deed_loose a.self.now.segment.now a.p a.k _ (sym c.in-Redirect.is ∙ slot_is (goal.at.returns-else-holds c).After-get_slot) _ c.holds.ensures
+    c.if-holds.false
 
 pub returns-then-named : goal.returns-then-named
 returns-then-named c =

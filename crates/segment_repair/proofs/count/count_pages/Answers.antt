@@ -21,7 +21,15 @@ count_page-c-requires c = omega (arith, c.pages-n.ensures)
 pub overflow_add-entries : goal.overflow_add-entries
 overflow_add-entries c =
     let u = standing c.args.judge.now.segment.now in
-    omega (arith, seg_most u c.loop-p.p, page_most u c.loop-p.p, c.count_page-c.ensures.entries, c.loop-p.invariant.0, c.pages-n.ensures, c.args.judge.now.known.few)
+    omega (
+      arith,
+      seg_most u c.loop-p.p,
+      page_most u c.loop-p.p,
+      c.count_page-c.ensures.entries,
+      c.loop-p.invariant.0,
+      c.pages-n.ensures,
+      c.args.judge.now.known.few,
+    )
 
 pub update_page_size-requires : goal.update_page_size-requires
 update_page_size-requires c =
