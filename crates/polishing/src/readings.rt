@@ -7,6 +7,7 @@ ghost use Rattle.polishing.specs.Polishing.{whole_in, words, word, rows_named, m
 ghost use Rattle.polishing.specs.Words.{windows_of, edition_number, RefusedBy};
 
 use crate::RuleRefusal;
+use crate::rows::MOST_ROWS;
 use crate::rule::{Counts, Edition};
 use crate::wanted::Wanted;
 use crate::windows::{WINDOWS, marked_windows};

@@ -1,5 +1,5 @@
 // A line of a trace: "a letter and decimal numbers, with one blank between them".
-ghost use Rattle.std.specs.Prelude.{◌≤◌, length, IfSome};
+ghost use Rattle.std.specs.Prelude.{◌≤◌, length};
 
 fn digit_of(b: u8) -> Option<u64> {
     match b {
@@ -74,9 +74,7 @@ pub fn letter(text: &[u8]) -> Option<u8> {
 }
 
 // How many numbers stand before the five of the result, where the letter is of a call.
-pub fn arguments_of(letter: u8) -> Option<u64>
-    ensures { IfSome result (λ n. n ≤ 3) }
-{
+pub fn arguments_of(letter: u8) -> Option<u8> {
     match letter {
         b'N' => Some(0),
         b'A' | b'R' | b'E' => Some(1),
@@ -87,10 +85,9 @@ pub fn arguments_of(letter: u8) -> Option<u64>
 }
 
 // Whether these five numbers stand after so many others.
-pub fn has(text: &[u8], after: u64, five: &[u64; 5]) -> bool
-    requires { after ≤ 3 }
-{
-    (after + 1..after + 6)
+pub fn has(text: &[u8], after: u8, five: &[u64; 5]) -> bool {
+    let first = u64::from(after) + 1;
+    (first..first + 5)
         .zip(five)
         .all(|(k, n)| number(text, k) == *n)
 }

@@ -76,7 +76,7 @@ fn call(
     let Some(at) = line::letter(text).and_then(line::arguments_of) else {
         return refuse(rt, s, text);
     };
-    if line::count(text) != Some(at + 5) {
+    if line::count(text) != Some(u64::from(at) + 5) {
         return refuse(rt, s, text);
     }
     let r = calls::perform(segment, inventory, text).unwrap_or(calls::NO_CALL);
