@@ -16,7 +16,7 @@ fn checked_classes(a: [u64; 16], b: [u64; 16]) -> Option<[u64; 16]>
     Some(sum)
 }
 
-// Figure by figure.
+// Figure by figure, as the C header names each (include/hekatosuy.h).
 pub fn checked_sum(a: Tally, b: Tally) -> Option<Tally>
     ensures { Summed numbers (added (numbers a) (numbers b)) result }
 {
