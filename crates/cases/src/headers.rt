@@ -1,5 +1,6 @@
 // Document 02, Ask 3: a page that has one of seven headers and EE in all its other bytes. What each call answers on it, and its header
 // afterwards.
+// Segment and inventory are lent as C lends them, and answers are C's numbers.
 use print::{end_line, named, say};
 use std::io;
 use store::PAGE_SIZE;

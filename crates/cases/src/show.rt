@@ -1,4 +1,5 @@
 // Each call with what it answers, and what a page's header says afterwards.
+// Segment and inventory are lent as C lends them, and answers are C's numbers.
 use print::{end_line, named, say};
 use std::io;
 use store::{IDS_A_PAGE, PAGE_SIZE};

@@ -1,5 +1,6 @@
 // The bench exchange file: "Benches pass readings by file." The mark and the form of a file are known here alone; what of a page is a
 // reading (`parts`), for crates above too.
+// Segment and inventory stay two parameters, as C lends them, and what is known of them a clause: no type keeps a fact beside a `&mut`.
 #![tactic(auto)]
 
 mod format;

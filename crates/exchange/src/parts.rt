@@ -30,6 +30,7 @@ fn part_at(offset: usize, length: usize) -> Part
 
 // As the scan gives it: a target's record without the back id; free slots and redirects are no records. For crates above; it is no
 // call for users.
+// That the slot's numbers fit is a clause: as layout::slots says.
 pub fn part_of(s: Slot) -> Part
     requires { Codable s × (is_target s ≡ true → 8 ≤ len s) }
     ensures { result ≡ part_of_slot s }

@@ -1,5 +1,6 @@
 // The inventory of free space: a nibble for each page, and for each class the lowest page that suits. How long it is and how many
 // pages it counts is its caller's: it needs `Room` for them.
+// That there is room for the pages stays a clause of each function: no type keeps a fact beside a `&mut`.
 #![tactic(auto)]
 
 ghost use Rattle.std.specs.Prelude.{◌≡◌, ◌+◌, ◌-◌, ◌*◌, ◌/◌, ◌<◌, ◌≤◌, length};

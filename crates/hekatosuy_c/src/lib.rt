@@ -3,6 +3,7 @@
 //
 // A slice is a pointer and a length. What a call hands back beside its number it writes through a pointer to one u64; the fill
 // report, through a pointer to a tally.
+// Each slice is its own parameter, and answers are numbers: so C has them.
 #![tactic(auto)]
 
 ghost use Rattle.std.specs.Prelude.{◌≡◌};

@@ -1,4 +1,5 @@
 // The slot codec, and a slot of the page as the view has it.
+// That a slot's numbers fit an entry stays a clause: an enum keeps no ghost field, and fields of 32 bits would be widened at each use.
 ghost use Rattle.std.specs.Prelude.{◌≡◌, ◌+◌, ◌*◌, ◌^◌, ◌<◌, length};
 ghost use Rattle.store.specs.Numbers.{put};
 ghost use Rattle.store.specs.Slots.{slot_word, slot_bytes, slot_of};

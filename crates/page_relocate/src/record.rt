@@ -1,5 +1,6 @@
 // The record of a slot at another size, and its bytes. Write passes the new bytes; resize keeps the old ones, cut off or filled up with zeros.
 // Each is the move and then one write: with the write as a closure, its contract would be longer than both.
+// That the page's slot is in use stays a clause of each function: no type keeps a fact beside a `&mut`.
 ghost use Rattle.std.specs.Prelude.{◌≡◌, ◌++◌, ◌+◌, ◌≤◌, length, drop};
 ghost use Rattle.store.specs.Numbers.{to_be, fit};
 ghost use Rattle.store.specs.Page.{view};

@@ -1,4 +1,5 @@
 // Relocate: the record's place, and its old bytes there.
+// That the page's slot is in use stays a clause of each function: no type keeps a fact beside a `&mut`.
 ghost use Rattle.std.specs.Prelude.{◌≡◌, ◌+◌, ◌≤◌, ◌<◌};
 ghost use Rattle.store.specs.Slots.{len};
 ghost use Rattle.store.specs.Page.{view};

@@ -1,4 +1,5 @@
 // Relocate but for the record's bytes: room is made, and the header and the slot's entry are written.
+// That the page's slot is in use stays a clause of each function: no type keeps a fact beside a `&mut`.
 ghost use Rattle.std.specs.Prelude.{◌≡◌, true, ◌+◌, ◌-◌, ◌*◌, ◌≤◌, ◌<◌, ◌^◌, length};
 ghost use Rattle.store.specs.Numbers.{put};
 ghost use Rattle.store.specs.Slots.{slot_bytes, placed, is_record, len};

@@ -1,4 +1,5 @@
 // Each call of a trace, made on the lent bytes: its answer and two numbers.
+// Segment and inventory are lent as C lends them, and answers are C's numbers.
 use crate::line::number;
 use crate::{line, made};
 

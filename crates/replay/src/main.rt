@@ -1,5 +1,6 @@
 // Replays a trace (oracle/README.md) from standard input on the store: makes its calls and compares answer, numbers and digests after
 // each. Prints how much was replayed, or the first line that differs and what came instead.
+// Segment and inventory are lent as C lends them, and answers are C's numbers.
 #![tactic(auto)]
 
 mod calls;
@@ -143,6 +144,7 @@ fn replay_lines(
 ) -> io::Result<Option<State>> {
     let mut s = before;
     let mut at: usize = 0;
+    // By hand: std's slices have no split.
     while at < text.len() {
         let e = line::line_end(text, at);
         s = replay_line(rt, s, &text[at..e], segment, inventory)?;

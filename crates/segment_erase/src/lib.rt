@@ -1,4 +1,5 @@
 // Erase: the record where it stands, or through a redirect the root's slot and its target.
+// Segment and inventory stay two parameters, as C lends them, and what is known of them a clause: no type keeps a fact beside a `&mut`.
 #![tactic(auto)]
 
 ghost use Rattle.std.specs.Prelude.{◌≡◌};

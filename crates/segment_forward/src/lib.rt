@@ -1,5 +1,6 @@
 // "Last comes a new target of size + 8 on another page, with the root as redirect"; and "moving home frees the target".
 // `bytes` and `size` go on as they are to page_relocate, which takes the two: a struct would be made here and taken apart in each call.
+// Segment and inventory stay two parameters, as C lends them, and what is known of them a clause: no type keeps a fact beside a `&mut`.
 #![tactic(auto)]
 
 ghost use Rattle.std.specs.Prelude.{◌≡◌, ◌||◌, [], ◌+◌, ◌≤◌, eqb, leb};

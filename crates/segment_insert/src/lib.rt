@@ -1,4 +1,5 @@
 // Insert and allocate: "Insert asks the inventory and allocates there; a fresh page is initialised first." Many rows in one call: rows.rt.
+// Segment and inventory stay two parameters, as C lends them, and what is known of them a clause: no type keeps a fact beside a `&mut`.
 #![tactic(auto)]
 
 pub mod row;

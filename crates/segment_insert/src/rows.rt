@@ -2,6 +2,7 @@
 //
 // A page is not looked at anew for each row. A step leaves a sound page sound and changes no other page, in damaged segments too; so the
 // answers are those of one at a time.
+// Segment and inventory, and what is known of them: two parameters and clauses, as lib.rt says.
 ghost use Rattle.std.specs.Prelude.{◌≡◌, true, ◌&&◌, ◌≤◌, length, eqb};
 ghost use Rattle.store.specs.Page.{sound};
 ghost use Rattle.store.specs.Segment.{seg_view, size_ok, inv_ok, insert_step};

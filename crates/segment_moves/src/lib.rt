@@ -1,5 +1,6 @@
 // One page of the segment lent on from its middle, to be written by write and resize: a record of page p at another size, and a root that
 // becomes a redirect. Allocate and erase: segment_steps, which says why each step splits the segment itself.
+// That the slot is taken stays a clause of each function: no type keeps a fact beside a `&mut`.
 #![tactic(auto)]
 
 ghost use Rattle.std.specs.Prelude.{◌≡◌, ◌++◌, ◌+◌, ◌≤◌, ◌<◌, ◌^◌, length, drop};

@@ -31,6 +31,7 @@ pub fn sizes_ok(segment: &[u8], inventory: &[u8]) -> bool
 }
 
 // Page p, to be read.
+// That page p is there stays a clause: a type of page numbers would have to lend the segment that they are of, which steps write to.
 pub fn page_of(segment: &[u8], p: usize) -> &Page
     requires { Within segment.now p }
     ensures { result.now ≡ page_of segment.now p }

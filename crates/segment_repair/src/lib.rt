@@ -1,5 +1,6 @@
 // Repair of a segment and its inventory: "After a crash .. I want what can be kept", with an entry for each slot, header and inventory that
 // changed. All changes are counted before the first is written.
+// Segment and inventory stay two parameters, as C lends them, and what is known of them a clause: no type keeps a fact beside a `&mut`.
 #![tactic(auto)]
 
 mod count;

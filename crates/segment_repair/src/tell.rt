@@ -49,6 +49,7 @@ impl From<What> for u64 {
 }
 
 // Entry number `at`: three words.
+// List and number stay two parameters: as write.rt says.
 pub fn tell(entries: &mut [u64], at: usize, page: usize, what: What)
     requires { 3 * at + 3 ≤ length entries.old }
     ensures { entries.new ≡ put entries.old (3 * at) (words (entry_of page what ∷ [])) }

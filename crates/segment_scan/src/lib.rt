@@ -33,6 +33,7 @@ fn lies_at(d: usize, o: usize, l: usize) -> bool
 
 // Whether a slot's record lies as on a sound page with data start d.
 #[tactic(auto, unfolding(crate::specs::Pages::well_at))]
+// That the slot's numbers fit is a clause: as layout::slots says.
 fn lies_well(d: usize, s: Slot) -> bool
     requires { Codable s }
     ensures { result ≡ well_at d s }

@@ -1,4 +1,5 @@
 // What write and resize differ in: the record's new size and bytes, and where these come from when it moves to another page.
+// Segment and inventory, and what is known of them: two parameters and clauses, as lib.rt says.
 ghost use Rattle.std.specs.Prelude.{◌≡◌, ◌||◌, ◌++◌, ◌+◌, ◌≤◌, ℕ, List, length, drop, eqb};
 ghost use Rattle.store.specs.Numbers.{to_be, page_no, slot_no};
 ghost use Rattle.store.specs.PageSteps.{relocate};

@@ -1,4 +1,5 @@
 // Write and resize: the root's page first, then a redirect's target, then a new target on another page. What the two differ in: change.rt.
+// Segment and inventory stay two parameters, as C lends them, and what is known of them a clause: no type keeps a fact beside a `&mut`.
 #![tactic(auto)]
 
 mod change;

@@ -1,4 +1,5 @@
 // Resize: the record keeps its bytes, cut off or filled up with zeros. They are saved by value only where they move to another page.
+// Segment and inventory, and what is known of them: two parameters and clauses, as lib.rt says.
 ghost use Rattle.std.specs.Prelude.{◌≡◌, ◌≤◌, take, drop};
 ghost use Rattle.store.specs.Numbers.{fit, page_no, slot_no};
 ghost use Rattle.store.specs.Slots.{len};

@@ -1,4 +1,5 @@
 // Write: the record becomes the given bytes.
+// Segment and inventory, and what is known of them: two parameters and clauses, as lib.rt says.
 ghost use Rattle.std.specs.Prelude.{◌≡◌, length, refl};
 ghost use Rattle.store.specs.Segment.{write_step};
 ghost use Rattle.store.specs.Answers.{outcome};

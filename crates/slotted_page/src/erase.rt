@@ -1,4 +1,5 @@
 // Erase, and erase for a redirect.
+// That the page's slot is in use stays a clause of each function: no type keeps a fact beside a `&mut`.
 ghost use Rattle.std.specs.Prelude.{◌≡◌, cond, ◌+◌, ◌*◌, ◌≤◌, ◌<◌, ◌^◌, min, eqb, length};
 ghost use Rattle.store.specs.Numbers.{put};
 ghost use Rattle.store.specs.Slots.{len, slot_bytes};
