@@ -1,4 +1,5 @@
 // Each call with what it answers, and what a page's header says afterwards.
+use layout::header::Header;
 use print::{end_line, named, say};
 use std::io;
 use store::{IDS_A_PAGE, PAGE_SIZE};
@@ -103,10 +104,12 @@ fn print_header(rt: &impl Print, page: &[u8]) -> io::Result<()> {
     let Some(page) = page.as_array() else {
         return Ok(());
     };
-    let count = layout::header::get_slot_count(page);
-    let first = layout::header::get_first_free_slot(page);
-    let start = layout::header::get_data_start(page);
-    let space = layout::header::get_free_space(page);
+    let Header {
+        count,
+        first,
+        start,
+        space,
+    } = Header::of(page);
     println!(rt; "  count {count}, first free {first}, data start {start}, free {space}")
 }
 

@@ -17,4 +17,4 @@ pub returns : goal.returns
 returns c =
     let a = c.args in
     written_lost a.segment.now a.p c.requires.within.0 c.requires.within.1 (lends (goal.at.returns c).After-unwrap) a.entries.now c.tell.new.entries
-    c.set_header.new.page a.at c.set_header.ensures c.tell.ensures
+    c.write.new.page a.at c.write.ensures c.tell.ensures
