@@ -8,7 +8,7 @@ ghost use Rattle.layout.specs.Head.{Heads};
 use store::{ENTRY, HEADER, PAGE_SIZE, Page, ROOM};
 
 // The four numbers, which a step reads and writes together.
-#[derive(Clone, Copy, Debug, PartialEq, Eq)]
+#[derive(Clone, Copy, Debug, Default, PartialEq, Eq)]
 pub struct Header {
     pub count: usize,
     pub first: usize,

@@ -68,13 +68,7 @@ fn write_lost(segment: &mut [u8], p: usize, entries: &mut [u64], at: usize) -> u
     ensures { Written segment.old segment.new entries.old entries.new p at result }
 {
     let rest = segment.split_at_mut(p * PAGE_SIZE).1;
-    Header {
-        count: 0,
-        first: 0,
-        start: 0,
-        space: 0,
-    }
-    .write(rest.first_chunk_mut().unwrap());
+    Header::default().write(rest.first_chunk_mut().unwrap());
     tell::tell(entries, at, p, What::HeaderZeroed);
     at + 1
 }
