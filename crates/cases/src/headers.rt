@@ -1,6 +1,7 @@
 // Document 02, Ask 3: a page that has one of seven headers and EE in all its other bytes. What each call answers on it, and its header
 // afterwards.
 // Segment and inventory are lent as C lends them, and answers are C's numbers.
+use layout::header::Header;
 use print::{end_line, named, say};
 use std::io;
 use store::PAGE_SIZE;
@@ -74,7 +75,13 @@ fn calls(rt: &impl Print, segment: &mut [u8], inventory: &mut [u8]) -> io::Resul
 fn row(rt: &impl Print, first: usize, start: usize, space: usize) -> io::Result<()> {
     let mut segment = [0xEEu8; PAGE_SIZE];
     let mut inventory = [0u8; PAGE_SIZE];
-    layout::header::set_header(&mut segment, 0, first, start, space);
+    Header {
+        count: 0,
+        first,
+        start,
+        space,
+    }
+    .write(&mut segment);
     say(rt, b"header")?;
     hex(rt, &segment[0..12])?;
     end_line(rt)?;

@@ -1,5 +1,6 @@
 // Each call with what it answers, and what a page's header says afterwards.
 // Segment and inventory are lent as C lends them, and answers are C's numbers.
+use layout::header::Header;
 use print::{end_line, named, say};
 use std::io;
 use store::{IDS_A_PAGE, PAGE_SIZE};
@@ -104,10 +105,12 @@ fn print_header(rt: &impl Print, page: &[u8]) -> io::Result<()> {
     let Some(page) = page.as_array() else {
         return Ok(());
     };
-    let count = layout::header::get_slot_count(page);
-    let first = layout::header::get_first_free_slot(page);
-    let start = layout::header::get_data_start(page);
-    let space = layout::header::get_free_space(page);
+    let Header {
+        count,
+        first,
+        start,
+        space,
+    } = Header::of(page);
     println!(rt; "  count {count}, first free {first}, data start {start}, free {space}")
 }
 

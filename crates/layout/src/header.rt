@@ -1,10 +1,52 @@
-// The header: its four numbers as the view has them, and all of it written.
-ghost use Rattle.std.specs.Prelude.{◌≡◌, ◌<◌};
+// The header: its four numbers as the view has them, each and together, and all of it written.
+ghost use Rattle.std.specs.Prelude.{◌≡◌, ◌+◌, ◌-◌, ◌*◌, ◌≤◌, ◌<◌};
 ghost use Rattle.store.specs.Numbers.{put};
 ghost use Rattle.store.specs.Page.{view, fresh};
 ghost use Rattle.layout.specs.Run.{head_of};
+ghost use Rattle.layout.specs.Head.{Heads};
 
-use store::{PAGE_SIZE, Page, ROOM};
+use store::{ENTRY, HEADER, PAGE_SIZE, Page, ROOM};
+
+// The four numbers, which a step reads and writes together.
+#[derive(Clone, Copy, Debug, Default, PartialEq, Eq)]
+pub struct Header {
+    pub count: usize,
+    pub first: usize,
+    pub start: usize,
+    pub space: usize,
+}
+
+impl Header {
+    // Those that the page says.
+    pub fn of(page: &Page) -> Header
+        ensures { Heads result (view page.now) }
+    {
+        Header {
+            count: get_slot_count(page),
+            first: get_first_free_slot(page),
+            start: get_data_start(page),
+            space: get_free_space(page),
+        }
+    }
+
+    #[tactic(auto, using(crate::proofs::Codec::header_put))]
+    pub fn write(self, page: &mut Page)
+        ensures { page.new ≡ put page.old 0 (head_of self.count self.first self.start self.space) }
+    {
+        crate::put_u16(page, 0, self.count);
+        crate::put_u16(page, 2, self.first);
+        crate::put_u32(page, 4, self.start);
+        crate::put_u32(page, 8, self.space);
+    }
+
+    // The bytes between the directory and data start.
+    pub fn gap(self) -> usize
+        requires { 12 + 8 * self.count ≤ self.start }
+        ensures { result ≡ self.start - (12 + 8 * self.count) }
+    {
+        self.start - (HEADER + ENTRY * self.count)
+    }
+}
 
 #[tactic(auto, unfolding(store::specs::Page::view))]
 pub fn get_slot_count(page: &Page) -> usize
@@ -38,22 +80,14 @@ pub fn get_free_space(page: &Page) -> usize
 pub fn is_fresh(page: &Page) -> bool
     ensures { result ≡ fresh (view page.now) }
 {
-    let header = (
-        get_slot_count(page),
-        get_first_free_slot(page),
-        get_data_start(page),
-        get_free_space(page),
-    );
-    matches!(header, (0, 0, 0, 0) | (0, 0, PAGE_SIZE, ROOM))
-}
-
-// The four numbers of the header.
-#[tactic(auto, using(crate::proofs::Codec::header_put))]
-pub fn set_header(page: &mut Page, c: usize, f: usize, d: usize, n: usize)
-    ensures { page.new ≡ put page.old 0 (head_of c f d n) }
-{
-    crate::put_u16(page, 0, c);
-    crate::put_u16(page, 2, f);
-    crate::put_u32(page, 4, d);
-    crate::put_u32(page, 8, n);
+    let Header {
+        count,
+        first,
+        start,
+        space,
+    } = Header::of(page);
+    matches!(
+        (count, first, start, space),
+        (0, 0, 0, 0) | (0, 0, PAGE_SIZE, ROOM)
+    )
 }

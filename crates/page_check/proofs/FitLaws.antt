@@ -18,8 +18,9 @@ use Rattle.store.specs.Laws.Edits.{Apart}
 use Rattle.store.specs.Laws.Views.{Sound}
 use Rattle.store.proofs.Laws.Views.{apart_flip}
 use Rattle.store.proofs.Laws.SoundPage.{used_not_fresh, sound_page, sound_test, past_free, page_codable}
-use Rattle.page_check.specs.Fit.{Allowed, Runs, RecordsFit, Total, Heads, HeaderFits}
-use Rattle.page_check.specs.declared.header.Header.{Header}
+use Rattle.page_check.specs.Fit.{Allowed, Runs, RecordsFit, Total, HeaderFits}
+use Rattle.layout.specs.Head.{Heads}
+use Rattle.layout.specs.declared.header.Header.{Header}
 use Rattle.page_check.proofs.SlotLaws.{refuted}
 
 -- ---- one more slot
@@ -60,8 +61,8 @@ pub record Read (p : List ℕ) (n f d : ℕ) : Type 0 where
   pub first : f ≡ (view p).first_free
   pub start : d ≡ (view p).data_start
 
-pub read_of : {p : List ℕ} {h : Header} → length p ≡ 16384 → Heads (view p) h → Read p h.slots h.first_free h.data_start
-read_of w e = record { whole = w; slots = e.slots; first = e.first; start = e.start }
+pub read_of : {p : List ℕ} {h : Header} → length p ≡ 16384 → Heads h (view p) → Read p h.count h.first h.start
+read_of w e = record { whole = w; slots = e.count; first = e.first; start = e.start }
 
 module _ {p : List ℕ} {n f d : ℕ} (a : Read p n f d) where
   pub sound_header : Sound (view p) → HeaderFits (view p) n f d

@@ -7,7 +7,7 @@ use Rattle.store.specs.Laws.Edits.{Apart}
 use Rattle.store.specs.declared.Part.{Part}
 use Rattle.store.specs.declared.Slot.{Slot}
 use Rattle.store.specs.declared.Slot.TheVariants.{Free}
-use Rattle.page_check.specs.declared.header.Header.{Header}
+use Rattle.layout.specs.declared.header.Header.{Header}
 
 -- the answer is yes just if A holds
 pub record Tells (r : Bool) (A : Type 0) : Type 0 where
@@ -42,19 +42,13 @@ pub record Total (v : View) (n t : ℕ) : Type 0 where
   pub is : t ≡ sum n (λ k. len (v.at k))
   pub small : t ≤ 16384 * n
 
--- what is read of the header
-pub record Heads (v : View) (h : Header) : Type 0 where
-  pub slots : h.slots ≡ v.slot_count
-  pub first : h.first_free ≡ v.first_free
-  pub start : h.data_start ≡ v.data_start
-
 -- the records of all slots fit, and t is the sum of their lengths
 abbrev pub Sums : View → Header → ℕ → Type 0
-Sums v h t = RecordsFit v h.slots h.first_free h.data_start × Total v h.slots t
+Sums v h t = RecordsFit v h.count h.first h.start × Total v h.count t
 
 -- what a pass over all slots answers: that sum, if they fit
 abbrev pub Passed : View → Header → Option ℕ → Type 0
-Passed v h r = MatchOption r (RecordsFit v h.slots h.first_free h.data_start → ⊥) (Sums v h)
+Passed v h r = MatchOption r (RecordsFit v h.count h.first h.start → ⊥) (Sums v h)
 
 -- The header's numbers fit, and slot f is free; one that is not counted is seen as free.
 pub record HeaderFits (v : View) (n f d : ℕ) : Type 0 where

@@ -12,13 +12,13 @@ ghost use Rattle.store.specs.Page.{view, sound};
 ghost use Rattle.layout.specs.Run.{Counted};
 ghost use Rattle.page_check.specs.Fit.{Passed};
 
-use header::Header;
+use layout::header::Header;
 use store::{ENTRY, Page, ROOM};
 
 // The sum of the records' lengths, if they lie well and apart. Where they lie in the order of their slots, as inserts leave them, no map
 // is needed; where they do not, the map decides.
 fn records_fit(page: &Page, header: Header) -> Option<usize>
-    requires { Counted page.now header.slots }
+    requires { Counted page.now header.count }
     ensures { Passed (view page.now) header result }
 {
     let swept = sweep::sweep(page, header);
@@ -35,14 +35,14 @@ pub fn is_sound(page: &Page) -> bool
     ensures { result ≡ sound (view page.now) }
 {
     let header = Header::of(page);
-    if header.slots == 0 {
+    if header.count == 0 {
         return layout::header::is_fresh(page);
     }
-    if !header.fits(page) {
+    if !header::fits(header, page) {
         return false;
     }
     match records_fit(page, header) {
-        Some(total) => layout::header::get_free_space(page) + ENTRY * header.slots + total == ROOM,
+        Some(total) => header.space + ENTRY * header.count + total == ROOM,
         None => false,
     }
 }

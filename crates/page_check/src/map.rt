@@ -7,7 +7,7 @@ ghost use Rattle.layout.specs.Run.{Counted};
 ghost use Rattle.page_check.specs.Fit.{Tells, Passed};
 ghost use Rattle.page_check.specs.Map.{Mask, Clear, Claims, Blank};
 
-use crate::header::Header;
+use layout::header::Header;
 use store::{PAGE_SIZE, Page, Part};
 
 // One bit for each byte of a page.
@@ -83,13 +83,13 @@ fn claim_record(used: &mut Map, d: usize, run: Part) -> bool
 // most 16,384; a target has length 8 or more": every slot is looked at, so a no is as good as a yes. A loop beside sweep's: in a pass
 // for both, each would have to say by a law what its own state, the lowest offset or the map, holds of the slots before.
 pub fn claim_all(page: &Page, header: Header, used: &mut Map) -> Option<usize>
-    requires { Counted page.now header.slots × Blank used.old }
+    requires { Counted page.now header.count × Blank used.old }
     ensures { Passed (view page.now) header result }
 {
     let mut total = 0;
-    for k in 0..header.slots {
-        let run = crate::slot::run_at(page, k, header.first_free, PAGE_SIZE)?;
-        if !claim_record(used, header.data_start, run) {
+    for k in 0..header.count {
+        let run = crate::slot::run_at(page, k, header.first, PAGE_SIZE)?;
+        if !claim_record(used, header.start, run) {
             return None;
         }
         total += run.length;

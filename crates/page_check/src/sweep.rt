@@ -4,21 +4,21 @@ ghost use Rattle.store.specs.Page.{view};
 ghost use Rattle.layout.specs.Run.{Counted};
 ghost use Rattle.page_check.specs.Fit.{Sums};
 
-use crate::header::Header;
+use layout::header::Header;
 use store::{PAGE_SIZE, Page};
 
 // The sum of the records' lengths, if they fit. It may only say yes: records in another order can lie well too. `low` is where the last
 // record begins, so what ends there overlaps none before it.
 pub fn sweep(page: &Page, header: Header) -> Option<usize>
-    requires { Counted page.now header.slots }
+    requires { Counted page.now header.count }
     ensures { IfSome result (Sums (view page.now) header) }
 {
     let mut low = PAGE_SIZE;
     let mut total = 0;
-    for k in 0..header.slots {
-        let run = crate::slot::run_at(page, k, header.first_free, low)?;
+    for k in 0..header.count {
+        let run = crate::slot::run_at(page, k, header.first, low)?;
         low = run.offset;
         total += run.length;
     }
-    (header.data_start <= low).then_some(total)
+    (header.start <= low).then_some(total)
 }

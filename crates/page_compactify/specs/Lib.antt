@@ -1,3 +1,2 @@
-pub mod Head
 pub mod Keys
 pub mod Room

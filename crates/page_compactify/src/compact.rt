@@ -6,8 +6,8 @@ ghost use Rattle.store.specs.PageSteps.{pack, compactify, run};
 ghost use Rattle.store.specs.Laws.Views.{Sound};
 ghost use Rattle.page_compactify.specs.Keys.{kind_in, len_in, live, Movable, move_key, slots_of, Ready};
 
-use crate::head::Header;
 use crate::table::{Table, is_target, len_in, offset_in, slot_in};
+use layout::header::Header;
 use store::{PAGE_SIZE, Page, Slot};
 
 // The slot of key e's record at d.

@@ -2,6 +2,5 @@
 #![tactic(auto)]
 
 mod compact;
-pub mod head;
 pub mod room;
 mod table;

@@ -4,7 +4,7 @@ ghost use Rattle.store.specs.Page.{view};
 ghost use Rattle.store.specs.Laws.Views.{Sound};
 ghost use Rattle.page_compactify.specs.Room.{Roomed};
 
-use crate::head::Header;
+use layout::header::Header;
 use store::Page;
 
 // A gap of n bytes, by compactify where it has to be made; the data start.

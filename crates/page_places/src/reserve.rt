@@ -7,7 +7,7 @@ ghost use Rattle.store.specs.PageSteps.{next_free, allocate};
 ghost use Rattle.store.specs.Laws.Lent.{UsedPage};
 ghost use Rattle.page_places.specs.Words.{page_bare, Inside, PastEntry};
 
-use page_compactify::head::Header;
+use layout::header::Header;
 use store::{ENTRY, Page, Place, Slot};
 
 // The lowest free slot from k on, or the count.

@@ -7,7 +7,7 @@ ghost use Rattle.store.specs.PageSteps.{gap, relocate};
 ghost use Rattle.store.specs.Laws.Lent.{UsedSlot};
 ghost use Rattle.page_relocate.specs.Words.{page_moved, was_moved};
 
-use page_compactify::head::Header;
+use layout::header::Header;
 use store::{PAGE_SIZE, Page, Place, Slot};
 
 // Relocate to a larger size, where the page is compactified: "the growing record's old bytes are saved by value".

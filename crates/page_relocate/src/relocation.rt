@@ -12,7 +12,7 @@ ghost use Rattle.layout.specs.Run.{head_of};
 ghost use Rattle.page_places.specs.Words.{unfilled, page_bare, Inside};
 ghost use Rattle.page_relocate.specs.Words.{under_page, shrink_plan, home_of, alloc_of};
 
-use page_compactify::head::Header;
+use layout::header::Header;
 use store::{Page, Place, Slot};
 
 // The record at another place, of the same kind.

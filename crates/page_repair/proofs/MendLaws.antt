@@ -24,9 +24,10 @@ use Rattle.store.specs.declared.Deed.TheVariants.{Stays, RecordFreed, RedirectFr
 use Rattle.store.specs.declared.Slot.{Slot}
 use Rattle.store.specs.declared.Slot.TheVariants.{Ordinary, Free, Redirect, Target}
 use Rattle.layout.specs.Run.{head_of}
+use Rattle.layout.specs.Head.{Heads}
+use Rattle.layout.specs.declared.header.Header.{Header}
 use Rattle.page_repair.specs.Mended.{Gathered, gathered, head_after, head_of_view}
 use Rattle.page_repair.specs.declared.mend.Numbers.{Numbers}
-use Rattle.page_repair.specs.declared.mend.Header.{Header}
 
 -- ---- what is done to a slot
 
@@ -148,19 +149,28 @@ module _ (d : ℕ → Deed) (v : View) (r : Numbers) (g : Gathered d v v.slot_co
   space_after_lem = ap (λ (m : ℕ). 16372 - (8 * v.slot_count + m)) g.total
 
   pub head_mended : head_after v r ≡ head_of_view (mended_by d v)
-  head_mended = λ i. record { first = first_after i; start = start_after_lem i; space = space_after_lem i }
+  unfolding mended_by
+  head_mended = λ i. record { count = v.slot_count; first = first_after i; start = start_after_lem i; space = space_after_lem i }
 
 -- whether the header stays
 abbrev pub says_head : Header → Header → Bool
-says_head g h = eqb g.first h.first && (eqb g.start h.start && eqb g.space h.space)
+says_head g h = eqb g.count h.count && (eqb g.first h.first && (eqb g.start h.start && eqb g.space h.space))
+
+pub says_view : (d : ℕ → Deed) (v : View) → says_head (head_of_view v) (head_of_view (mended_by d v)) ≡ same_head v (mended_by d v)
+unfolding mended_by
+says_view d v = ap (λ (b : Bool). b && same_head v (mended_by d v)) (eq-eqb v.slot_count v.slot_count refl)
+
+-- as it is read
+pub read_head : {g : Header} {v : View} → Heads g v → g ≡ head_of_view v
+read_head e = λ i. record { count = e.count i; first = e.first i; start = e.start i; space = e.space i }
 
 module _ (d : ℕ → Deed) (v : View) (p : List ℕ) {n : ℕ} {r : Numbers} {g h : Header} {q : List ℕ} {b : Bool} (count : n ≡ v.slot_count)
-    (all : Gathered d v n r) (before : g ≡ head_of_view v) (is : h ≡ head_after v r) (says : b ≡ says_head g h) (slots : q ≡ put_slots d v n p) where
+    (all : Gathered d v n r) (before : Heads g v) (is : h ≡ head_after v r) (says : b ≡ says_head g h) (slots : q ≡ put_slots d v n p) where
   header_mended : h ≡ head_of_view (mended_by d v)
   header_mended = is ∙ head_mended d v r (subst (λ (m : ℕ). Gathered d v m r) count all)
 
   says_mended : b ≡ same_head v (mended_by d v)
-  says_mended = says ∙ (λ i. says_head (before i) (header_mended i))
+  says_mended = says ∙ (λ i. says_head (read_head before i) (header_mended i)) ∙ says_view d v
 
   all_slots : q ≡ put_slots d v v.slot_count p
   all_slots = slots ∙ ap (λ (m : ℕ). put_slots d v m p) count
@@ -170,13 +180,13 @@ module _ (d : ℕ → Deed) (v : View) (p : List ℕ) {n : ℕ} {r : Numbers} {g
       let f : same_head v (mended_by d v) ≡ true = sym says_mended ∙ e in
       (all_slots ∙ ap (λ (t : Bool). cond t (put_slots d v v.slot_count p) (put_head (mended_by d v) (put_slots d v v.slot_count p))) (sym f), ap not (sym f))
 
-  head_bytes_lem : head_of n h.first h.start h.space ≡ head_bytes (mended_by d v)
+  head_bytes_lem : head_of h.count h.first h.start h.space ≡ head_bytes (mended_by d v)
   unfolding head_of mended_by
   head_bytes_lem =
       let e = header_mended in
-      λ i. head_of (count i) (e i).first (e i).start (e i).space
+      λ i. head_of (e i).count (e i).first (e i).start (e i).space
 
-  pub mended_new : {s : List ℕ} → b ≡ false → s ≡ put q 0 (head_of n h.first h.start h.space)
+  pub mended_new : {s : List ℕ} → b ≡ false → s ≡ put q 0 (head_of h.count h.first h.start h.space)
       → (s ≡ put_mended d v p) × (true ≡ not (same_head v (mended_by d v)))
   mended_new {s} e g =
       let f : same_head v (mended_by d v) ≡ false = sym says_mended ∙ e in (

@@ -10,7 +10,7 @@ use Rattle.store.specs.declared.Deed.{Deed}
 use Rattle.store.specs.declared.Deed.TheVariants.{Stays}
 use Rattle.store.specs.declared.Slot.{Slot}
 use Rattle.page_repair.specs.declared.mend.Numbers.{Numbers}
-use Rattle.page_repair.specs.declared.mend.Header.{Header}
+use Rattle.layout.specs.declared.header.Header.{Header}
 
 -- a row of deeds; the slots behind it stay
 abbrev pub deeds_of : List Deed → ℕ → Deed
@@ -41,6 +41,7 @@ gathered r k d x =
 abbrev pub head_after : View → Numbers → Header
 head_after v r =
     record {
+      count = v.slot_count;
       first = r.first;
       start = cond (leb (12 + 8 * v.slot_count) v.data_start && leb v.data_start r.low) v.data_start r.low;
       space = 16372 - (8 * v.slot_count + r.total);
@@ -48,4 +49,4 @@ head_after v r =
 
 -- those that it says
 abbrev pub head_of_view : View → Header
-head_of_view v = record { first = v.first_free; start = v.data_start; space = v.free_space }
+head_of_view v = record { count = v.slot_count; first = v.first_free; start = v.data_start; space = v.free_space }

@@ -5,10 +5,10 @@ ghost use Rattle.store.specs.Page.{view};
 ghost use Rattle.store.specs.Repair.{changes, slot_done, mended_by, same_head, put_slots, put_mended};
 ghost use Rattle.store.specs.Laws.Slots.{Codable};
 ghost use Rattle.page_repair.specs.Kept.{CountedPage};
-ghost use Rattle.page_repair.specs.Mended.{deeds_of, CodableBy, Gathered, gathered, head_after, head_of_view};
+ghost use Rattle.page_repair.specs.Mended.{deeds_of, CodableBy, Gathered, gathered, head_after};
 
 use crate::keep::Deeds;
-use layout::header;
+use layout::header::{Header, get_data_start};
 use layout::slots::get_slot;
 use store::{BACK, Deed, ENTRY, HEADER, PAGE_SIZE, Page, ROOM, Slot};
 
@@ -32,27 +32,6 @@ impl Numbers {
             first: first_with(self.first, k, s),
             low: low_with(self.low, s),
             total: self.total + s.len(),
-        }
-    }
-}
-
-// The header's numbers but for the count, which stays.
-#[derive(Clone, Copy, Debug, PartialEq, Eq)]
-pub struct Header {
-    pub first: usize,
-    pub start: usize,
-    pub space: usize,
-}
-
-impl Header {
-    // Those that the page says.
-    pub fn of(page: &Page) -> Header
-        ensures { result ≡ head_of_view (view page.now) }
-    {
-        Header {
-            first: header::get_first_free_slot(page),
-            start: header::get_data_start(page),
-            space: header::get_free_space(page),
         }
     }
 }
@@ -132,8 +111,9 @@ pub fn header_after(page: &Page, n: usize, r: Numbers) -> Header
     requires { CountedPage page.now n × (r.total ≤ n * 2 ^ 32) }
     ensures { result ≡ head_after (view page.now) r }
 {
-    let d = header::get_data_start(page);
+    let d = get_data_start(page);
     Header {
+        count: n,
         first: r.first,
         start: start_with(d, HEADER + ENTRY * n, r.low),
         space: ROOM.saturating_sub(ENTRY * n + r.total),
@@ -167,6 +147,6 @@ pub fn mend(page: &mut Page, n: usize, deeds: &Deeds) -> bool
     if before == h {
         return false;
     }
-    header::set_header(page, n, h.first, h.start, h.space);
+    h.write(page);
     true
 }

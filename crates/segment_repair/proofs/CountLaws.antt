@@ -19,8 +19,10 @@ use Rattle.store.proofs.Laws.RepairPage.{after}
 use Rattle.store.proofs.Laws.RepairBytes.{shown_page}
 use Rattle.store.proofs.Laws.RepairQuiet.{lost_fresh, lost_entries, fresh_fresh, fresh_entries, used_after, used_fresh, used_space}
 use Rattle.store.proofs.Laws.RepairQuiet.{used_entries, quiet_page}
+use Rattle.layout.specs.Head.{Heads}
+use Rattle.layout.specs.declared.header.Header.{Header}
 use Rattle.page_repair.specs.Mended.{deeds_of, CodableBy, Gathered, head_after, head_of_view}
-use Rattle.page_repair.proofs.MendLaws.{says_head, head_mended, space_after_lem}
+use Rattle.page_repair.proofs.MendLaws.{says_head, says_view, read_head, head_mended, space_after_lem}
 use Rattle.segment_judge.specs.Words.{UsedPageOn, Deeds}
 use Rattle.std.specs.Prelude.{Some, None}
 use Rattle.store.specs.Laws.Lent.{Within}
@@ -28,7 +30,6 @@ use Rattle.segment_repair.specs.Words.{StandsAs, CountedAs}
 use Rattle.segment_repair.specs.declared.state.State.TheVariants.{Used}
 use Rattle.segment_repair.specs.declared.count.Counted.{Counted}
 use Rattle.page_repair.specs.declared.mend.Numbers.{Numbers}
-use Rattle.page_repair.specs.declared.mend.Header.{Header}
 
 -- ---- a page that is not in use afterwards
 
@@ -110,7 +111,7 @@ module _ (u : SegView) (p : ℕ) (some : 0 < (u.page p).slot_count) (few : (u.pa
       → CountedAs u p (record { entries = r.changes + length (cond b [] (entry p 65535 4 ∷ [])); space = Some (head_after (u.page p) r).space })
   counted_by b e =
       inuse_counted u p (r.changes + length (cond b [] (entry p 65535 4 ∷ []))) (head_after (u.page p) r).space
-      (sym (told b (sym (ap (says_head (head_of_view (u.page p))) (head_mended (deed u p) (u.page p) r g)) ∙ e)))
+      (sym (told b (sym (ap (says_head (head_of_view (u.page p))) (head_mended (deed u p) (u.page p) r g) ∙ says_view (deed u p) (u.page p)) ∙ e)))
       (space_after_lem (deed u p) (u.page p) r g ∙ sym (ap (λ (v : View). v.free_space) (used_after u p some few)))
       (used_space u p some few) (used_fresh u p some few)
 
@@ -123,13 +124,13 @@ module _ {s : List ℕ} {p n : ℕ} (h : UsedPageOn s p n) {ds : List Deed} (t :
       (subst (λ (d : ℕ → Deed). Gathered d (view (page_of s p)) n r) (deeds_are (deed (standing s) p) ds t)
       (subst (λ (x : List ℕ). Gathered (deeds_of ds) (view x) n r) e g))
 
-  module _ {x y : Header} (o : y ≡ head_of_view (view q)) (f : x ≡ head_after (view q) r) where
+  module _ {x y : Header} (o : Heads y (view q)) (f : x ≡ head_after (view q) r) where
     mended_by_lem : (b : Bool) → b ≡ says_head y x → (m : ℕ) → m ≡ r.changes + length (cond b [] (entry p 65535 4 ∷ []))
         → CountedAs (standing s) p (record { entries = m; space = Some x.space })
     unfolding standing
     mended_by_lem b a m k =
         let z : x ≡ head_after (view (page_of s p)) r = f ∙ ap (λ (v : List ℕ). head_after (view v) r) e in
-        let w : y ≡ head_of_view (view (page_of s p)) = o ∙ ap (λ (v : List ℕ). head_of_view (view v)) e in
+        let w : y ≡ head_of_view (view (page_of s p)) = read_head o ∙ ap (λ (v : List ℕ). head_of_view (view v)) e in
         subst (λ (w : ℕ × Header). CountedAs (standing s) p (record { entries = w.0; space = Some w.1.space })) (λ i. (sym k i, sym z i))
         (counted_by (standing s) p (omega (arith, h.is, h.some)) (omega (arith, h.is, h.few)) r gathered_is b
         (sym (a ∙ (λ i. says_head (w i) (z i)))))

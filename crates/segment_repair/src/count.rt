@@ -7,8 +7,8 @@ ghost use Rattle.segment_judge.specs.Words.{UsedPageOn};
 ghost use Rattle.segment_repair.specs.Words.{CountedAs};
 
 use crate::state::{State, state_of};
+use layout::header::Header;
 use page_repair::mend;
-use page_repair::mend::Header;
 use segment_judge::Judge;
 use store::Page;
 

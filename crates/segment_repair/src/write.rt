@@ -13,6 +13,7 @@ ghost use Rattle.segment_repair.specs.Words.{Written};
 use crate::state::{State, state_of};
 use crate::tell;
 use crate::tell::What;
+use layout::header::Header;
 use segment_judge::{Judge, Sound};
 use segment_pages::page_of;
 use store::PAGE_SIZE;
@@ -67,7 +68,7 @@ fn write_lost(segment: &mut [u8], p: usize, entries: &mut [u64], at: usize) -> u
     ensures { Written segment.old segment.new entries.old entries.new p at result }
 {
     let rest = segment.split_at_mut(p * PAGE_SIZE).1;
-    layout::header::set_header(rest.first_chunk_mut().unwrap(), 0, 0, 0, 0);
+    Header::default().write(rest.first_chunk_mut().unwrap());
     tell::tell(entries, at, p, What::HeaderZeroed);
     at + 1
 }

@@ -5,7 +5,7 @@ ghost use Rattle.store.specs.Answers.{given_place, allotted};
 ghost use Rattle.store.specs.PageSteps.{opened, put_head, initialised, allocate};
 ghost use Rattle.page_places.specs.Words.{page_bare, Inside, PastEntry};
 
-use page_compactify::head::Header;
+use layout::header::Header;
 use store::{PAGE_SIZE, Page, Place, ROOM};
 
 // The header of a page just initialised.

@@ -10,7 +10,7 @@ ghost use Rattle.store.specs.Laws.Lent.{UsedSlot};
 ghost use Rattle.layout.specs.Run.{head_of};
 ghost use Rattle.slotted_page.specs.Words.{redirect_plan};
 
-use page_compactify::head::Header;
+use layout::header::Header;
 use store::{Page, Slot};
 
 // Data start once the record at o of n bytes is gone.

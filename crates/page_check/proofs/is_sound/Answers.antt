@@ -5,7 +5,7 @@ use Rattle.page_check.proofs.FitLaws.{read_of, sound_header, sound_records, unso
 use Rattle.page_check.proofs.is_sound.Goals as goal
 
 pub returns-then-header-eq0 : goal.returns-then-header-eq0
-returns-then-header-eq0 c = c.is_fresh.ensures ∙ sym (sound_none _ (sym c.of-header.ensures.slots ∙ c.if-header-eq0.true))
+returns-then-header-eq0 c = c.is_fresh.ensures ∙ sym (sound_none _ (sym c.of-header.ensures.count ∙ c.if-header-eq0.true))
 
 pub returns-then-not-fits : goal.returns-then-not-fits
 returns-then-not-fits c =
@@ -21,4 +21,4 @@ pub returns-in-Some : goal.returns-in-Some
 returns-in-Some c =
     let h = read_of c.told-page c.of-header.ensures in
     let records = c.in-Some.ensures in
-    sound_space h (c.fits.ensures.yes c.if-not-fits.false) records.0 c.if-header-eq0.false _ _ c.get_free_space.ensures.0 records.1
+    sound_space h (c.fits.ensures.yes c.if-not-fits.false) records.0 c.if-header-eq0.false _ _ c.of-header.ensures.space records.1

@@ -31,5 +31,5 @@ loop-k-preserved c =
 pub returns : goal.returns
 returns c =
     let at = c.loop-k in
-    let e : at.k ≡ c.args.header.slots = omega arith in
+    let e : at.k ≡ c.args.header.count = omega arith in
     rw (← e) (at.invariant.fit, at.invariant.adds)

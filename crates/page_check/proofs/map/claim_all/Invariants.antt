@@ -12,4 +12,4 @@ pub record Mapped (page : List ℕ) (f d : ℕ) (used : List ℕ) (t k : ℕ) : 
   pub marked : Marked (view page) (λ j. j < k) used
 
 abbrev pub invariant-loop-k : goal.invariant-loop-k
-invariant-loop-k l = Mapped l.page l.header.first_free l.header.data_start l.used l.total l.k
+invariant-loop-k l = Mapped l.page l.header.first l.header.start l.used l.total l.k

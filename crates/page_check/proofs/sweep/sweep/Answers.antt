@@ -23,7 +23,7 @@ returns c =
     let v = view c.args.page.now in
     let h = c.args.header in
     let at = c.loop-k in
-    let e : at.k ≡ h.slots = omega arith in
+    let e : at.k ≡ h.count = omega arith in
     rw c.then_some.ensures
-    (some_if (Sums v h) (leb h.data_start at.low) at.total
-    (λ y. rw (← e) (records_lower _ _ _ _ _ at.invariant.fit (leb-true h.data_start at.low y), at.invariant.adds)))
+    (some_if (Sums v h) (leb h.start at.low) at.total
+    (λ y. rw (← e) (records_lower _ _ _ _ _ at.invariant.fit (leb-true h.start at.low y), at.invariant.adds)))

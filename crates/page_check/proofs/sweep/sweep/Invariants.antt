@@ -11,4 +11,4 @@ pub record Swept (page : List ℕ) (f low t k : ℕ) : Type 0 where
   pub adds : Total (view page) k t
 
 abbrev pub invariant-loop-k : goal.invariant-loop-k
-invariant-loop-k l = Swept l.page l.header.first_free l.low l.total l.k
+invariant-loop-k l = Swept l.page l.header.first l.low l.total l.k

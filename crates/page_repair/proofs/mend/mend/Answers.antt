@@ -11,4 +11,4 @@ returns-then-eq c =
 pub returns : goal.returns
 returns c =
     mended_new (deeds_of c.args.deeds.now) (view c.args.page.now) c.args.page.now c.requires.0.counted c.gather-r.ensures.0
-    c.of-before.ensures c.header_after-h.ensures c.eq.ensures c.write_slots.ensures c.if-eq.false c.set_header.ensures
+    c.of-before.ensures c.header_after-h.ensures c.eq.ensures c.write_slots.ensures c.if-eq.false c.write.ensures

@@ -1,4 +1,7 @@
+use mathlib.Core.Path.{◌∙◌}
 use lib.ListN.{length}
+use Rattle.store.specs.Numbers.{put}
+use Rattle.layout.specs.Run.{head_of}
 use Rattle.segment_repair.proofs.WriteLaws.{Lends, room_lost, written_lost}
 use Rattle.segment_repair.proofs.write.write_lost.Goals.{After-unwrap}
 use Rattle.segment_repair.proofs.write.write_lost.Goals as goal
@@ -16,5 +19,7 @@ tell-requires c =
 pub returns : goal.returns
 returns c =
     let a = c.args in
+    let z = c.default.ensures in
+    let zeroed = c.write.ensures ∙ (λ i. put c.unwrap.result.now 0 (head_of (z.0 i) (z.1.0 i) (z.1.1.0 i) (z.1.1.1 i))) in
     written_lost a.segment.now a.p c.requires.within.0 c.requires.within.1 (lends (goal.at.returns c).After-unwrap) a.entries.now c.tell.new.entries
-    c.set_header.new.page a.at c.set_header.ensures c.tell.ensures
+    c.write.new.page a.at zeroed c.tell.ensures

@@ -1,7 +1,7 @@
 -- The header's numbers as the code has them.
 use Rattle.std.specs.Prelude.{◌≡◌, ◌<◌}
 use Rattle.store.specs.Page.{View}
-use Rattle.page_compactify.specs.declared.head.Header.{Header}
+use Rattle.layout.specs.declared.header.Header.{Header}
 
 -- they are the view's, each within its bytes
 pub record Heads (h : Header) (v : View) : Type 0 where
