@@ -22,6 +22,7 @@ use Rattle.store.specs.Laws.Lent.{Within, SoundOn}
 use Rattle.store.proofs.Laws.Calls.{named_within}
 use Rattle.store.specs.declared.Place.{Place}
 use Rattle.std.proofs.Common.{Option, Some, None, Ok, Err}
+use Rattle.std.specs.Option.{ok_or}
 use Rattle.store.specs.declared.Refusal.TheVariants.{Size, Long, Damaged, Full, Stale}
 use Rattle.slotted_page.specs.Words.{page_after, place_at, place_of, filled_at, Inside, PastEntry}
 use Rattle.slotted_page.proofs.FillLaws.{given_is}
@@ -30,7 +31,7 @@ use Rattle.segment_steps.proofs.After.{sizes_room, Took, took_length, left_own, 
 use Rattle.segment_steps.proofs.After.{no_room_same}
 use Rattle.segment_steps.proofs.Written.{lent_part}
 use Rattle.segment_steps.proofs.Written.{bare_whole, none_written, bytes_written}
-use Rattle.segment_insert.specs.Words.{named_on}
+use Rattle.segment_insert.specs.Words.{named_on, PageFor}
 
 module _ (s v bs : List ℕ) where
   -- ---- before a page is named: 1, 3 and 7
@@ -44,20 +45,22 @@ module _ (s v bs : List ℕ) where
     unfolding insert_step insert_plan result
     row_long l = rw (ok, lt-ltb 16364 (length bs) l)
 
-    pub row_named : length bs ≤ 16364 → (m : Option ℕ) → found_in v (length s / 16384) (length bs + 8) ≡ m → named_on s v bs m ≡ insert_step s v bs
+    row_named : length bs ≤ 16364 → (m : Option ℕ) → found_in v (length s / 16384) (length bs + 8) ≡ m → named_on s v bs m ≡ insert_step s v bs
     unfolding insert_step insert_plan find seg_view
     row_named short m e = sym (rw (ok, le-ltb 16364 (length bs) short, e))
 
-  pub on_none : outcome (Err Full) s v ≡ named_on s v bs None
+  on_none : outcome (Err Full) s v ≡ named_on s v bs None
   unfolding result
   on_none = refl
 
   -- ---- on the page named: 4, then 8 or done
 
   module _ (p : ℕ) where
-    pub on_damaged : sound ((seg_view s).page p) ≡ false → outcome (Err Damaged) s v ≡ named_on s v bs (Some p)
+    pub on_damaged : sound ((seg_view s).page p) ≡ false → PageFor s v bs (Ok p) → outcome (Err Damaged) s v ≡ insert_step s v bs
     unfolding result
-    on_damaged e = rw e
+    on_damaged e h =
+        let is : outcome (Err Damaged) s v ≡ named_on s v bs (Some p) = rw e in
+        is ∙ h.2
 
     module _ (h : SoundOn s p) where
       on_stale : (t : List ℕ) → t ≡ s → allocate ((seg_view s).page p) (length bs) ≡ no_room → outcome (Err Stale) t v ≡ named_on s v bs (Some p)
@@ -134,17 +137,10 @@ module _ (s v bs : List ℕ) (p : ℕ) (h : SoundOn s p) (r : Option Place) (t :
 
 -- ---- what the inventory answered for a row
 
-pub record RowNamed (s v bs : List ℕ) (r : Option ℕ) : Type 0 where
-  pub is : (m : Option ℕ) → r ≡ m → named_on s v bs m ≡ insert_step s v bs
-  pub inside : (p : ℕ) → r ≡ Some p → Within s p
-
-pub named_row : (s v bs : List ℕ) → (size_ok s && inv_ok v) ≡ true → length bs ≤ 16364 → (r : Option ℕ)
-    → r ≡ found_in v (length s / 16384) (length bs + 8) → RowNamed s v bs r
-named_row s v bs ok short r e =
-    record {
-      is = λ m f. row_named s v bs ok short m (sym e ∙ f);
-      inside = λ p f. named_within s v (length bs + 8) p (sym e ∙ f);
-    }
+pub row_page : (s v bs : List ℕ) → (size_ok s && inv_ok v) ≡ true → length bs ≤ 16364 → (m : Option ℕ)
+    → m ≡ found_in v (length s / 16384) (length bs + 8) → PageFor s v bs (ok_or m Full)
+row_page s v bs ok short None e = on_none s v bs ∙ row_named s v bs ok short None (sym e)
+row_page s v bs ok short (Some p) e = (named_within s v (length bs + 8) p (sym e), short, row_named s v bs ok short (Some p) (sym e))
 
 -- ---- a record of zeros
 

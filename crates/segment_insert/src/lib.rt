@@ -5,16 +5,29 @@
 pub mod row;
 pub mod rows;
 
-ghost use Rattle.std.specs.Prelude.{◌≡◌, ◌≤◌, length, Some};
-ghost use Rattle.store.specs.Segment.{insert_step, allocate_step};
+ghost use Rattle.std.specs.Prelude.{◌≡◌, true, ◌&&◌, ◌≤◌, length, Some};
+ghost use Rattle.store.specs.Segment.{size_ok, inv_ok, insert_step, allocate_step};
 ghost use Rattle.store.specs.Answers.{outcome};
 ghost use Rattle.store.specs.Laws.Lent.{SoundOn};
 ghost use Rattle.segment_steps.specs.Words.{Sizes};
-ghost use Rattle.segment_insert.specs.Words.{named_on};
+ghost use Rattle.segment_insert.specs.Words.{PageFor, named_on};
 
 use row::{Bytes, Row, Zeros};
 pub use rows::insert_records;
 use store::{IDS_A_PAGE, LONGEST, PAGE_SIZE, Place, Refusal};
+
+// The page that the inventory names for a row, not yet seen to be sound: 3 LONG, then 7 FULL where it names none.
+fn page_for<R: Row>(segment: &[u8], inventory: &[u8], row: &R) -> Result<usize, Refusal>
+    requires { (size_ok segment.now && inv_ok inventory.now) ≡ true }
+    ensures { PageFor segment.now inventory.now (R.bytes row.now) result }
+{
+    let size = row.len();
+    if LONGEST < size {
+        return Err(Refusal::Long);
+    }
+    let n = segment.len() / PAGE_SIZE;
+    free_space_inventory::find_page(inventory, n, size + 8).ok_or(Refusal::Full)
+}
 
 // On page p, which is sound. "If the page's answer holds no place, the call stops there"; else the row is written at its offset, and the
 // inventory is told the page's free space.
@@ -45,14 +58,7 @@ fn insert<R: Row>(segment: &mut [u8], inventory: &mut [u8], row: &R) -> Result<u
     if !segment_pages::sizes_ok(segment, inventory) {
         return Err(Refusal::Size);
     }
-    let size = row.len();
-    if LONGEST < size {
-        return Err(Refusal::Long);
-    }
-    let n = segment.len() / PAGE_SIZE;
-    let Some(page) = free_space_inventory::find_page(inventory, n, size + 8) else {
-        return Err(Refusal::Full);
-    };
+    let page = page_for(segment, inventory, row)?;
     if !segment_pages::page_sound(segment, page) {
         return Err(Refusal::Damaged);
     }

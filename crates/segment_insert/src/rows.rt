@@ -12,7 +12,7 @@ ghost use Rattle.store.specs.Laws.Lent.{Within};
 ghost use Rattle.segment_insert.specs.Words.{KnownSound};
 
 use crate::row::{Bytes, Row};
-use store::{LONGEST, ListRefusal, PAGE_SIZE, Refusal};
+use store::{ListRefusal, Refusal};
 
 // How many pages a call remembers. The inventory has 15 entries, so rows of any lengths go to at most 15 pages in turn.
 pub const REMEMBERED: usize = 16;
@@ -47,14 +47,7 @@ pub fn insert_row<R: Row>(
         ≡ insert_step segment.old inventory.old (R.bytes row.now))
         × KnownSound segment.new known.new }
 {
-    let size = row.len();
-    if LONGEST < size {
-        return Err(Refusal::Long);
-    }
-    let n = segment.len() / PAGE_SIZE;
-    let Some(page) = free_space_inventory::find_page(inventory, n, size + 8) else {
-        return Err(Refusal::Full);
-    };
+    let page = crate::page_for(segment, inventory, row)?;
     if !known_sound(segment, known, page) {
         return Err(Refusal::Damaged);
     }
