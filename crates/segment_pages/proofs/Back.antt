@@ -1,30 +1,35 @@
 -- "its target on another page pointing back", test by test.
 use Prim.Native.Nat.{ℕ, ◌+◌, ◌*◌, ◌/◌, ◌≤◌, ◌<◌}
 use mathlib.Core.Path.{◌≡◌, refl, sym, ap, ◌∙◌}
-use mathlib.Core.Bool.{true, false}
+use mathlib.Core.Bool.{true, false, not, ◌&&◌}
 use mathlib.Core.List.{List}
 use mathlib.Core.Logic.{◌≢◌}
 use native.Mathlib.Omega.{arith}
 use lib.ListN.{length, take}
-use lib.Dec.{eqb}
-use borrow.Author.Tests.{lt-ltb, le-ltb, eq-eqb, ne_eqb}
+use lib.Dec.{ltb, eqb}
+use borrow.Author.Tests.{lt-ltb, ltb-true, eq-eqb, ne_eqb}
 use Rattle.store.specs.Numbers.{cut, be, page_no, slot_no}
 use Rattle.store.specs.Slots.{is_target}
 use Rattle.store.specs.Page.{sound}
 use Rattle.store.specs.Segment.{seg_view, points_back}
+use Rattle.store.proofs.Laws.Cases.{never}
+use Rattle.store.proofs.Laws.SoundPage.{and_both}
 use Rattle.store.proofs.Laws.SoundSegment.{seen_pages}
 use Rattle.store.specs.declared.Slot.{Slot}
 use Rattle.store.specs.declared.Slot.TheVariants.{Target}
 use Rattle.segment_pages.proofs.Seen.{slot_high, target_long, target_head}
 
+-- what the test of the page's place tells
+pub is_elsewhere : {n p q : ℕ} → (ltb p n && not (eqb p q)) ≡ true → (p < n) × (p ≢ q)
+is_elsewhere {n} {p} {q} e =
+    let w = and_both (ltb p n) (not (eqb p q)) e in
+    (ltb-true p n w.0, λ d. never w.1 (ap not (eq-eqb p q d)))
+
 module _ (s : List ℕ) (i t : ℕ) where
-  pub back_past : length s / 16384 ≤ page_no t → false ≡ points_back (seg_view s) i t
-  back_past h = rw (seen_pages s, le-ltb (page_no t) (length s / 16384) h)
+  pub back_lost : (ltb (page_no t) (length s / 16384) && not (eqb (page_no t) (page_no i))) ≡ false → false ≡ points_back (seg_view s) i t
+  back_lost h = rw (seen_pages s, h)
 
   module _ (inside : page_no t < length s / 16384) where
-    pub back_home : page_no t ≡ page_no i → false ≡ points_back (seg_view s) i t
-    back_home e = rw (seen_pages s, lt-ltb (page_no t) (length s / 16384) inside, eq-eqb (page_no t) (page_no i) e)
-
     module _ (away : page_no t ≢ page_no i) where
       pub back_damaged : sound ((seg_view s).page (page_no t)) ≡ false → false ≡ points_back (seg_view s) i t
       back_damaged e = rw (seen_pages s, lt-ltb (page_no t) (length s / 16384) inside, ne_eqb (page_no t) (page_no i) away, e)

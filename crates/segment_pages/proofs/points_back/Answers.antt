@@ -8,42 +8,38 @@ use Rattle.store.specs.Numbers.{page_no}
 use Rattle.store.specs.Page.{sound}
 use Rattle.store.specs.Segment.{seg_view}
 use Rattle.segment_pages.proofs.Seen.{few_slots, not_target}
-use Rattle.segment_pages.proofs.Back.{back_past, back_home, back_damaged, back_other, target_inside, back_target}
-use Rattle.segment_pages.proofs.points_back.Goals.{Else-not-page_sound, Else-p-i, Start}
+use Rattle.segment_pages.proofs.Back.{is_elsewhere, back_lost, back_damaged, back_other, target_inside, back_target}
+use Rattle.segment_pages.proofs.points_back.Goals.{Else-not-elsewhere, Else-not-page_sound}
 use Rattle.segment_pages.proofs.points_back.Goals as goal
 
--- the code's places: where the page was found sound, and the function's start
-abbrev start : Else-not-page_sound → Start
-start c = (goal.at.Else-not-page_sound c).Start
-
 -- what the tests told by then
+there : (c : Else-not-elsewhere) → let a = c.args in (page_no a.t < length a.segment.now / 16384) × (page_no a.t ≢ page_no a.i)
+there c = is_elsewhere (sym c.elsewhere.ensures ∙ c.if-not-elsewhere.false)
+
 told : (c : Else-not-page_sound)
-    → let a = (start c).args in
+    → let a = c.args in
     (page_no a.t < length a.segment.now / 16384) × (page_no a.t ≢ page_no a.i) × (sound ((seg_view a.segment.now).page (page_no a.t)) ≡ true)
 told c =
-    let away = (goal.at.Else-not-page_sound c).Else-p-i in
-    (away.if-segment-p.false, away.if-p-i.false, sym c.page_sound.ensures ∙ c.if-not-page_sound.false)
+    let w = there (goal.at.Else-not-page_sound c).Else-not-elsewhere in
+    (w.0, w.1, sym c.page_sound.ensures ∙ c.if-not-page_sound.false)
 
-pub returns-then-segment-p : goal.returns-then-segment-p
-returns-then-segment-p c =
+pub returns-then-not-elsewhere : goal.returns-then-not-elsewhere
+returns-then-not-elsewhere c =
     let a = c.args in
-    back_past a.segment.now a.i a.t c.if-segment-p.true
+    back_lost a.segment.now a.i a.t (sym c.elsewhere.ensures ∙ c.if-not-elsewhere.true)
 
-pub returns-then-p-i : goal.returns-then-p-i
-returns-then-p-i c =
-    let a = c.args in
-    back_home a.segment.now a.i a.t c.if-segment-p.false c.if-p-i.true
+pub page_sound-requires : goal.page_sound-requires
+page_sound-requires c = let w = there (goal.at.page_sound-requires c).Else-not-elsewhere in omega (arith, w.0)
 
 pub returns-then-not-page_sound : goal.returns-then-not-page_sound
 returns-then-not-page_sound c =
-    let away = (goal.at.returns-then-not-page_sound c).Else-p-i in
-    let a = away.args in
-    back_damaged a.segment.now a.i a.t away.if-segment-p.false away.if-p-i.false
-    (sym c.page_sound.ensures ∙ c.if-not-page_sound.true)
+    let a = c.args in
+    let w = there (goal.at.returns-then-not-page_sound c).Else-not-elsewhere in
+    back_damaged a.segment.now a.i a.t w.0 w.1 (sym c.page_sound.ensures ∙ c.if-not-page_sound.true)
 
 pub slot_on-requires : goal.slot_on-requires
 slot_on-requires c =
-    let a = (start (goal.at.slot_on-requires c).Else-not-page_sound).args in
+    let a = c.args in
     let s = a.segment.now in
     let t = told (goal.at.slot_on-requires c).Else-not-page_sound in
     let inside : page_no a.t * 16384 + 16384 ≤ length s = omega (arith, t.0) in
@@ -51,9 +47,8 @@ slot_on-requires c =
 
 pub returns-in_default : goal.returns-in_default
 returns-in_default c =
-    let found = (goal.at.returns-in_default c).Else-not-page_sound in
-    let a = (start found).args in
-    let t = told found in
+    let a = c.args in
+    let t = told (goal.at.returns-in_default c).Else-not-page_sound in
     back_other a.segment.now a.i a.t t.0 t.1 t.2 _ c.slot_on.ensures.0
     (not_target c.slot_on.result c.in_default.not-Target)
 
