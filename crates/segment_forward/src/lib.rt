@@ -45,14 +45,7 @@ fn place_target(
         return Err(Refusal::Stale);
     };
     let rest = segment.split_at_mut(page * PAGE_SIZE).1;
-    page_relocate::target::write_target(
-        rest.first_chunk_mut().unwrap(),
-        place.slot,
-        place.offset,
-        id,
-        bytes,
-        size,
-    );
+    page_relocate::target::write_target(rest.first_chunk_mut().unwrap(), place, id, bytes, size);
     Ok(page * IDS_A_PAGE + place.slot)
 }
 

@@ -1,5 +1,5 @@
 -- "a kept target pointing back from another page", test by test.
-use Prim.Native.Nat.{ℕ, ◌+◌, ◌*◌, ◌/◌, ◌≤◌, ◌<◌}
+use Prim.Native.Nat.{ℕ, ◌+◌, ◌*◌, ◌≤◌, ◌<◌}
 use mathlib.Core.Path.{◌≡◌, refl, sym, ap, ◌∙◌}
 use mathlib.Core.Bool.{Bool, true, false, not, ◌&&◌}
 use mathlib.Core.List.{List}
@@ -24,7 +24,7 @@ use Rattle.store.proofs.Laws.Repair.{seen_slot, seen_bytes, standing_pages, stan
 use Rattle.store.specs.declared.Slot.{Slot}
 use Rattle.store.specs.declared.Slot.TheVariants.{Free, Target}
 use Rattle.page_repair.specs.Kept.{CountedPage}
-use Rattle.segment_judge.specs.Words.{UsedOn}
+use Rattle.segment_judge.specs.Words.{UsedOn, Apart}
 use Rattle.segment_pages.proofs.Seen.{target_head}
 
 -- ---- a page with a slot in use
@@ -60,8 +60,8 @@ module _ (s : List ℕ) (t : ℕ) where
   pub stands : (x : Slot) → x ≡ ((seg_view s).page (page_no t)).at (slot_no t) → slot_on (standing s) t ≡ x
   stands x e = sym (seen_slot s t) ∙ sym e
 
-  pub stands_view : (x : Slot) → x ≡ ((seg_view s).page (page_no t)).at (slot_no t) → (view (page_of s (page_no t))).at (slot_no t) ≡ x
-  stands_view x e = ap (λ (v : View). v.at (slot_no t)) (sym (standing_page s (page_no t))) ∙ stands x e
+  pub stands_view : (x : Slot) → slot_on (standing s) t ≡ x → (view (page_of s (page_no t))).at (slot_no t) ≡ x
+  stands_view x e = ap (λ (v : View). v.at (slot_no t)) (sym (standing_page s (page_no t))) ∙ e
 
   -- and the id that it begins with
   pub back_is : (o l b : ℕ) → slot_on (standing s) t ≡ Target o l → keeps ((standing s).page (page_no t)) (slot_no t) ≡ true
@@ -83,14 +83,14 @@ module _ (s : List ℕ) (p k : ℕ) (q : List ℕ) (e : q ≡ page_of s p) (h : 
       )
 
 -- the target of id t
-pub target_asks : (s : List ℕ) (t o l : ℕ) → Target o l ≡ ((seg_view s).page (page_no t)).at (slot_no t) → page_no t < length s / 16384
-    → (view (page_of s (page_no t))).slot_count ≤ 2046 → UsedOn s (page_no t) (slot_no t) × (is_target ((view (page_of s (page_no t))).at (slot_no t)) ≡ true)
-target_asks s t o l e below few =
+pub target_asks : (s : List ℕ) (i t o l : ℕ) → Apart s i t → slot_on (standing s) t ≡ Target o l
+    → UsedOn s (page_no t) (slot_no t) × (is_target ((view (page_of s (page_no t))).at (slot_no t)) ≡ true)
+target_asks s i t o l h e =
     let g = stands_view s t (Target o l) e in (
       record {
-        within = omega arith;
+        within = omega (arith, h.below);
         counted = counted (page_of s (page_no t)) (slot_no t) (λ f. let z : ◌≡◌ {A = ℕ} 0 1 = cc in omega arith);
-        few = few;
+        few = h.few;
       },
       ap is_target g,
     )
@@ -104,47 +104,49 @@ not_held u i t n = go (holds u i t) refl
     go true e = absurd (n (holds_is u i t e))
     go false e = refl
 
+module _ (s : List ℕ) (t : ℕ) where
+  pub count_standing : ((standing s).page (page_no t)).slot_count ≡ (view (page_of s (page_no t))).slot_count
+  count_standing = ap (λ (v : View). v.slot_count) (standing_page s (page_no t))
+
+  -- a page that is not lost, seen from another
+  pub apart : (i : ℕ) → page_no t < (standing s).pages → page_no t ≢ page_no i → lost ((standing s).page (page_no t)) ≡ false → Apart s i t
+  apart i below other whole =
+      record {
+        below = omega (arith, standing_pages s);
+        other = other;
+        few = omega (arith, lost_few ((standing s).page (page_no t)) whole, count_standing);
+      }
+
 module _ (s : List ℕ) (i t : ℕ) where
-  pub hold_past : length s / 16384 ≤ page_no t → false ≡ holds (standing s) i t
-  hold_past h = not_held (standing s) i t (λ x. omega (arith, x.below, standing_pages s))
+  pub hold_lost : (Apart s i t → ⊥) → false ≡ holds (standing s) i t
+  hold_lost n = not_held (standing s) i t (λ x. n (apart s t i x.below x.other x.whole))
 
-  pub hold_home : page_no t ≡ page_no i → false ≡ holds (standing s) i t
-  hold_home e = not_held (standing s) i t (λ x. x.other e)
+  pub hold_other : (x : Slot) → slot_on (standing s) t ≡ x → is_target x ≡ false → false ≡ holds (standing s) i t
+  hold_other x e n = not_held (standing s) i t (λ h. never h.target (ap is_target e ∙ n))
 
-  pub hold_lost : 2046 < (view (page_of s (page_no t))).slot_count → false ≡ holds (standing s) i t
-  hold_lost h =
-      not_held (standing s) i t
-      (λ x. omega (arith, lost_few ((standing s).page (page_no t)) x.whole, ap (λ (v : View). v.slot_count) (standing_page s (page_no t))))
-
-  pub hold_other : (x : Slot) → x ≡ ((seg_view s).page (page_no t)).at (slot_no t) → is_target x ≡ false → false ≡ holds (standing s) i t
-  hold_other x e n = not_held (standing s) i t (λ h. never h.target (ap is_target (stands s t x e) ∙ n))
-
-  module _ (o l : ℕ) (e : Target o l ≡ ((seg_view s).page (page_no t)).at (slot_no t)) where
+  module _ (o l : ℕ) (e : slot_on (standing s) t ≡ Target o l) where
     pub hold_long : 16384 < o + 8 → false ≡ holds (standing s) i t
     hold_long h =
-        not_held (standing s) i t (λ x.
-        let w = kept_inside ((standing s).page (page_no t)) (slot_no t) o l (stands s t (Target o l) e) x.keeps in
-        omega (arith, w.0, w.1))
+        not_held (standing s) i t (λ x. let w = kept_inside ((standing s).page (page_no t)) (slot_no t) o l e x.keeps in omega (arith, w.0, w.1))
 
     module _ (b : ℕ) (q : b ≡ be (cut s (page_no t * 16384 + o) 8)) where
       pub hold_back : b ≢ i → false ≡ holds (standing s) i t
-      hold_back n = not_held (standing s) i t (λ x. n (sym (back_is s t o l b (stands s t (Target o l) e) x.keeps q) ∙ x.back))
+      hold_back n = not_held (standing s) i t (λ x. n (sym (back_is s t o l b e x.keeps q) ∙ x.back))
 
-      pub hold_kept : page_no t < length s / 16384 → page_no t ≢ page_no i → (view (page_of s (page_no t))).slot_count ≤ 2046 → b ≡ i
-          → keeps (view (page_of s (page_no t))) (slot_no t) ≡ holds (standing s) i t
-      hold_kept below other few is =
+      pub hold_kept : Apart s i t → b ≡ i → keeps (view (page_of s (page_no t))) (slot_no t) ≡ holds (standing s) i t
+      hold_kept h is =
           ap (λ (v : View). keeps v (slot_no t)) (sym (standing_page s (page_no t))) ∙ go (keeps ((standing s).page (page_no t)) (slot_no t)) refl
         where
           go : (c : Bool) → keeps ((standing s).page (page_no t)) (slot_no t) ≡ c → c ≡ holds (standing s) i t
           go true k =
               sym (holds_in (standing s) i t
               (record {
-                below = omega (arith, standing_pages s);
+                below = omega (arith, h.below, standing_pages s);
                 whole = not_lost ((standing s).page (page_no t)) (slot_no t) (keeps_is ((standing s).page (page_no t)) (slot_no t) k).below
-                    (omega (arith, ap (λ (v : View). v.slot_count) (standing_page s (page_no t))));
+                    (omega (arith, h.few, count_standing s t));
                 keeps = k;
-                target = ap is_target (stands s t (Target o l) e);
-                other = other;
-                back = back_is s t o l b (stands s t (Target o l) e) k q ∙ is;
+                target = ap is_target e;
+                other = h.other;
+                back = back_is s t o l b e k q ∙ is;
               }))
           go false k = not_held (standing s) i t (λ x. never x.keeps k)

@@ -1,5 +1,5 @@
 -- What is asked of a segment whose slots are judged, and what is told of them.
-use Rattle.std.specs.Prelude.{ℕ, ◌/◌, ◌≤◌, ◌<◌, ◌≡◌, true, List, length, get_or}
+use Rattle.std.specs.Prelude.{ℕ, ◌/◌, ◌≤◌, ◌<◌, ◌≡◌, ◌≢◌, true, List, length, get_or, Option, Some, None}
 use Rattle.store.specs.Numbers.{page_no, slot_no}
 use Rattle.store.specs.Slots.{is_target}
 use Rattle.store.specs.Page.{view, sound}
@@ -7,6 +7,8 @@ use Rattle.store.specs.Segment.{page_of}
 use Rattle.store.specs.SoundSegment.{slot_on, back_id}
 use Rattle.store.specs.Repair.{standing, keeps}
 use Rattle.store.specs.Laws.Lent.{Within}
+use Rattle.store.specs.Laws.Slots.{Codable}
+use Rattle.store.specs.declared.Slot.{Slot}
 use Rattle.store.specs.declared.Deed.{Deed}
 use Rattle.store.specs.declared.Deed.TheVariants.{Stays}
 use Rattle.page_check.specs.Map.{mark}
@@ -46,6 +48,19 @@ pub record KeptTarget (s : List ℕ) (t b : ℕ) : Type 0 where
   pub target : is_target (slot_on (standing s) t) ≡ true
   pub keeps : keeps (view (page_of s (page_no t))) (slot_no t) ≡ true
   pub back : b ≡ back_id (standing s) t
+
+-- ---- the slot of an id t, seen from the id i
+
+-- its page is there, another than that of i, and has at most 2,046 slots
+pub record Apart (s : List ℕ) (i t : ℕ) : Type 0 where
+  pub below : page_no t < length s / 16384
+  pub other : page_no t ≢ page_no i
+  pub few : (view (page_of s (page_no t))).slot_count ≤ 2046
+
+-- where it is so, the slot that stands there
+abbrev pub SlotApart : List ℕ → ℕ → ℕ → Option Slot → Type 0
+SlotApart s i t (Some x) = Apart s i t × (slot_on (standing s) t ≡ x) × Codable x
+SlotApart s i t None = Apart s i t → ⊥
 
 -- ---- what is done to each slot of a page, in a row
 

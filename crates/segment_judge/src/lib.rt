@@ -10,7 +10,7 @@ ghost use Rattle.store.specs.Segment.{page_of};
 ghost use Rattle.store.specs.Repair.{standing, keeps, holds as holdsBy, named as named_by, deed, changes};
 ghost use Rattle.store.specs.Laws.Lent.{Within};
 ghost use Rattle.page_repair.specs.Kept.{judged};
-ghost use Rattle.segment_judge.specs.Words.{Checked, Known, UsedPageOn, UsedOn, KeptTarget, Deeds};
+ghost use Rattle.segment_judge.specs.Words.{Checked, Known, UsedPageOn, UsedOn, SlotApart, KeptTarget, Deeds};
 
 use layout::slots::REDIRECT;
 use page_repair::keep::Deeds;
@@ -86,22 +86,26 @@ impl<'a> Judge<'a> {
         self.is_sound(p) || page_repair::keep::is_kept(self.page(p), k)
     }
 
+    // The slot of id t, where its page is there, another than that of id i, and has at most 2,046 slots.
+    fn slot_of(&self, i: usize, t: usize) -> Option<Slot>
+        ensures { SlotApart self.now.segment.now i t result }
+    {
+        let p = t / IDS_A_PAGE;
+        if !segment_pages::elsewhere(self.segment, i, t) {
+            return None;
+        }
+        if MOST_SLOTS < layout::header::get_slot_count(self.page(p)) {
+            return None;
+        }
+        Some(segment_pages::slot_on(self.segment, p, t % IDS_A_PAGE))
+    }
+
     // Whether the redirect of id i, which names t, has "a kept target pointing back from another page".
     fn holds(&self, i: usize, t: usize) -> bool
         ensures { result ≡ holdsBy (standing self.now.segment.now) i t }
     {
         let p = t / IDS_A_PAGE;
-        if self.pages() <= p {
-            return false;
-        }
-        if p == i / IDS_A_PAGE {
-            return false;
-        }
-        if MOST_SLOTS < layout::header::get_slot_count(self.page(p)) {
-            return false;
-        }
-        let Slot::Target { offset, .. } = segment_pages::slot_on(self.segment, p, t % IDS_A_PAGE)
-        else {
+        let Some(Slot::Target { offset, .. }) = self.slot_of(i, t) else {
             return false;
         };
         if PAGE_SIZE < offset + BACK {
@@ -113,22 +117,12 @@ impl<'a> Judge<'a> {
         self.target_kept(p, t % IDS_A_PAGE)
     }
 
-    // Whether the kept target of id t, on page p, is named by a kept redirect: only the one at its back id, b, can be that.
+    // Whether the kept target of id t is named by a kept redirect: only the one at its back id, b, can be that.
     fn named(&self, t: usize, b: usize) -> bool
         requires { KeptTarget self.now.segment.now t b }
         ensures { result ≡ named_by (standing self.now.segment.now) t }
     {
-        let p = b / IDS_A_PAGE;
-        if self.pages() <= p {
-            return false;
-        }
-        if p == t / IDS_A_PAGE {
-            return false;
-        }
-        if MOST_SLOTS < layout::header::get_slot_count(self.page(p)) {
-            return false;
-        }
-        let Slot::Redirect { id } = segment_pages::slot_on(self.segment, p, b % IDS_A_PAGE) else {
+        let Some(Slot::Redirect { id }) = self.slot_of(t, b) else {
             return false;
         };
         id == t

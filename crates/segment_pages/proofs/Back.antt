@@ -1,49 +1,58 @@
 -- "its target on another page pointing back", test by test.
 use Prim.Native.Nat.{ℕ, ◌+◌, ◌*◌, ◌/◌, ◌≤◌, ◌<◌}
 use mathlib.Core.Path.{◌≡◌, refl, sym, ap, ◌∙◌}
-use mathlib.Core.Bool.{true, false}
+use mathlib.Core.Bool.{Bool, true, false, not, ◌&&◌}
 use mathlib.Core.List.{List}
 use mathlib.Core.Logic.{◌≢◌}
 use native.Mathlib.Omega.{arith}
 use lib.ListN.{length, take}
-use lib.Dec.{eqb}
-use borrow.Author.Tests.{lt-ltb, le-ltb, eq-eqb, ne_eqb}
+use lib.Dec.{ltb, eqb}
+use borrow.Author.Tests.{ltb-true, eq-eqb}
 use Rattle.store.specs.Numbers.{cut, be, page_no, slot_no}
 use Rattle.store.specs.Slots.{is_target}
 use Rattle.store.specs.Page.{sound}
 use Rattle.store.specs.Segment.{seg_view, points_back}
+use Rattle.store.proofs.Laws.Cases.{never}
+use Rattle.store.proofs.Laws.SoundPage.{and_both}
 use Rattle.store.proofs.Laws.SoundSegment.{seen_pages}
 use Rattle.store.specs.declared.Slot.{Slot}
 use Rattle.store.specs.declared.Slot.TheVariants.{Target}
 use Rattle.segment_pages.proofs.Seen.{slot_high, target_long, target_head}
 
+-- what the test of the page's place tells
+pub is_elsewhere : {n p q : ℕ} → (ltb p n && not (eqb p q)) ≡ true → (p < n) × (p ≢ q)
+is_elsewhere {n} {p} {q} e =
+    let w = and_both (ltb p n) (not (eqb p q)) e in
+    (ltb-true p n w.0, λ d. never w.1 (ap not (eq-eqb p q d)))
+
 module _ (s : List ℕ) (i t : ℕ) where
-  pub back_past : length s / 16384 ≤ page_no t → false ≡ points_back (seg_view s) i t
-  back_past h = rw (seen_pages s, le-ltb (page_no t) (length s / 16384) h)
+  -- the page of t is there, and another than i's
+  abbrev pub elsewhere : Bool
+  elsewhere = ltb (page_no t) (length s / 16384) && not (eqb (page_no t) (page_no i))
 
-  module _ (inside : page_no t < length s / 16384) where
-    pub back_home : page_no t ≡ page_no i → false ≡ points_back (seg_view s) i t
-    back_home e = rw (seen_pages s, lt-ltb (page_no t) (length s / 16384) inside, eq-eqb (page_no t) (page_no i) e)
+  pub back_lost : elsewhere ≡ false → false ≡ points_back (seg_view s) i t
+  back_lost h = rw (seen_pages s, h)
 
-    module _ (away : page_no t ≢ page_no i) where
-      pub back_damaged : sound ((seg_view s).page (page_no t)) ≡ false → false ≡ points_back (seg_view s) i t
-      back_damaged e = rw (seen_pages s, lt-ltb (page_no t) (length s / 16384) inside, ne_eqb (page_no t) (page_no i) away, e)
+  module _ (h : elsewhere ≡ true) where
+    pub back_damaged : sound ((seg_view s).page (page_no t)) ≡ false → false ≡ points_back (seg_view s) i t
+    back_damaged e = rw (seen_pages s, h, e)
 
-      module _ (ok : sound ((seg_view s).page (page_no t)) ≡ true) where
-        pub back_other : (x : Slot) → x ≡ ((seg_view s).page (page_no t)).at (slot_no t) → is_target x ≡ false → false ≡ points_back (seg_view s) i t
-        back_other x e n =
-            rw (seen_pages s, lt-ltb (page_no t) (length s / 16384) inside, ne_eqb (page_no t) (page_no i) away, ok, ← e, n)
+    pub inside : page_no t * 16384 + 16384 ≤ length s
+    inside = let w = is_elsewhere {n = length s / 16384} {p = page_no t} {q = page_no i} h in omega (arith, w.0)
 
-        pub target_inside : (o l : ℕ) → Target o l ≡ ((seg_view s).page (page_no t)).at (slot_no t) → (8 ≤ l) × (o + l ≤ 16384)
-        target_inside o l e =
-            let f : page_no t * 16384 + 16384 ≤ length s = omega arith in
-            (target_long s (page_no t) f ok (slot_no t) (Target o l) (sym e) refl, slot_high s (page_no t) f ok (slot_no t) (Target o l) (sym e))
+    module _ (ok : sound ((seg_view s).page (page_no t)) ≡ true) where
+      pub back_other : (x : Slot) → x ≡ ((seg_view s).page (page_no t)).at (slot_no t) → is_target x ≡ false → false ≡ points_back (seg_view s) i t
+      back_other x e n = rw (seen_pages s, h, ok, ← e, n)
 
-        pub back_target : (o l : ℕ) → Target o l ≡ ((seg_view s).page (page_no t)).at (slot_no t) → (b : ℕ) → b ≡ be (cut s (page_no t * 16384 + o) 8)
-            → eqb b i ≡ points_back (seg_view s) i t
-        back_target o l e b q =
-            let w = target_inside o l e in
-            let h : be (take 8 (((seg_view s).page (page_no t)).bytes (slot_no t))) ≡ b =
-            ap be (target_head s (page_no t) (slot_no t) o l (sym e) w.0 w.1) ∙ sym q in
-            let u : is_target (((seg_view s).page (page_no t)).at (slot_no t)) ≡ true = ap is_target (sym e) in
-            rw (seen_pages s, lt-ltb (page_no t) (length s / 16384) inside, ne_eqb (page_no t) (page_no i) away, ok, u, h)
+      pub target_inside : (o l : ℕ) → Target o l ≡ ((seg_view s).page (page_no t)).at (slot_no t) → (8 ≤ l) × (o + l ≤ 16384)
+      target_inside o l e =
+          (target_long s (page_no t) inside ok (slot_no t) (Target o l) (sym e) refl, slot_high s (page_no t) inside ok (slot_no t) (Target o l) (sym e))
+
+      pub back_target : (o l : ℕ) → Target o l ≡ ((seg_view s).page (page_no t)).at (slot_no t) → (b : ℕ) → b ≡ be (cut s (page_no t * 16384 + o) 8)
+          → eqb b i ≡ points_back (seg_view s) i t
+      back_target o l e b q =
+          let w = target_inside o l e in
+          let g : be (take 8 (((seg_view s).page (page_no t)).bytes (slot_no t))) ≡ b =
+          ap be (target_head s (page_no t) (slot_no t) o l (sym e) w.0 w.1) ∙ sym q in
+          let u : is_target (((seg_view s).page (page_no t)).at (slot_no t)) ≡ true = ap is_target (sym e) in
+          rw (seen_pages s, h, ok, u, g)

@@ -1,8 +1,8 @@
 // One page of the segment lent on from its middle, to be read: the sizes that document 01 asks for, and what is seen of a page.
 #![tactic(auto)]
 
-ghost use Rattle.std.specs.Prelude.{◌≡◌, ◌&&◌, ◌+◌, ◌*◌, ◌≤◌};
-ghost use Rattle.store.specs.Numbers.{cut, be};
+ghost use Rattle.std.specs.Prelude.{◌≡◌, ◌&&◌, not, ◌+◌, ◌*◌, ◌/◌, ◌≤◌, length, ltb, eqb};
+ghost use Rattle.store.specs.Numbers.{cut, be, page_no};
 ghost use Rattle.store.specs.Page.{view, sound};
 ghost use Rattle.store.specs.Segment.{size_ok, inv_ok, page_of, seg_view, root_of, points_back};
 ghost use Rattle.store.specs.Laws.Slots.{Codable};
@@ -92,15 +92,20 @@ pub fn back_id_on(segment: &[u8], p: usize, offset: usize) -> usize
     layout::get_u64(segment, p * PAGE_SIZE + offset)
 }
 
+// Whether the page of id t is there, and another than that of id i.
+pub fn elsewhere(segment: &[u8], i: usize, t: usize) -> bool
+    ensures { result ≡ (ltb (page_no t) (length segment.now / 16384) && not (eqb (page_no t) (page_no i))) }
+{
+    let p = t / IDS_A_PAGE;
+    p < segment.len() / PAGE_SIZE && p != i / IDS_A_PAGE
+}
+
 // Whether t is a target's id, on another page than i's, "pointing back" to i, and that page is sound.
 pub fn points_back(segment: &[u8], i: usize, t: usize) -> bool
     ensures { result ≡ points_back (seg_view segment.now) i t }
 {
     let p = t / IDS_A_PAGE;
-    if segment.len() / PAGE_SIZE <= p {
-        return false;
-    }
-    if p == i / IDS_A_PAGE {
+    if !elsewhere(segment, i, t) {
         return false;
     }
     if !page_sound(segment, p) {

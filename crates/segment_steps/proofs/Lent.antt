@@ -1,11 +1,13 @@
 -- One page of the segment lent on from its middle, to be written: what the borrow checker says of it, in the words of the plans.
-use Prim.Native.Nat.{ℕ, ◌+◌, ◌*◌, ◌≤◌}
+use Prim.Native.Nat.{ℕ, ◌+◌, ◌*◌, ◌≤◌, ◌<◌}
 use mathlib.Core.Path.{◌≡◌, refl, sym, ap, ◌∙◌}
 use mathlib.Core.Bool.{true}
 use mathlib.Core.List.{List, ◌++◌}
 use native.Mathlib.Omega.{arith}
 use lib.ListN.{length, take, drop}
-use Rattle.std.proofs.Common.{drop-drop}
+use Rattle.std.proofs.Common.{drop-drop, Option, Some, MutBor}
+use Rattle.std.specs.Array.{IsFirstChunk}
+use Rattle.std.specs.Prelude.{MatchOption}
 use Rattle.store.specs.Numbers.{put}
 use Rattle.store.specs.Page.{View, view, sound}
 use Rattle.store.specs.PageSteps.{run, Plan, Alloc, no_room, got}
@@ -28,6 +30,12 @@ pub record Lends (s : List ℕ) (p : ℕ) (front rest page : List ℕ) : Type 0 
   pub before : front ≡ take (p * 16384) s
   pub behind : rest ≡ drop (p * 16384) s
   pub first : page ≡ take 16384 rest
+
+-- as the split and the first page of the rest tell it
+pub lends : {s : List ℕ} {p : ℕ} {front rest : List ℕ} {chunk : Option (MutBor (List ℕ))} {page : MutBor (List ℕ)}
+    → front ≡ take (p * 16384) s → rest ≡ drop (p * 16384) s → MatchOption chunk (length rest < 16384) (λ y. IsFirstChunk rest y.now 16384)
+    → chunk ≡ Some page → Lends s p front rest page.now
+lends f b cases e = record { before = f; behind = b; first = (rw e at cases).same }
 
 module _ {s : List ℕ} {p : ℕ} {front rest page : List ℕ} (l : Lends s p front rest page) (fits : p * 16384 + 16384 ≤ length s) where
   pub lent_is : page ≡ page_of s p

@@ -14,12 +14,12 @@ use Rattle.store.specs.Laws.Lent.{Within, SoundOn}
 use Rattle.slotted_page.specs.Words.{place_at, place_of, PastEntry}
 use Rattle.slotted_page.proofs.FillLaws.{given_is}
 use Rattle.segment_moves.proofs.Moved.{target_length}
-use Rattle.segment_steps.proofs.Lent.{Lends}
+use Rattle.segment_steps.proofs.Lent.{lends}
 use Rattle.segment_steps.proofs.Written.{none_written, target_written}
 use Rattle.segment_forward.specs.Words.{root_or_old}
 use Rattle.segment_forward.proofs.Search.{named_fits, named_short, place_full, place_damaged, place_excluded, place_no_room}
 use Rattle.segment_forward.proofs.Search.{place_taken, is_root_lem, is_old, is_other}
-use Rattle.segment_forward.proofs.place_target.Goals.{After-allocate_on, After-unwrap, Else-page-old, Else-not-page_sound, In-Some, In-Some-allocate_on}
+use Rattle.segment_forward.proofs.place_target.Goals.{After-allocate_on, Else-page-old, Else-not-page_sound, In-Some, In-Some-allocate_on}
 use Rattle.segment_forward.proofs.place_target.Goals.{then-page-id-via-then-page-id, then-page-id-via-else-page-id+then-page-old}
 use Rattle.segment_forward.proofs.place_target.Goals as goal
 
@@ -47,11 +47,6 @@ place_here : (c : In-Some-allocate_on) → let a = c.args in
     place_of (allocate ((seg_view a.segment.now).page c.in-Some.page) (a.size + 8))
     ≡ place_at c.in-Some-allocate_on.place.slot c.in-Some-allocate_on.place.offset
 place_here c = sym (place_of_lem (goal.at.In-Some-allocate_on c).After-allocate_on) ∙ c.in-Some-allocate_on.is
-
-lent : (c : After-unwrap) → Lends c.allocate_on.new.segment c.in-Some.page c.split_at_mut-rest.result.0.now c.split_at_mut-rest.result.1.now c.unwrap.result.now
-lent c =
-    let s = c.split_at_mut-rest.ensures in
-    record { before = s.front; behind = s.back; first = (rw c.unwrap.ensures at c.first_chunk_mut.ensures.cases).same }
 
 pub returns-in_default : goal.returns-in_default
 returns-in_default c =
@@ -108,6 +103,8 @@ unwrap-requires c =
 
 pub returns : goal.returns
 returns c =
+    let split = c.split_at_mut-rest.ensures in
+    let l = lends split.front split.back c.first_chunk_mut.ensures.cases c.unwrap.ensures in
     let a = c.args in
     let bs = fit a.size a.bytes.now in
     place_taken a.segment.now a.inventory.now a.id a.size bs (root_or_old a.id a.old) _
@@ -115,5 +112,5 @@ returns c =
     (target_written a.segment.now _ (sound_here (goal.at.returns c).Else-not-page_sound) (a.size + 8) c.allocate_on.new.segment
     c.allocate_on.ensures.0 _ _ (place_here (goal.at.returns c).In-Some-allocate_on)
     (to_be 8 a.id ++ bs) (target_length a.id bs a.size (length_fit a.size a.bytes.now)) c.write_target.new.page
-    (lent (goal.at.returns c).After-unwrap) (subst PastEntry c.in-Some-allocate_on.is c.allocate_on.ensures.3) c.write_target.ensures)
+    l (subst PastEntry c.in-Some-allocate_on.is c.allocate_on.ensures.3) c.write_target.ensures)
     _ _ (place_here (goal.at.returns c).In-Some-allocate_on)

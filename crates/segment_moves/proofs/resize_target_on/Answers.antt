@@ -3,22 +3,19 @@ use Prim.Native.Nat.{◌+◌}
 use lib.ListN.{drop}
 use Rattle.store.specs.Numbers.{to_be, fit}
 use Rattle.store.specs.Page.{View}
-use Rattle.segment_steps.proofs.Lent.{Lends, lent_taken}
+use Rattle.segment_steps.proofs.Lent.{lends, lent_taken}
 use Rattle.segment_moves.proofs.Moved.{lent_moved}
-use Rattle.segment_moves.proofs.resize_target_on.Goals.{After-unwrap}
 use Rattle.segment_moves.proofs.resize_target_on.Goals as goal
-
-lent : (c : After-unwrap) → Lends c.args.segment.now c.args.p c.split_at_mut-rest.result.0.now c.split_at_mut-rest.result.1.now c.unwrap.result.now
-lent c =
-    let s = c.split_at_mut-rest.ensures in
-    record { before = s.front; behind = s.back; first = (rw c.unwrap.ensures at c.first_chunk_mut.ensures.cases).same }
 
 pub resize_target-requires : goal.resize_target-requires
 resize_target-requires c =
-    record { used_slot = lent_taken (lent (goal.at.resize_target-requires c).After-unwrap) c.args.k c.requires.taken_on; size_bound = c.requires.size_bound }
+    let split = c.split_at_mut-rest.ensures in
+    let l = lends split.front split.back c.first_chunk_mut.ensures.cases c.unwrap.ensures in
+    record { used_slot = lent_taken l c.args.k c.requires.taken_on; size_bound = c.requires.size_bound }
 
 pub returns : goal.returns
 returns c =
+    let split = c.split_at_mut-rest.ensures in
     let x = c.resize_target in
-    lent_moved (lent (goal.at.returns c).After-unwrap) c.args.k c.requires.taken_on (c.args.size + 8)
+    lent_moved (lends split.front split.back c.first_chunk_mut.ensures.cases c.unwrap.ensures) c.args.k c.requires.taken_on (c.args.size + 8)
     (λ (v : View). to_be 8 c.args.id ++ fit c.args.size (drop 8 (v.bytes c.args.k))) x.new.page _ x.ensures

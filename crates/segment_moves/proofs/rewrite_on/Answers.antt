@@ -1,21 +1,17 @@
 use Rattle.store.specs.Numbers.{fit}
 use Rattle.store.specs.Page.{View}
-use Rattle.segment_steps.proofs.Lent.{Lends, lent_taken}
+use Rattle.segment_steps.proofs.Lent.{lends, lent_taken}
 use Rattle.segment_moves.proofs.Moved.{lent_moved}
-use Rattle.segment_moves.proofs.rewrite_on.Goals.{After-unwrap}
 use Rattle.segment_moves.proofs.rewrite_on.Goals as goal
-
-lent : (c : After-unwrap) → Lends c.args.segment.now c.args.p c.split_at_mut-rest.result.0.now c.split_at_mut-rest.result.1.now c.unwrap.result.now
-lent c =
-    let s = c.split_at_mut-rest.ensures in
-    record { before = s.front; behind = s.back; first = (rw c.unwrap.ensures at c.first_chunk_mut.ensures.cases).same }
 
 pub rewrite-requires : goal.rewrite-requires
 rewrite-requires c =
-    lent_taken (lent (goal.at.rewrite-requires c).After-unwrap) c.args.k c.requires
+    let split = c.split_at_mut-rest.ensures in
+    lent_taken (lends split.front split.back c.first_chunk_mut.ensures.cases c.unwrap.ensures) c.args.k c.requires
 
 pub returns : goal.returns
 returns c =
+    let split = c.split_at_mut-rest.ensures in
     let x = c.rewrite in
-    lent_moved (lent (goal.at.returns c).After-unwrap) c.args.k c.requires c.args.size
+    lent_moved (lends split.front split.back c.first_chunk_mut.ensures.cases c.unwrap.ensures) c.args.k c.requires c.args.size
     (λ (v : View). fit c.args.size c.args.bytes.now) x.new.page _ x.ensures

@@ -1,72 +1,61 @@
-use Prim.Native.Nat.{◌/◌, ◌*◌, ◌+◌, ◌≤◌, ◌<◌}
 use mathlib.Core.Path.{◌≡◌, sym, ◌∙◌}
 use mathlib.Core.Bool.{true}
-use mathlib.Core.Logic.{◌≢◌}
 use native.Mathlib.Omega.{arith}
-use lib.ListN.{length}
 use Rattle.store.specs.Numbers.{page_no}
 use Rattle.store.specs.Page.{sound}
 use Rattle.store.specs.Segment.{seg_view}
 use Rattle.segment_pages.proofs.Seen.{few_slots, not_target}
-use Rattle.segment_pages.proofs.Back.{back_past, back_home, back_damaged, back_other, target_inside, back_target}
-use Rattle.segment_pages.proofs.points_back.Goals.{Else-not-page_sound, Else-p-i, Start}
+use Rattle.segment_pages.proofs.Back.{elsewhere, back_lost, inside, back_damaged, back_other, target_inside, back_target}
+use Rattle.segment_pages.proofs.points_back.Goals.{Else-not-elsewhere, Else-not-page_sound}
 use Rattle.segment_pages.proofs.points_back.Goals as goal
 
--- the code's places: where the page was found sound, and the function's start
-abbrev start : Else-not-page_sound → Start
-start c = (goal.at.Else-not-page_sound c).Start
+-- what the tests told
+there : (c : Else-not-elsewhere) → let a = c.args in elsewhere a.segment.now a.i a.t ≡ true
+there c = sym c.elsewhere.ensures ∙ c.if-not-elsewhere.false
 
--- what the tests told by then
 told : (c : Else-not-page_sound)
-    → let a = (start c).args in
-    (page_no a.t < length a.segment.now / 16384) × (page_no a.t ≢ page_no a.i) × (sound ((seg_view a.segment.now).page (page_no a.t)) ≡ true)
-told c =
-    let away = (goal.at.Else-not-page_sound c).Else-p-i in
-    (away.if-segment-p.false, away.if-p-i.false, sym c.page_sound.ensures ∙ c.if-not-page_sound.false)
+    → let a = c.args in
+    (elsewhere a.segment.now a.i a.t ≡ true) × (sound ((seg_view a.segment.now).page (page_no a.t)) ≡ true)
+told c = (there (goal.at.Else-not-page_sound c).Else-not-elsewhere, sym c.page_sound.ensures ∙ c.if-not-page_sound.false)
 
-pub returns-then-segment-p : goal.returns-then-segment-p
-returns-then-segment-p c =
+pub returns-then-not-elsewhere : goal.returns-then-not-elsewhere
+returns-then-not-elsewhere c =
     let a = c.args in
-    back_past a.segment.now a.i a.t c.if-segment-p.true
+    back_lost a.segment.now a.i a.t (sym c.elsewhere.ensures ∙ c.if-not-elsewhere.true)
 
-pub returns-then-p-i : goal.returns-then-p-i
-returns-then-p-i c =
+pub page_sound-requires : goal.page_sound-requires
+page_sound-requires c =
     let a = c.args in
-    back_home a.segment.now a.i a.t c.if-segment-p.false c.if-p-i.true
+    inside a.segment.now a.i a.t (there (goal.at.page_sound-requires c).Else-not-elsewhere)
 
 pub returns-then-not-page_sound : goal.returns-then-not-page_sound
 returns-then-not-page_sound c =
-    let away = (goal.at.returns-then-not-page_sound c).Else-p-i in
-    let a = away.args in
-    back_damaged a.segment.now a.i a.t away.if-segment-p.false away.if-p-i.false
+    let a = c.args in
+    back_damaged a.segment.now a.i a.t (there (goal.at.returns-then-not-page_sound c).Else-not-elsewhere)
     (sym c.page_sound.ensures ∙ c.if-not-page_sound.true)
 
 pub slot_on-requires : goal.slot_on-requires
 slot_on-requires c =
-    let a = (start (goal.at.slot_on-requires c).Else-not-page_sound).args in
-    let s = a.segment.now in
+    let a = c.args in
     let t = told (goal.at.slot_on-requires c).Else-not-page_sound in
-    let inside : page_no a.t * 16384 + 16384 ≤ length s = omega (arith, t.0) in
-    record { within = inside; p_bound = few_slots s (page_no a.t) inside t.2 }
+    let w = inside a.segment.now a.i a.t t.0 in
+    record { within = w; p_bound = few_slots a.segment.now (page_no a.t) w t.1 }
 
 pub returns-in_default : goal.returns-in_default
 returns-in_default c =
-    let found = (goal.at.returns-in_default c).Else-not-page_sound in
-    let a = (start found).args in
-    let t = told found in
-    back_other a.segment.now a.i a.t t.0 t.1 t.2 _ c.slot_on.ensures.0
-    (not_target c.slot_on.result c.in_default.not-Target)
+    let a = c.args in
+    let t = told (goal.at.returns-in_default c).Else-not-page_sound in
+    back_other a.segment.now a.i a.t t.0 t.1 _ c.slot_on.ensures.0 (not_target c.slot_on.result c.in_default.not-Target)
 
 pub back_id_on-requires : goal.back_id_on-requires
 back_id_on-requires c =
     let a = c.args in
     let t = told (goal.at.back_id_on-requires c).Else-not-page_sound in
-    let w = target_inside a.segment.now a.i a.t t.0 t.1 t.2 c.in-Target.offset c.in-Target.length c.in-Target.ensures.0 in
-    record { within = omega (arith, t.0); offset_bound = omega (arith, w.0, w.1) }
+    let w = target_inside a.segment.now a.i a.t t.0 t.1 c.in-Target.offset c.in-Target.length c.in-Target.ensures.0 in
+    record { within = inside a.segment.now a.i a.t t.0; offset_bound = omega (arith, w.0, w.1) }
 
 pub returns : goal.returns
 returns c =
     let a = c.args in
     let t = told (goal.at.returns c).Else-not-page_sound in
-    back_target a.segment.now a.i a.t t.0 t.1 t.2 c.in-Target.offset c.in-Target.length c.in-Target.ensures.0 c.back_id_on.result
-    c.back_id_on.ensures
+    back_target a.segment.now a.i a.t t.0 t.1 c.in-Target.offset c.in-Target.length c.in-Target.ensures.0 c.back_id_on.result c.back_id_on.ensures

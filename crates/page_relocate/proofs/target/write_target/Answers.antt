@@ -10,5 +10,5 @@ returns c =
     let a = c.args in
     let i = to_be 8 a.id in
     let bs = fit a.size a.bytes.now in
-    c.fit_in.ensures ∙ rw c.put_u64.ensures (sym (write_append a.offset i bs c.write_slot.new.page))
-    ∙ ap (λ (q : List ℕ). put q a.offset (i ++ bs)) c.write_slot.ensures
+    c.fit_in.ensures ∙ rw c.put_u64.ensures (sym (write_append a.place.offset i bs c.write_slot.new.page))
+    ∙ ap (λ (q : List ℕ). put q a.place.offset (i ++ bs)) c.write_slot.ensures
