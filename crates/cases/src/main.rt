@@ -2,6 +2,8 @@
 // them. What this prints is held to what the documents say, written by hand.
 #![tactic(auto)]
 
+ghost use Rattle.std.specs.Prelude.{◌≤◌};
+
 mod headers;
 mod show;
 
@@ -19,7 +21,9 @@ const ONE_ONE: u64 = ONE_ZERO + 1;
 const TWO_ZERO: u64 = 2 * ONE_ZERO;
 
 // A case on so many bytes of fresh pages: its title, and its lines.
-fn case<const BYTES: usize>(rt: &impl Print, title: &[u8], lines: &[Line]) -> io::Result<()> {
+fn case<const BYTES: usize>(rt: &impl Print, title: &[u8], lines: &[Line]) -> io::Result<()>
+    requires { BYTES ≤ 49152 }
+{
     let mut segment = [0u8; BYTES];
     let mut inventory = [0u8; PAGE_SIZE];
     print::say(rt, title)?;

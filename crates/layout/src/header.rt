@@ -1,5 +1,5 @@
 // The header: its four numbers as the view has them, each and together, and all of it written.
-ghost use Rattle.std.specs.Prelude.{◌≡◌, ◌+◌, ◌-◌, ◌*◌, ◌≤◌, ◌<◌};
+ghost use Rattle.std.specs.Prelude.{◌≡◌, ◌+◌, ◌-◌, ◌*◌, ◌≤◌, ◌<◌, length};
 ghost use Rattle.store.specs.Numbers.{put};
 ghost use Rattle.store.specs.Page.{view, fresh};
 ghost use Rattle.layout.specs.Run.{head_of};
@@ -29,14 +29,10 @@ impl Header {
         }
     }
 
-    #[tactic(auto, using(crate::proofs::Codec::header_put))]
     pub fn write(self, page: &mut Page)
         ensures { page.new ≡ put page.old 0 (head_of self.count self.first self.start self.space) }
     {
-        crate::put_u16(page, 0, self.count);
-        crate::put_u16(page, 2, self.first);
-        crate::put_u32(page, 4, self.start);
-        crate::put_u32(page, 8, self.space);
+        set_header(page, self.count, self.first, self.start, self.space);
     }
 
     // The bytes between the directory and data start.
@@ -90,4 +86,16 @@ pub fn is_fresh(page: &Page) -> bool
         (count, first, start, space),
         (0, 0, 0, 0) | (0, 0, PAGE_SIZE, ROOM)
     )
+}
+
+// The four numbers at the start of any bytes.
+#[tactic(auto, using(crate::proofs::Codec::header_put))]
+pub fn set_header(page: &mut [u8], c: usize, f: usize, d: usize, n: usize)
+    requires { 12 ≤ length page.old }
+    ensures { page.new ≡ put page.old 0 (head_of c f d n) }
+{
+    crate::put_u16(page, 0, c);
+    crate::put_u16(page, 2, f);
+    crate::put_u32(page, 4, d);
+    crate::put_u32(page, 8, n);
 }

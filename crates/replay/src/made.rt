@@ -10,9 +10,9 @@ pub fn record(bytes: &mut [u8], seed: u64) {
 }
 
 // The bytes of a number, the lowest first, over all of these.
-fn digits<'a>(bytes: impl Iterator<Item = &'a mut u8>, value: u64) {
+fn digits(bytes: &mut [u8], value: u64) {
     let mut left = value;
-    for byte in bytes {
+    for byte in bytes.iter_mut() {
         *byte = (left % 256) as u8;
         left /= 256;
     }
@@ -21,8 +21,11 @@ fn digits<'a>(bytes: impl Iterator<Item = &'a mut u8>, value: u64) {
 // Bytes set between calls, by the letter of the line that names them: a big-endian number, a little-endian one, or a record.
 pub fn set(bytes: &mut [u8], letter: u8, value: u64) {
     match letter {
-        b'B' => digits(bytes.iter_mut().rev(), value),
-        b'V' => digits(bytes.iter_mut(), value),
+        b'B' => {
+            digits(bytes, value);
+            bytes.reverse();
+        }
+        b'V' => digits(bytes, value),
         _ => record(bytes, value),
     }
 }
