@@ -1,5 +1,5 @@
 // A line of a trace: "a letter and decimal numbers, with one blank between them".
-ghost use Rattle.std.specs.Prelude.{◌≤◌, length};
+ghost use Rattle.std.specs.Prelude.{◌≤◌, length, IfSome};
 
 fn digit_of(b: u8) -> Option<u64> {
     match b {
@@ -74,7 +74,9 @@ pub fn letter(text: &[u8]) -> Option<u8> {
 }
 
 // How many numbers stand before the five of the result, where the letter is of a call.
-pub fn arguments_of(letter: u8) -> Option<u8> {
+pub fn arguments_of(letter: u8) -> Option<u8>
+    ensures { IfSome result (λ n. n ≤ 3) }
+{
     match letter {
         b'N' => Some(0),
         b'A' | b'R' | b'E' => Some(1),
