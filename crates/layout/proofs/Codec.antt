@@ -8,7 +8,7 @@ use borrow.Author.Tests.{lt-ltb}
 use Rattle.store.specs.Numbers.{cut, put, be, to_be}
 use Rattle.store.specs.Slots.{of_kind, slot_of}
 use Rattle.store.specs.Page.{view, count}
-use Rattle.store.specs.declared.Slot.TheVariants.{Ordinary, Free, Redirect, Target}
+use Rattle.store.specs.declared.Slot.TheVariants.{Ordinary, Free}
 use Rattle.layout.specs.Run.{head_of}
 use Rattle.store.proofs.Laws.Writes.{write_append}
 use Rattle.layout.proofs.Numbers.{num8}
@@ -32,12 +32,6 @@ module _ (h l o : ℕ) (small : l < 2 ^ 32) (low : o < 2 ^ 30) where
 
   pub of_free : h ≡ 2 ^ 30 + o → slot_of (h * 2 ^ 32 + l) ≡ Free
   of_free e = of_kind_lem 1 (omega arith)
-
-  pub of_redirect : h ≡ 2 * 2 ^ 30 + o → slot_of (h * 2 ^ 32 + l) ≡ Redirect (o * 2 ^ 32 + l)
-  of_redirect e = of_kind_lem 2 (omega arith)
-
-  pub of_target : h ≡ 3 * 2 ^ 30 + o → slot_of (h * 2 ^ 32 + l) ≡ Target o l
-  of_target e = of_kind_lem 3 (omega arith) ∙ rw (offset, len)
 
 -- a slot that is counted
 pub counted_slot : (p : List ℕ) (k h l : ℕ) → 12 + 8 * k + 8 ≤ length p → k < (view p).slot_count → h ≡ be (cut p (12 + 8 * k) 4)

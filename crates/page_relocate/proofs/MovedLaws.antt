@@ -23,12 +23,7 @@ module _ (k : ℕ) (p q : List ℕ) where
   refilled_done (moved a) j o bs e x = (x, refl)
 
 -- a refusal leaves the page
-module _ (p q : List ℕ) where
-  pub refused_done : (k : ℕ) (r : Relocated) → given_place None ≡ allotted (alloc_of k r) → q ≡ page_bare (alloc_of k r) p
-      → (q ≡ page_moved r p) × (false ≡ was_moved r) × ((bs : List ℕ) → q ≡ page_moved (refilled r k bs) p)
-  refused_done k refused e e₁ = (e₁, refl, λ bs. e₁)
-  refused_done k (moved a) e e₁ = absurd (omega (arith, ap (λ (x : Placed). x.answer) e))
-
-  pub unmoved_done : (k : ℕ) (r : Relocated) (bs : List ℕ) → false ≡ was_moved r → q ≡ page_moved r p → q ≡ page_moved (refilled r k bs) p
-  unmoved_done k refused bs e e₁ = e₁
-  unmoved_done k (moved a) bs e e₁ = let z : ◌≡◌ {A = ℕ} 0 1 = cc in absurd (omega arith)
+pub refused_done : (p q : List ℕ) (k : ℕ) (r : Relocated) → given_place None ≡ allotted (alloc_of k r) → q ≡ page_bare (alloc_of k r) p
+    → (q ≡ page_moved r p) × (false ≡ was_moved r)
+refused_done p q k refused e e₁ = (e₁, refl)
+refused_done p q k (moved a) e e₁ = absurd (omega (arith, ap (λ (x : Placed). x.answer) e))

@@ -132,7 +132,7 @@ module _ (p : List ℕ) (k n : ℕ) (used : UsedSlot p k) where
           (λ r. home i e (ltb-false v.free_space n r))
       go (Target o l) e = sized
 
-  pub relocate_ended : Ended p (fit n ((view p).bytes k)) (alloc_of k (relocate (view p) k n))
+  relocate_ended : Ended p (fit n ((view p).bytes k)) (alloc_of k (relocate (view p) k n))
   unfolding v old
   relocate_ended = relocate_cases (λ r. Ended p old (alloc_of k r)) tt same_ended less_ended (λ h r. more_ended) (λ i e r. home_ended i e)
 
@@ -231,7 +231,7 @@ module _ (p : List ℕ) (k n : ℕ) (used : UsedSlot p k) where
       → q ≡ page_bare (alloc_of k (relocate (view p) k n)) p → n ≤ len ((view p).at k)
       → (q ≡ page_moved (relocate (view p) k n) p) × (is_some r ≡ was_moved (relocate (view p) k n))
   settle_done (Some x) q e e₁ h = moved_done k p q R x.slot x.offset (there x.slot x.offset q q e e₁) (e₁ ∙ stands h)
-  settle_done None q e e₁ h = let y = refused_done p q k R e e₁ in (y.0, y.1)
+  settle_done None q e e₁ h = refused_done p q k R e e₁
 
   -- the same with the bytes written again: the plan's own
   same_bytes_lem : (r : Relocated) (own : List ℕ) → Ended p own (alloc_of k r) → page_moved r p ≡ page_moved (refilled r k own) p

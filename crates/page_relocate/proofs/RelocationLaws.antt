@@ -7,7 +7,7 @@ use Prim.Native.Nat.{ℕ, ◌+◌, ◌-◌, ◌*◌, ◌≤◌, ◌<◌}
 use native.Mathlib.Omega.{arith}
 use lib.ListN.{length, take}
 use lib.Dec.{ltb}
-use borrow.Author.Tests.{lt-ltb, le-ltb, eq-eqb, ne_eqb}
+use borrow.Author.Tests.{le-ltb, ne_eqb}
 use Rattle.store.specs.Numbers.{put, zeros, fit}
 use Rattle.store.specs.Slots.{slot_bytes, off, len, is_free, is_record, placed}
 use Rattle.store.specs.Page.{View, view}
@@ -23,7 +23,6 @@ use Rattle.store.proofs.Laws.Compactify.{placed_is, record_taken}
 use Rattle.store.proofs.Laws.Relocate.{park_exact}
 use Rattle.store.specs.declared.Slot.{Slot}
 use Rattle.store.specs.declared.Slot.TheVariants.{Ordinary, Free, Redirect, Target}
-use Rattle.std.specs.Prelude.{None}
 use Rattle.layout.specs.Run.{head_of}
 use Rattle.page_compactify.specs.Room.{Roomed}
 use Rattle.page_places.specs.Words.{unfilled, page_bare, place_at}
@@ -52,17 +51,14 @@ under_bare v k n s es bs p₀ p q e₀ e =
 
 -- ---- home
 
-module _ (v : View) (k n m : ℕ) (p : List ℕ) (em : m ≡ v.free_space) where
-  pub home_none : m < n → (p ≡ page_bare (alloc_of k (home_of v k n)) p) × (given_place None ≡ allotted (alloc_of k (home_of v k n)))
-  home_none h = let t : ltb v.free_space n ≡ true = lt-ltb v.free_space n (omega arith) in rw t (refl, refl)
-
-  pub home_done : (r : ℕ) (q : List ℕ) → n ≤ m → q ≡ under_page v k (Ordinary 0 0) n p → r ≡ (make_room v n).after.data_start - n
-      → (q ≡ page_bare (alloc_of k (home_of v k n)) p) × (given_place (place_at k r) ≡ allotted (alloc_of k (home_of v k n)))
-  home_done r q h e er =
-      let t : ltb v.free_space n ≡ false = le-ltb v.free_space n (omega arith) in
-      let w : View = (make_room v n).after in
-      let there : r ≡ off ((move_under v k (Ordinary 0 0) n (zeros n)).after.at k) = er ∙ sym (ap off (upd_same w.at k (Ordinary (w.data_start - n) n))) in
-      rw t (under_bare v k n (Ordinary 0 0) [] (zeros n) p p q refl e, ap (λ (x : ℕ). given_place (place_at k x)) there)
+pub home_done : (v : View) (k n m : ℕ) (p : List ℕ) → m ≡ v.free_space
+    → (r : ℕ) (q : List ℕ) → n ≤ m → q ≡ under_page v k (Ordinary 0 0) n p → r ≡ (make_room v n).after.data_start - n
+    → (q ≡ page_bare (alloc_of k (home_of v k n)) p) × (given_place (place_at k r) ≡ allotted (alloc_of k (home_of v k n)))
+home_done v k n m p em r q h e er =
+    let t : ltb v.free_space n ≡ false = le-ltb v.free_space n (omega arith) in
+    let w : View = (make_room v n).after in
+    let there : r ≡ off ((move_under v k (Ordinary 0 0) n (zeros n)).after.at k) = er ∙ sym (ap off (upd_same w.at k (Ordinary (w.data_start - n) n))) in
+    rw t (under_bare v k n (Ordinary 0 0) [] (zeros n) p p q refl e, ap (λ (x : ℕ). given_place (place_at k x)) there)
 
 -- ---- smaller
 
@@ -115,38 +111,18 @@ module _ (p : List ℕ) (k l : ℕ) (s : Slot) (q : List ℕ) (used : UsedSlot p
 
 -- ---- resized, and all of relocate
 
-module _ (v : View) (k n l o : ℕ) (p q : List ℕ) (el : l ≡ len (v.at k)) (eo : o ≡ off (v.at k)) (rec : is_record (v.at k) ≡ true) where
-  pub resize_same : n ≡ l → (p ≡ page_bare (alloc_of k (resized v k n)) p) × (given_place (place_at k o) ≡ allotted (alloc_of k (resized v k n)))
-  resize_same e = rw (eq-eqb n (len (v.at k)) (e ∙ el)) (refl, ap (λ (x : ℕ). given_place (place_at k x)) eo)
-
-  pub resize_less : n < l → q ≡ run (unfilled (shrink_plan v k n).edits) p
-      → (q ≡ page_bare (alloc_of k (resized v k n)) p) × (given_place (place_at k o) ≡ allotted (alloc_of k (resized v k n)))
-  resize_less h e =
-      let a : n ≢ len (v.at k) = omega arith in
-      let b : n < len (v.at k) = omega arith in
-      let y : Slot = placed (v.at k) (off (v.at k)) n in
-      rw (ne_eqb n (len (v.at k)) a, lt-ltb n (len (v.at k)) b)
-      (e, ap (λ (x : ℕ). given_place (place_at k x)) (eo ∙ sym (ap off (upd_same v.at k y) ∙ (placed_is (v.at k) (off (v.at k)) n rec).off)))
-
-  pub resize_none : (m : ℕ) → m ≡ v.free_space → l < n → m < n - l
-      → (p ≡ page_bare (alloc_of k (resized v k n)) p) × (given_place None ≡ allotted (alloc_of k (resized v k n)))
-  resize_none m em h g =
-      let a : n ≢ len (v.at k) = omega arith in
-      let b : len (v.at k) ≤ n = omega arith in
-      let d : v.free_space < n - len (v.at k) = omega arith in
-      rw (ne_eqb n (len (v.at k)) a, le-ltb n (len (v.at k)) b, lt-ltb v.free_space (n - len (v.at k)) d) (refl, refl)
-
-  pub resize_more : (m r : ℕ) → m ≡ v.free_space → l < n → n - l ≤ m → q ≡ run (unfilled (grow_plan v k n).edits) p
-      → r ≡ (make_room (parked v k) n).after.data_start - n
-      → (q ≡ page_bare (alloc_of k (resized v k n)) p) × (given_place (place_at k r) ≡ allotted (alloc_of k (resized v k n)))
-  resize_more m r em h g e er =
-      let a : n ≢ len (v.at k) = omega arith in
-      let b : len (v.at k) ≤ n = omega arith in
-      let d : n - len (v.at k) ≤ v.free_space = omega arith in
-      let w : View = (make_room (parked v k) n).after in
-      let y : Slot = placed (v.at k) (w.data_start - n) n in
-      rw (ne_eqb n (len (v.at k)) a, le-ltb n (len (v.at k)) b, le-ltb v.free_space (n - len (v.at k)) d)
-      (e, ap (λ (x : ℕ). given_place (place_at k x)) (er ∙ sym (ap off (upd_same w.at k y) ∙ (placed_is (v.at k) (w.data_start - n) n rec).off)))
+pub resize_more : (v : View) (k n l : ℕ) (p q : List ℕ) → l ≡ len (v.at k) → is_record (v.at k) ≡ true
+    → (m r : ℕ) → m ≡ v.free_space → l < n → n - l ≤ m → q ≡ run (unfilled (grow_plan v k n).edits) p
+    → r ≡ (make_room (parked v k) n).after.data_start - n
+    → (q ≡ page_bare (alloc_of k (resized v k n)) p) × (given_place (place_at k r) ≡ allotted (alloc_of k (resized v k n)))
+resize_more v k n l p q el rec m r em h g e er =
+    let a : n ≢ len (v.at k) = omega arith in
+    let b : len (v.at k) ≤ n = omega arith in
+    let d : n - len (v.at k) ≤ v.free_space = omega arith in
+    let w : View = (make_room (parked v k) n).after in
+    let y : Slot = placed (v.at k) (w.data_start - n) n in
+    rw (ne_eqb n (len (v.at k)) a, le-ltb n (len (v.at k)) b, le-ltb v.free_space (n - len (v.at k)) d)
+    (e, ap (λ (x : ℕ). given_place (place_at k x)) (er ∙ sym (ap off (upd_same w.at k y) ∙ (placed_is (v.at k) (w.data_start - n) n rec).off)))
 
 free_by : (x : Slot) (v : View) (k n : ℕ) → is_free x ≡ true → relocate_by x v k n ≡ refused
 free_by (Ordinary o l) v k n e = let z : ◌≡◌ {A = ℕ} 0 1 = cc in absurd (omega arith)

@@ -1,32 +1,16 @@
 -- Erase against the store's plans: each law takes what the calls of a function ensure, and ends in `run plan.edits p`.
-use mathlib.Core.Path.{◌≡◌, sym, ap, ◌∙◌}
-use mathlib.Core.Bool.{true, false, cond}
+use mathlib.Core.Path.{◌≡◌, sym, ◌∙◌}
 use mathlib.Core.List.{List, []}
-use Prim.Native.Nat.{ℕ, suc, ◌+◌, ◌-◌, ◌*◌, ◌<◌, min}
+use Prim.Native.Nat.{ℕ, ◌+◌, ◌-◌, ◌*◌, min}
 use native.Mathlib.Omega.{arith}
 use Rattle.store.specs.Numbers.{put}
-use Rattle.store.specs.Slots.{slot_bytes, len, is_free}
+use Rattle.store.specs.Slots.{slot_bytes, len}
 use Rattle.store.specs.Page.{View}
-use Rattle.store.specs.PageSteps.{run, with_head, free_below, pruned, start_without, erase_for_redirect, erase}
+use Rattle.store.specs.PageSteps.{run, with_head, pruned, start_without, erase_for_redirect, erase}
 use Rattle.store.proofs.Laws.Numbers.{put_nil}
-use Rattle.store.specs.declared.Slot.{Slot}
 use Rattle.store.specs.declared.Slot.TheVariants.{Free, Redirect}
 use Rattle.layout.specs.Run.{head_of}
 use Rattle.page_places.proofs.BareLaws.{commit_writes}
-
--- ---- the free slots below k
-
-module _ (at : ℕ → Slot) (j : ℕ) (h : 0 < j) where
-  below_at : free_below at j ≡ cond (is_free (at (j - 1))) (suc (free_below at (j - 1))) 0
-  below_at = let e : j ≡ suc (j - 1) = omega arith in ap (free_below at) e
-
-  pub below_more : true ≡ is_free (at (j - 1)) → free_below at j ≡ suc (free_below at (j - 1))
-  below_more e = below_at ∙ rw (← e)
-
-  pub below_ends : false ≡ is_free (at (j - 1)) → free_below at j ≡ 0
-  below_ends e = below_at ∙ rw (← e)
-
--- ---- erase
 
 pub erase_done : (v : View) (k c n m lo : ℕ) (p q : List ℕ)
     → c ≡ v.slot_count → n ≡ v.free_space → m ≡ pruned v k → lo ≡ min v.first_free k

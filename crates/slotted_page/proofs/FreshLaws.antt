@@ -30,7 +30,7 @@ pub head_init : (p : List ℕ) → put p 0 (head_of 0 0 16384 16372) ≡ put_hea
 unfolding head_of
 head_init p = refl
 
-pub init_view : (p : List ℕ) → length p ≡ 16384 → view (put_head initialised p) ≡ initialised
+init_view : (p : List ℕ) → length p ≡ 16384 → view (put_head initialised p) ≡ initialised
 unfolding apply
 init_view p whole = head_view p initialised whole (sound_fits initialised sound_init) (λ j h. absurd (omega arith)) (λ j. refl)
 

@@ -1,16 +1,14 @@
 use mathlib.Core.Path.{◌≡◌, refl, sym, ap, ◌∙◌}
 use mathlib.Core.Bool.{true}
-use mathlib.Core.List.{List, ◌++◌}
+use mathlib.Core.List.{List}
 use Prim.Native.Nat.{ℕ, ◌+◌}
 use native.Mathlib.Omega.{arith}
-use lib.ListN.{drop}
-use Rattle.store.specs.Numbers.{to_be, fit}
+use Rattle.store.specs.Numbers.{to_be}
 use Rattle.store.specs.Slots.{off}
 use Rattle.store.specs.PageSteps.{relocate}
 use Rattle.store.specs.Page.{view}
 use Rattle.page_relocate.specs.Words.{was_moved}
 use Rattle.page_relocate.proofs.RecordLaws.{Kept, target_kept}
-use Rattle.page_relocate.proofs.MovedLaws.{unmoved_done}
 use Rattle.page_relocate.proofs.record.resize_target.Goals.{Then-relocate}
 use Rattle.page_relocate.proofs.record.resize_target.Goals as goal
 
@@ -42,13 +40,4 @@ returns-then-relocate c =
       (kept (goal.at.returns-then-relocate c).Then-relocate).done (to_be 8 a.id) c.put_u64.new.page refl (c.put_u64.ensures ∙ rw f),
       was_moved_lem
           (goal.at.returns-then-relocate c).Then-relocate,
-    )
-
-pub returns : goal.returns
-returns c =
-    let a = c.args in
-    let e = sym c.if-relocate.false ∙ c.relocate.ensures.1 in (
-      unmoved_done a.page.now c.relocate.new.page a.k (relocate (view a.page.now) a.k (a.size + 8))
-          (to_be 8 a.id ++ fit a.size (drop 8 ((view a.page.now).bytes a.k))) e c.relocate.ensures.0,
-      e,
     )

@@ -1,11 +1,10 @@
 use mathlib.Core.Path.{◌≡◌, sym, ap, ◌∙◌}
 use Prim.Native.Nat.{◌+◌, ◌≤◌}
 use native.Mathlib.Omega.{arith}
-use lib.ListN.{length-take, length-replicate, replicate}
+use lib.ListN.{length-replicate, replicate}
 use Rattle.store.specs.Slots.{len, off}
 use Rattle.store.specs.Page.{view}
 use Rattle.page_relocate.proofs.RecordLaws.{saved_old, again_done}
-use Rattle.store.proofs.Laws.Numbers.{length_put}
 use Rattle.page_relocate.proofs.relocate.grow_packed.Goals.{After-len-n}
 use Rattle.page_relocate.proofs.relocate.grow_packed.Goals as goal
 
@@ -16,14 +15,6 @@ module _ (c : After-len-n) where
 
   in_page : off c.args.s + c.len-n.result ≤ 16384
   in_page = omega (arith, c.requires.used_slot.sound.high c.args.k, length_is, ap off c.requires.s_value)
-
-pub save-requires : goal.save-requires
-save-requires c =
-    omega (arith, in_page (goal.at.save-requires c).After-len-n, c.offset.ensures)
-
-pub slice_bounds-rewrite-end : goal.slice_bounds-rewrite-end
-slice_bounds-rewrite-end c =
-    rw (length-take, c.save.ensures, length_put, length-replicate) (omega (arith, in_page (goal.at.slice_bounds-rewrite-end c).After-len-n))
 
 pub returns : goal.returns
 returns c =

@@ -9,16 +9,8 @@ use Rattle.page_relocate.proofs.relocate.relocate.Goals as goal
 length_is : (c : After-len-n) → c.len-n.result ≡ len ((view c.args.page.now).at c.args.k)
 length_is c = c.len-n.ensures ∙ ap len c.get_slot-s.ensures.0
 
-pub settle-requires : goal.settle-requires
-settle-requires c =
-    record { used_slot = c.requires; size_bound = omega (arith, length_is (goal.at.settle-requires c).After-len-n, c.if-size-n.true) }
-
 pub returns-then-header-size : goal.returns-then-header-size
 returns-then-header-size c =
     let a = c.args in
     let e = length_is (goal.at.returns-then-header-size c).After-len-n in
     rw (relocate_refused a.page.now a.k a.size c.requires (omega arith) (omega arith)) (refl, refl)
-
-pub grow-requires : goal.grow-requires
-grow-requires c =
-    record { used_slot = c.requires; s_value = (c.get_slot-s.ensures.0, omega (arith, c.len-n.ensures), omega arith) }

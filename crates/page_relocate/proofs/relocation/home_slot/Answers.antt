@@ -1,13 +1,6 @@
 use Rattle.store.specs.Page.{view}
-use Rattle.page_relocate.proofs.RelocationLaws.{home_none, home_done}
+use Rattle.page_relocate.proofs.RelocationLaws.{home_done}
 use Rattle.page_relocate.proofs.relocation.home_slot.Goals as goal
-
-pub returns-then-room-size : goal.returns-then-room-size
-returns-then-room-size c =
-    let a = c.args in
-    let y = home_none (view a.page.now) a.k a.size c.get_free_space-room.result a.page.now c.get_free_space-room.ensures.0
-    c.if-room-size.true in
-    (y.0, y.1, tt)
 
 pub returns : goal.returns
 returns c =

@@ -1,14 +1,13 @@
 use mathlib.Core.Path.{◌≡◌, sym, ap, ◌∙◌}
 use mathlib.Core.Bool.{true}
-use Prim.Native.Nat.{◌+◌, ◌≤◌}
 use native.Mathlib.Omega.{arith}
-use Rattle.store.specs.Slots.{len, off, is_record}
+use Rattle.store.specs.Slots.{len, is_record}
 use Rattle.store.specs.Page.{View, view}
-use Rattle.page_relocate.proofs.RelocationLaws.{resize_same, resize_less, resize_none, resize_more, Parked, parked_by, grow_done}
+use Rattle.page_relocate.proofs.RelocationLaws.{resize_more, Parked, parked_by, grow_done}
 use Rattle.page_relocate.proofs.relocation.resize_slot.Goals.{After-offset-offset, After-park}
 use Rattle.page_relocate.proofs.relocation.resize_slot.Goals as goal
 
--- where the record's length and offset are read
+-- where the record's length is read
 module _ (c : After-offset-offset) where
   abbrev page : View
   page = view c.args.page.now
@@ -16,47 +15,8 @@ module _ (c : After-offset-offset) where
   length_is : c.len-n.result ≡ len (page.at c.args.k)
   length_is = c.len-n.ensures ∙ ap len c.requires.s_value.0
 
-  offset_is : c.offset-offset.result ≡ off (page.at c.args.k)
-  offset_is = c.offset-offset.ensures ∙ ap off c.requires.s_value.0
-
   holds_record : is_record (page.at c.args.k) ≡ true
   holds_record = ap is_record (sym c.requires.s_value.0) ∙ c.requires.s_value.1
-
-  inside : c.offset-offset.result + c.len-n.result ≤ 16384
-  inside = omega (arith, c.requires.used_slot.sound.high c.args.k, length_is, offset_is)
-
-pub returns-then-size-n : goal.returns-then-size-n
-returns-then-size-n c =
-    let a = c.args in
-    let y = resize_same (page (goal.at.returns-then-size-n c).After-offset-offset) a.k a.size c.len-n.result c.offset-offset.result a.page.now a.page.now
-    (length_is (goal.at.returns-then-size-n c).After-offset-offset) (offset_is (goal.at.returns-then-size-n c).After-offset-offset)
-    (holds_record (goal.at.returns-then-size-n c).After-offset-offset) c.if-size-n.true in
-    (y.0, y.1, omega (arith, inside (goal.at.returns-then-size-n c).After-offset-offset))
-
-pub shrink-requires : goal.shrink-requires
-shrink-requires c =
-    record { used_slot = c.requires.used_slot; s_value = (c.requires.s_value.0, c.requires.s_value.1, omega (arith, c.len-n.ensures)) }
-
-pub returns-then-size-n-2 : goal.returns-then-size-n-2
-returns-then-size-n-2 c =
-    let a = c.args in
-    let y = resize_less (page (goal.at.returns-then-size-n-2 c).After-offset-offset) a.k a.size c.len-n.result c.offset-offset.result a.page.now
-    c.shrink.new.page
-    (length_is (goal.at.returns-then-size-n-2 c).After-offset-offset) (offset_is (goal.at.returns-then-size-n-2 c).After-offset-offset)
-    (holds_record (goal.at.returns-then-size-n-2 c).After-offset-offset) c.if-size-n-2.true c.shrink.ensures in
-    (y.0, y.1, omega (arith, inside (goal.at.returns-then-size-n-2 c).After-offset-offset))
-
-pub returns-then-room-size : goal.returns-then-room-size
-returns-then-room-size c =
-    let a = c.args in
-    let y = resize_none (page (goal.at.returns-then-room-size c).After-offset-offset) a.k a.size c.len-n.result c.offset-offset.result a.page.now a.page.now
-    (length_is (goal.at.returns-then-room-size c).After-offset-offset) (offset_is (goal.at.returns-then-room-size c).After-offset-offset)
-    (holds_record (goal.at.returns-then-room-size c).After-offset-offset) c.get_free_space-room.result c.get_free_space-room.ensures.0 (omega arith)
-    c.if-room-size.true in
-    (y.0, y.1, tt)
-
-pub park-requires : goal.park-requires
-park-requires c = record { used_slot = c.requires.used_slot; len_bound = omega (arith, inside (goal.at.park-requires c).After-offset-offset) }
 
 module _ (c : After-park) where
   parked : Parked c.args.page.now c.args.k c.park.new.page
@@ -76,8 +36,8 @@ returns c =
     let a = c.args in
     let g = grow_done a.page.now a.k c.len-n.result a.s c.park.new.page c.requires.used_slot c.requires.s_value.0 c.requires.s_value.1
     c.len-n.ensures a.size c.put_under-d.new.page c.park.ensures c.put_under-d.ensures.0 in
-    let y = resize_more (page (goal.at.returns c).After-offset-offset) a.k a.size c.len-n.result c.offset-offset.result a.page.now c.put_under-d.new.page
-    (length_is (goal.at.returns c).After-offset-offset) (offset_is (goal.at.returns c).After-offset-offset)
+    let y = resize_more (page (goal.at.returns c).After-offset-offset) a.k a.size c.len-n.result a.page.now c.put_under-d.new.page
+    (length_is (goal.at.returns c).After-offset-offset)
     (holds_record (goal.at.returns c).After-offset-offset) c.get_free_space-room.result c.put_under-d.result c.get_free_space-room.ensures.0
     (omega arith) (omega arith) g (rw (parked (goal.at.returns c).After-park).seen at c.put_under-d.ensures.1) in
     (y.0, y.1, c.put_under-d.ensures.2)

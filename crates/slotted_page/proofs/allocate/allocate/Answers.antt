@@ -1,18 +1,14 @@
 use mathlib.Core.Path.{sym, ◌∙◌}
-use native.Mathlib.Omega.{arith}
 use Rattle.slotted_page.proofs.FreshLaws.{init_sound, fresh_done, used_sound, used_done}
 use Rattle.slotted_page.proofs.allocate.allocate.Goals.{then-get_slot_count-eq0, else-get_slot_count-eq0}
 use Rattle.slotted_page.proofs.allocate.allocate.Goals as goal
 
-pub reserve-requires : goal.reserve-requires
-reserve-requires c = record {
-  used_page = elim c.if-get_slot_count-eq0.branch [
-    | then-get_slot_count-eq0 w ↦ rw w.page-is (init_sound c.args.page.now w.initialize.new.page c.told-page w.initialize.ensures)
-    | else-get_slot_count-eq0 w ↦ rw w.page-is
-        (used_sound c.args.page.now (λ e. w.if-get_slot_count-eq0.false (c.get_slot_count.ensures.0 ∙ e)) c.told-page c.requires.0)
-  ];
-  size_bound = omega arith;
-}
+pub reserve-requires-clause-used_page : goal.reserve-requires-clause-used_page
+reserve-requires-clause-used_page c = elim c.if-get_slot_count-eq0.branch [
+  | then-get_slot_count-eq0 w ↦ rw w.page-is (init_sound c.args.page.now w.initialize.new.page c.told-page w.initialize.ensures)
+  | else-get_slot_count-eq0 w ↦ rw w.page-is
+      (used_sound c.args.page.now (λ e. w.if-get_slot_count-eq0.false (c.get_slot_count.ensures.0 ∙ e)) c.told-page c.requires.0)
+]
 
 pub returns : goal.returns
 returns c =
