@@ -1,13 +1,12 @@
--- The pages that a call remembers: none at first, one more that was found sound, and all of them after a row has gone in.
+-- The pages that a call remembers: one more that was found sound, and all of them after a row has gone in.
 use Prim.Native.Nat.{ℕ, ◌+◌, ◌<◌}
 use mathlib.Core.Path.{◌≡◌, refl, sym, ap, subst, ◌∙◌}
 use mathlib.Core.Bool.{true}
 use mathlib.Core.List.{List}
 use native.Mathlib.Omega.{arith}
-use native.Mathlib.Decide.{ℕ_discrete, dec_lt}
-use lib.ListN.{length, get_or, set, length-set, length-replicate, get_or-replicate, get_or-eq_default}
+use native.Mathlib.Decide.{ℕ_discrete}
+use lib.ListN.{length, get_or, set, length-set}
 use lib.Seq.{get_or-set_same, get_or-set_other}
-use Rattle.store.specs.Numbers.{zeros}
 use Rattle.store.specs.Page.{sound}
 use Rattle.store.specs.PageSteps.{Alloc, no_room, got, allocate}
 use Rattle.store.specs.Segment.{SegView, seg_view, OnPage, Out, Result, result, carried, taken, inserted}
@@ -17,18 +16,6 @@ use Rattle.store.specs.Laws.Lent.{SoundOn}
 use Rattle.std.proofs.Common.{Some}
 use Rattle.segment_insert.specs.Words.{named_on, KnownSound}
 use Rattle.segment_insert.proofs.Placed.{took_place}
-
--- ---- none
-
-pub none_known : (s : List ℕ) → KnownSound s (zeros 16)
-none_known s = record { long = long; sound = λ j p e. absurd (omega (arith, at_zero j (dec_lt j 16))) }
-  where
-    long : length (zeros 16) ≡ 16
-    long = length-replicate {A = ℕ} 16 0
-
-    at_zero : (j : ℕ) → Dec (j < 16) → get_or (zeros 16) j 0 ≡ 0
-    at_zero j (yes l) = get_or-replicate {A = ℕ} 16 j 0 0 l
-    at_zero j (no l) = get_or-eq_default (zeros 16) 0 {n = j} (omega (arith, long))
 
 -- ---- one more
 

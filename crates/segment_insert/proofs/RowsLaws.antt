@@ -8,7 +8,7 @@ use native.Mathlib.Omega.{arith}
 use lib.ListN.{length, take, drop, set, get_or, length-set, drop_of_length-le}
 use lib.Seq.{drop-cons, drop-drop}
 use lib.Dec.{eqb}
-use borrow.Author.Tests.{eq-eqb, ne_eqb, lt-leb}
+use borrow.Author.Tests.{lt-leb}
 use Rattle.store.specs.Numbers.{put}
 use Rattle.store.specs.Segment.{Result, size_ok, inv_ok, insert_step}
 use Rattle.store.specs.ManyRows.{Rows, no_row, and_row, insert_all, rows_of, total, list_ok, placed}
@@ -28,13 +28,8 @@ use Rattle.segment_insert.specs.Words.{KnownSound}
 
 -- ---- the lengths from number k on
 
-pub total_next : (ls : List ℕ) (k : ℕ) → k < length ls → total (drop k ls) ≡ get_or ls k 0 + total (drop (k + 1) ls)
+total_next : (ls : List ℕ) (k : ℕ) → k < length ls → total (drop k ls) ≡ get_or ls k 0 + total (drop (k + 1) ls)
 total_next ls k h = let e : k + 1 ≡ suc k = omega arith in rw e (ap total (drop-cons ls k 0 h))
-
--- what is left of n tells whether they sum to it
-pub sums : (t n left : ℕ) → t + left ≡ n → eqb left 0 ≡ eqb t n
-sums t n zero e = sym (eq-eqb t n (omega arith))
-sums t n (suc l) e = ne_eqb (suc l) 0 (λ z. omega arith) ∙ sym (ne_eqb t n (λ z. omega arith))
 
 -- ---- a row's own number that is not 0 is above 1
 
@@ -88,13 +83,6 @@ pub record RowsLeft (s₀ v₀ bs ls is₀ s v is ks : List ℕ) (at k : ℕ) : 
   pub gives : placed_from k is (insert_all s v (rows_from bs ls at k)) ≡ placed is₀ (insert_all s₀ v₀ (rows_of bs ls))
 
 module _ (s₀ v₀ bs ls is₀ : List ℕ) where
-  -- before the first row
-  pub left_all : (ks : List ℕ) → (size_ok s₀ && inv_ok v₀) ≡ true → total ls ≡ length bs → KnownSound s₀ ks → RowsLeft s₀ v₀ bs ls is₀ s₀ v₀ is₀ ks 0 0
-  left_all ks h t w =
-      let r = insert_all s₀ v₀ (rows_of bs ls) in
-      let e : 0 + r.inserted ≡ r.inserted = omega arith in
-      record { few = omega arith; bytes = omega arith; sizes = h; known = w; seg_long = refl; inv_long = refl; places = refl; gives = rw e }
-
   module _ (s v is ks : List ℕ) (at k : ℕ) (g : RowsLeft s₀ v₀ bs ls is₀ s v is ks at k) where
     -- behind the last
     pub left_none : length ls ≤ k → told (Ok k) is s v ≡ placed is₀ (insert_all s₀ v₀ (rows_of bs ls))

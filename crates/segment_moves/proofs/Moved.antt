@@ -28,7 +28,7 @@ use Rattle.segment_steps.proofs.After.{Took, place_made}
 -- ---- one page lent on: the slot's record at another size
 
 -- a page is as long after a relocate as it was
-pub length_moved : (r : Relocated) (q : List ℕ) → length (page_moved r q) ≡ length q
+length_moved : (r : Relocated) (q : List ℕ) → length (page_moved r q) ≡ length q
 length_moved refused q = refl
 length_moved (moved a) q = length_run a.edits q
 
@@ -80,7 +80,7 @@ module _ (s : List ℕ) (p k : ℕ) (h : TakenOn s p k) where
     moves = relocate_answer (page_of s p) ((seg_view s).page p) (length_page s p h.whole) page.seen page.sound k page.counted n target
 
     module _ (a : Plan) (way : relocate ((seg_view s).page p) k n ≡ moved a) (bs : List ℕ) (size : length bs ≡ n) where
-      pub filled_on_page : ExactOn s (on p (filled a k bs))
+      filled_on_page : ExactOn s (on p (filled a k bs))
       filled_on_page =
           let m : Moved (page_of s p) ((seg_view s).page p) k n a = subst (Answered (page_of s p) ((seg_view s).page p) k n) way moves in
           record {

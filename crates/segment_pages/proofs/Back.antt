@@ -15,7 +15,6 @@ use Rattle.store.specs.Segment.{seg_view, points_back}
 use Rattle.store.proofs.Laws.Cases.{never}
 use Rattle.store.proofs.Laws.SoundPage.{and_both}
 use Rattle.store.proofs.Laws.SoundSegment.{seen_pages}
-use Rattle.store.specs.declared.Slot.{Slot}
 use Rattle.store.specs.declared.Slot.TheVariants.{Target}
 use Rattle.segment_pages.proofs.Seen.{slot_high, target_long, target_head}
 
@@ -34,16 +33,10 @@ module _ (s : List ℕ) (i t : ℕ) where
   back_lost h = rw (seen_pages s, h)
 
   module _ (h : elsewhere ≡ true) where
-    pub back_damaged : sound ((seg_view s).page (page_no t)) ≡ false → false ≡ points_back (seg_view s) i t
-    back_damaged e = rw (seen_pages s, h, e)
-
     pub inside : page_no t * 16384 + 16384 ≤ length s
     inside = let w = is_elsewhere {n = length s / 16384} {p = page_no t} {q = page_no i} h in omega (arith, w.0)
 
     module _ (ok : sound ((seg_view s).page (page_no t)) ≡ true) where
-      pub back_other : (x : Slot) → x ≡ ((seg_view s).page (page_no t)).at (slot_no t) → is_target x ≡ false → false ≡ points_back (seg_view s) i t
-      back_other x e n = rw (seen_pages s, h, ok, ← e, n)
-
       pub target_inside : (o l : ℕ) → Target o l ≡ ((seg_view s).page (page_no t)).at (slot_no t) → (8 ≤ l) × (o + l ≤ 16384)
       target_inside o l e =
           (target_long s (page_no t) inside ok (slot_no t) (Target o l) (sym e) refl, slot_high s (page_no t) inside ok (slot_no t) (Target o l) (sym e))

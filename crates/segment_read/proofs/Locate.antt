@@ -7,7 +7,6 @@ use native.Mathlib.Omega.{arith}
 use lib.ListN.{length, drop}
 use lib.Dec.{eqb}
 use Rattle.store.specs.Numbers.{cut, page_no, slot_no}
-use Rattle.store.specs.Slots.{is_target}
 use Rattle.store.specs.declared.Part.{Part}
 use Rattle.store.specs.Segment.{SegView, seg_view, size_ok, points_back, Read, no_read, read_by, read_plan, read_step, no_part, part_on, part_by}
 use Rattle.store.specs.Segment.{Located, held}
@@ -17,7 +16,7 @@ use Rattle.store.proofs.Laws.Roots.{by_root_lem, refused_no}
 use Rattle.store.specs.Laws.Lent.{SoundOn}
 use Rattle.store.specs.Answers.{located}
 use Rattle.store.proofs.Laws.Cases.{by_test}
-use Rattle.store.proofs.Laws.Calls.{back_ok, page_below}
+use Rattle.store.proofs.Laws.Calls.{page_below}
 use Rattle.store.proofs.Promises.Parts.{part_read}
 use Rattle.std.proofs.Common.{Result, Ok, Err}
 use Rattle.store.specs.declared.Refusal.{Refusal}
@@ -86,7 +85,7 @@ module _ (s : List ℕ) where
         (λ b. omega arith)
     slot_inside w (Target o l) e = part_inside (page_no i) (slot_no i) w (Target o l) e
 
-    pub locate_inside : Inside (locate_step s i)
+    locate_inside : Inside (locate_step s i)
     locate_inside = by_size (size_ok s) refl
       where
         by_size : (b : Bool) → size_ok s ≡ b → Inside (locate_step s i)
@@ -127,12 +126,6 @@ module _ (s : List ℕ) (i t : ℕ) where
   follow_none e = rw e
 
   module _ (back : points_back (seg_view s) i t ≡ true) (x : Slot) (e : x ≡ ((seg_view s).page (page_no t)).at (slot_no t)) where
-    pub follow_other : is_target x ≡ false → not_found DAMAGED ≡ followed (seg_view s) i t
-    follow_other n =
-        let b : is_target (((seg_view s).page (page_no t)).at (slot_no t)) ≡ true = (back_ok s i t back).1 in
-        let f : is_target (((seg_view s).page (page_no t)).at (slot_no t)) ≡ false = ap is_target (sym e) ∙ n in
-        let z : ◌≡◌ {A = ℕ} 0 1 = cc in absurd (omega arith)
-
     module _ (o l : ℕ) (q : x ≡ Target o l) where
       pub follow_target : found_at (part_on (page_no t) (Target o l)) ≡ followed (seg_view s) i t
       unfolding followed

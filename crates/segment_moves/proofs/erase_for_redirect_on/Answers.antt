@@ -4,11 +4,10 @@ use Rattle.store.proofs.Laws.Calls.{page_ok}
 use Rattle.segment_steps.proofs.Lent.{lends, lent_taken, lent_plan}
 use Rattle.segment_moves.proofs.erase_for_redirect_on.Goals as goal
 
-pub erase_for_redirect-requires : goal.erase_for_redirect-requires
-erase_for_redirect-requires c =
+pub erase_for_redirect-requires-clause-used_slot : goal.erase_for_redirect-requires-clause-used_slot
+erase_for_redirect-requires-clause-used_slot c =
     let split = c.split_at_mut-rest.ensures in
-    let l = lends split.front split.back c.first_chunk_mut.ensures.cases c.unwrap.ensures in
-    record { used_slot = lent_taken l c.args.k c.requires.taken_on; id_bound = c.requires.id_bound }
+    lent_taken (lends split.front split.back c.first_chunk_mut.ensures.cases c.unwrap.ensures) c.args.k c.requires.taken_on
 
 pub returns : goal.returns
 returns c =

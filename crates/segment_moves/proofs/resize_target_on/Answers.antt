@@ -7,11 +7,10 @@ use Rattle.segment_steps.proofs.Lent.{lends, lent_taken}
 use Rattle.segment_moves.proofs.Moved.{lent_moved}
 use Rattle.segment_moves.proofs.resize_target_on.Goals as goal
 
-pub resize_target-requires : goal.resize_target-requires
-resize_target-requires c =
+pub resize_target-requires-clause-used_slot : goal.resize_target-requires-clause-used_slot
+resize_target-requires-clause-used_slot c =
     let split = c.split_at_mut-rest.ensures in
-    let l = lends split.front split.back c.first_chunk_mut.ensures.cases c.unwrap.ensures in
-    record { used_slot = lent_taken l c.args.k c.requires.taken_on; size_bound = c.requires.size_bound }
+    lent_taken (lends split.front split.back c.first_chunk_mut.ensures.cases c.unwrap.ensures) c.args.k c.requires.taken_on
 
 pub returns : goal.returns
 returns c =

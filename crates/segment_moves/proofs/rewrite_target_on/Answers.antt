@@ -7,13 +7,10 @@ use Rattle.segment_steps.proofs.Lent.{lends, lent_taken}
 use Rattle.segment_moves.proofs.Moved.{lent_moved}
 use Rattle.segment_moves.proofs.rewrite_target_on.Goals as goal
 
-pub rewrite_target-requires : goal.rewrite_target-requires
-rewrite_target-requires c =
+pub rewrite_target-requires-clause-used_slot : goal.rewrite_target-requires-clause-used_slot
+rewrite_target-requires-clause-used_slot c =
     let split = c.split_at_mut-rest.ensures in
-    record {
-      used_slot = lent_taken (lends split.front split.back c.first_chunk_mut.ensures.cases c.unwrap.ensures) c.args.k c.requires.taken_on;
-      bytes_len_bound = c.requires.bytes_len_bound;
-    }
+    lent_taken (lends split.front split.back c.first_chunk_mut.ensures.cases c.unwrap.ensures) c.args.k c.requires.taken_on
 
 pub returns : goal.returns
 returns c =

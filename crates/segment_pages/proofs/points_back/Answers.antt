@@ -4,8 +4,8 @@ use native.Mathlib.Omega.{arith}
 use Rattle.store.specs.Numbers.{page_no}
 use Rattle.store.specs.Page.{sound}
 use Rattle.store.specs.Segment.{seg_view}
-use Rattle.segment_pages.proofs.Seen.{few_slots, not_target}
-use Rattle.segment_pages.proofs.Back.{elsewhere, back_lost, inside, back_damaged, back_other, target_inside, back_target}
+use Rattle.segment_pages.proofs.Seen.{few_slots}
+use Rattle.segment_pages.proofs.Back.{elsewhere, back_lost, inside, target_inside, back_target}
 use Rattle.segment_pages.proofs.points_back.Goals.{Else-not-elsewhere, Else-not-page_sound}
 use Rattle.segment_pages.proofs.points_back.Goals as goal
 
@@ -23,36 +23,18 @@ returns-then-not-elsewhere c =
     let a = c.args in
     back_lost a.segment.now a.i a.t (sym c.elsewhere.ensures ∙ c.if-not-elsewhere.true)
 
-pub page_sound-requires : goal.page_sound-requires
-page_sound-requires c =
+pub slot_on-requires-clause-p_bound : goal.slot_on-requires-clause-p_bound
+slot_on-requires-clause-p_bound c =
     let a = c.args in
-    inside a.segment.now a.i a.t (there (goal.at.page_sound-requires c).Else-not-elsewhere)
+    let t = told (goal.at.slot_on-requires-clause-p_bound c).Else-not-page_sound in
+    few_slots a.segment.now (page_no a.t) (inside a.segment.now a.i a.t t.0) t.1
 
-pub returns-then-not-page_sound : goal.returns-then-not-page_sound
-returns-then-not-page_sound c =
+pub back_id_on-requires-clause-offset_bound : goal.back_id_on-requires-clause-offset_bound
+back_id_on-requires-clause-offset_bound c =
     let a = c.args in
-    back_damaged a.segment.now a.i a.t (there (goal.at.returns-then-not-page_sound c).Else-not-elsewhere)
-    (sym c.page_sound.ensures ∙ c.if-not-page_sound.true)
-
-pub slot_on-requires : goal.slot_on-requires
-slot_on-requires c =
-    let a = c.args in
-    let t = told (goal.at.slot_on-requires c).Else-not-page_sound in
-    let w = inside a.segment.now a.i a.t t.0 in
-    record { within = w; p_bound = few_slots a.segment.now (page_no a.t) w t.1 }
-
-pub returns-in_default : goal.returns-in_default
-returns-in_default c =
-    let a = c.args in
-    let t = told (goal.at.returns-in_default c).Else-not-page_sound in
-    back_other a.segment.now a.i a.t t.0 t.1 _ c.slot_on.ensures.0 (not_target c.slot_on.result c.in_default.not-Target)
-
-pub back_id_on-requires : goal.back_id_on-requires
-back_id_on-requires c =
-    let a = c.args in
-    let t = told (goal.at.back_id_on-requires c).Else-not-page_sound in
+    let t = told (goal.at.back_id_on-requires-clause-offset_bound c).Else-not-page_sound in
     let w = target_inside a.segment.now a.i a.t t.0 t.1 c.in-Target.offset c.in-Target.length c.in-Target.ensures.0 in
-    record { within = inside a.segment.now a.i a.t t.0; offset_bound = omega (arith, w.0, w.1) }
+    omega (arith, w.0, w.1)
 
 pub returns : goal.returns
 returns c =

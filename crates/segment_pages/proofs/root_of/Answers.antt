@@ -26,12 +26,12 @@ returns-then-not-page_sound c =
 sound_here : (c : Else-not-page_sound) → let a = c.args in sound ((seg_view a.segment.now).page (page_no a.id)) ≡ true
 sound_here c = sym c.page_sound.ensures ∙ c.if-not-page_sound.false
 
-pub slot_on-requires : goal.slot_on-requires
-slot_on-requires c =
+pub slot_on-requires-clause-p_bound : goal.slot_on-requires-clause-p_bound
+slot_on-requires-clause-p_bound c =
     let a = c.args in
     let s = a.segment.now in
     let inside : page_no a.id * 16384 + 16384 ≤ length s = omega arith in
-    record { within = inside; p_bound = few_slots s (page_no a.id) inside (sound_here (goal.at.slot_on-requires c).Else-not-page_sound) }
+    few_slots s (page_no a.id) inside (sound_here (goal.at.slot_on-requires-clause-p_bound c).Else-not-page_sound)
 
 pub returns : goal.returns
 returns c =

@@ -4,10 +4,10 @@ use mathlib.Core.Bool.{true}
 use native.Mathlib.Omega.{arith}
 use Rattle.store.specs.Numbers.{page_no}
 use Rattle.store.specs.Segment.{seg_view, points_back}
-use Rattle.segment_pages.proofs.Seen.{few_slots, not_target}
+use Rattle.segment_pages.proofs.Seen.{few_slots}
 use Rattle.segment_pages.proofs.Root.{back_taken}
 use Rattle.segment_read.specs.Parts.{found_at}
-use Rattle.segment_read.proofs.Locate.{follow_none, follow_other, follow_target, target_inside}
+use Rattle.segment_read.proofs.Locate.{follow_none, follow_target, target_inside}
 use Rattle.segment_read.proofs.follow.Goals.{Else-not-points_back}
 use Rattle.segment_read.proofs.follow.Goals as goal
 
@@ -25,12 +25,6 @@ slot_on-requires c =
     let s = a.segment.now in
     let w = back_taken s a.i a.t (points (goal.at.slot_on-requires c).Else-not-points_back) in
     record { within = w.whole; p_bound = few_slots s (page_no a.t) w.whole w.sound }
-
-pub returns-in_default : goal.returns-in_default
-returns-in_default c =
-    let a = c.args in
-    follow_other a.segment.now a.i a.t (points (goal.at.returns-in_default c).Else-not-points_back) _ c.slot_on.ensures.0
-    (not_target c.slot_on.result c.in_default.not-Target)
 
 pub target_part-requires : goal.target_part-requires
 target_part-requires c =

@@ -17,9 +17,6 @@ lies c =
     c.lies_well.ensures ∙ lies_seen a.segment.now a.p a.k _ _ c.requires.record_on.holds
     (c.get_data_start-d.ensures.0 ∙ ap (λ (q : List ℕ). (view q).data_start) c.page_of.ensures) c.slot_on-s.ensures.0
 
-pub slot_on-s-requires : goal.slot_on-s-requires
-slot_on-s-requires c = let counted = c.requires.counted in record { within = counted.whole; p_bound = counted.few }
-
 pub returns-then-not-lies_well : goal.returns-then-not-lies_well
 returns-then-not-lies_well c =
     let a = c.args in

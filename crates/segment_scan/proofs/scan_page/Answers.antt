@@ -30,8 +30,8 @@ undamaged c = sym c.damaged_at.ensures ∙ c.if-damaged_at.false
 few : (c : Else-damaged_at) → Counted c.args.segment.now c.args.p
 few c = record { whole = c.requires.within; few = few_at (page (goal.at.Else-damaged_at c).After-get_slot_count-n) c.args.k (undamaged c) }
 
-pub damaged_at-requires : goal.damaged_at-requires
-damaged_at-requires c = record { within = c.requires.within; n_value = counted (goal.at.damaged_at-requires c).After-get_slot_count-n }
+pub damaged_at-requires-clause-n_value : goal.damaged_at-requires-clause-n_value
+damaged_at-requires-clause-n_value c = counted (goal.at.damaged_at-requires-clause-n_value c).After-get_slot_count-n
 
 pub returns-then-damaged_at : goal.returns-then-damaged_at
 returns-then-damaged_at c = λ d.

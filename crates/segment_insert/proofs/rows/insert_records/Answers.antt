@@ -41,13 +41,6 @@ returns-then-not-sum_to c =
       tt,
     )
 
-pub insert_rows-requires : goal.insert_rows-requires
-insert_rows-requires c =
-    record {
-      inventory_value = sizes_here (goal.at.insert_rows-requires c).Else-not-sizes_ok;
-      lengths_value = (eqb-true _ _ (sum_here (goal.at.insert_rows-requires c).Else-not-sum_to), c.if-ids-lengths.false);
-    }
-
 pub returns : goal.returns
 returns c =
     let e = c.insert_rows.ensures in

@@ -6,17 +6,9 @@ use Rattle.store.specs.Segment.{seg_view}
 use Rattle.segment_insert.proofs.KnownLaws.{more_known}
 use Rattle.segment_insert.proofs.rows.known_sound.Goals as goal
 
--- it was looked at and is damaged: the pages known are those that were
-pub returns-then-not-page_sound : goal.returns-then-not-page_sound
-returns-then-not-page_sound c = (sym c.if-not-page_sound.true ∙ c.page_sound.ensures, c.requires.known_sound)
-
 -- it was looked at and is sound: one page more is known
 pub returns-else-not-page_sound : goal.returns-else-not-page_sound
 returns-else-not-page_sound c =
     let s = c.args.segment.now in
     let is : sound ((seg_view s).page c.args.p) ≡ true = sym c.page_sound.ensures ∙ c.if-not-page_sound.false in
     (sym is, more_known s _ c.requires.known_sound _ c.args.p (omega arith) (record { whole = c.requires.within; sound = is }))
-
--- it was known
-pub returns-else-known-at : goal.returns-else-known-at
-returns-else-known-at c = (sym (c.requires.known_sound.sound _ _ c.if-known-at.false).sound, c.requires.known_sound)
