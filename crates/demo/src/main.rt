@@ -1,6 +1,6 @@
 // A small archive: the rows of a fringe map go in by one call, are listed, one is read back, one is erased, and they are listed again. Then a
 // crash damages a page, and repair keeps what can be kept and tells what it touched.
-// Segment and inventory are lent as C lends them, and answers are C's numbers.
+// Segment and inventory are two parameters: the calls take them as C lends them.
 #![tactic(auto)]
 
 mod map;

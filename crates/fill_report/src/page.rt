@@ -1,5 +1,4 @@
 // What one page counts for.
-// A page and its count stay two parameters: a type of the two would be made and taken apart once in each pass over the page.
 ghost use Rattle.std.specs.Prelude.{◌≡◌, ◌<◌, true};
 ghost use Rattle.store.specs.Page.{view, sound};
 ghost use Rattle.store.specs.PageSteps.{opened};

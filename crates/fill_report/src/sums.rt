@@ -10,6 +10,7 @@ fn checked_classes(a: [u64; 16], b: [u64; 16]) -> Option<[u64; 16]>
     ensures { Summed (λ l. l) (added a b) result }
 {
     let mut sum = a;
+    // By number: of a zip with `iter_mut` the refusal's goal stays open.
     for c in 0..16 {
         sum[c] = a[c].checked_add(b[c])?;
     }

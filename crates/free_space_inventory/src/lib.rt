@@ -1,6 +1,6 @@
 // The inventory of free space: a nibble for each page, and for each class the lowest page that suits. How long it is and how many
 // pages it counts is its caller's: it needs `Room` for them.
-// That there is room for the pages stays a clause of each function: no type keeps a fact beside a `&mut`.
+// How long it is stays a clause: `find_page` takes any 120 bytes and more, and the type of a page would ask more of its callers.
 #![tactic(auto)]
 
 ghost use Rattle.std.specs.Prelude.{◌≡◌, ◌+◌, ◌-◌, ◌*◌, ◌/◌, ◌<◌, ◌≤◌, length};

@@ -1,5 +1,6 @@
 // Records in any order: a map of one bit for each byte of the page, on which each record claims its own. A record that is refused ends
 // the check, so what the map then holds is never read.
+// The page stays a parameter beside its header: as header.rt says.
 ghost use Rattle.std.specs.Prelude.{◌≡◌, true, ◌+◌, ◌≤◌, ◌<◌, get_or, set};
 ghost use Rattle.std.specs.Int.Bits.{bit_and, bit_or};
 ghost use Rattle.store.specs.Page.{view};

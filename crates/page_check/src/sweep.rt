@@ -1,4 +1,5 @@
 // A pass over slots whose records lie in order, each below the one before.
+// The page stays a parameter beside its header: as header.rt says.
 ghost use Rattle.std.specs.Prelude.{IfSome};
 ghost use Rattle.store.specs.Page.{view};
 ghost use Rattle.layout.specs.Run.{Counted};

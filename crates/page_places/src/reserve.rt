@@ -1,5 +1,4 @@
 // Allocate but for the record's bytes: room is made, and the header and the slot's entry are written.
-// That the page is in use stays a clause of each function: no type keeps a fact beside a `&mut`.
 ghost use Rattle.std.specs.Prelude.{◌≡◌, cond, ◌+◌, ◌-◌, ◌*◌, ◌≤◌, ◌<◌, eqb, length};
 ghost use Rattle.store.specs.Page.{view};
 ghost use Rattle.store.specs.Answers.{given_place, allotted};

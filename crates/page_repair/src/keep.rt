@@ -1,6 +1,6 @@
 // "go through the slots upward and free each whose record leaves the page, is a target under 8 bytes, or has positive length and reaches into
 // the directory or overlaps a record already kept."
-// A page and its count stay two parameters: as mend.rt says.
+// A page and its count stay two parameters, as in mend.rt, where the page is lent to be written.
 ghost use Rattle.std.specs.Prelude.{◌≡◌, ◌+◌, ◌≤◌, ◌<◌, true};
 ghost use Rattle.store.specs.Slots.{is_record};
 ghost use Rattle.store.specs.Page.{view};

@@ -69,6 +69,7 @@ fn first_with(first: usize, k: usize, s: Slot) -> usize
     }
 }
 
+// A record of no bytes has no lowest offset: this is no plain min.
 fn low_with(low: usize, s: Slot) -> usize
     ensures { result ≡ cond (eqb (len s) 0) low (min (off s) low) }
 {

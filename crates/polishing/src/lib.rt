@@ -27,6 +27,7 @@ pub enum RuleRefusal {
 }
 
 // "Refusals: 1, then 14 RULE .., then 4."
+// The edition is a number, as C gives it: an Edition would ask more of callers.
 pub fn cleared(
     segment: &[u8],
     mirror: u64,

@@ -38,7 +38,7 @@ pub fn end_line(rt: &impl Print) -> io::Result<()> {
     say(rt, b"\n")
 }
 
-// Of two lengths, the one that both slices have.
+// Of two lengths, the one that both slices have: min, under a name that must-fail/greatest_for_least is about.
 pub fn least(a: usize, b: usize) -> usize
     ensures { (result ≡ min a b) × (result ≤ a) × (result ≤ b) }
 {

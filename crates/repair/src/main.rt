@@ -1,6 +1,6 @@
 // Repairs a store of at most 3 pages on standard input, its inventory first and then its segment, and prints what was done: one line for
 // each slot, header and inventory that changed. Last comes `sound`, or `refused` and the answer's number. The input stays as it is.
-// Segment and inventory are lent as C lends them, and answers are C's numbers.
+// Segment and inventory are two parameters: the calls take them as C lends them.
 #![tactic(auto)]
 
 use print::read_full;

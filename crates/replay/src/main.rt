@@ -144,7 +144,7 @@ fn replay_lines(
 ) -> io::Result<Option<State>> {
     let mut s = before;
     let mut at: usize = 0;
-    // By hand: std's slices have no split.
+    // By hand: the slices of Rattle's std have no split.
     while at < text.len() {
         let e = line::line_end(text, at);
         s = replay_line(rt, s, &text[at..e], segment, inventory)?;

@@ -1,6 +1,5 @@
 // One page of the segment lent on from its middle, to be written: allocate and erase on page p, and the update of its class.
 // Each step splits the segment itself: of a function that returns the page to be written, no clause can say what it leaves of the segment.
-// That the page is sound stays a clause of each function: no type keeps a fact beside a `&mut`.
 #![tactic(auto)]
 
 ghost use Rattle.std.specs.Prelude.{◌≡◌, ◌/◌, ◌≤◌, length};
