@@ -1,5 +1,5 @@
--- What is done to each slot of a page, in a row, and what is gathered of the slots afterwards.
-use Rattle.std.specs.Prelude.{ℕ, ◌+◌, ◌-◌, ◌*◌, min, ◌≡◌, cond, not, ◌&&◌, List, length, get_or, eqb, leb}
+-- What is done to each slot of a page, in a row of deeds or of their numbers, and what is gathered of the slots afterwards.
+use Rattle.std.specs.Prelude.{ℕ, zero, suc, ◌+◌, ◌-◌, ◌*◌, min, ◌≡◌, cond, not, ◌&&◌, List, length, get_or, eqb, leb}
 use Rattle.store.specs.Numbers.{sum}
 use Rattle.store.specs.Slots.{off, len, is_free}
 use Rattle.store.specs.Page.{View}
@@ -7,7 +7,7 @@ use Rattle.store.specs.PageSteps.{next_free}
 use Rattle.store.specs.Repair.{changes, slot_by, lowest, slot_entries}
 use Rattle.store.specs.Laws.Slots.{Codable}
 use Rattle.store.specs.declared.Deed.{Deed}
-use Rattle.store.specs.declared.Deed.TheVariants.{Stays}
+use Rattle.store.specs.declared.Deed.TheVariants.{Stays, RecordFreed, RedirectFreed, MadeOrdinary}
 use Rattle.store.specs.declared.Slot.{Slot}
 use Rattle.page_repair.specs.declared.mend.Numbers.{Numbers}
 use Rattle.layout.specs.declared.header.Header.{Header}
@@ -15,6 +15,16 @@ use Rattle.layout.specs.declared.header.Header.{Header}
 -- a row of deeds; the slots behind it stay
 abbrev pub deeds_of : List Deed → ℕ → Deed
 deeds_of ds k = get_or ds k Stays
+
+-- a number as what is done, and a row of numbers; the slots behind it stay
+abbrev pub deed_of : ℕ → Deed
+deed_of zero = Stays
+deed_of (suc zero) = RecordFreed
+deed_of (suc (suc zero)) = RedirectFreed
+deed_of (suc (suc (suc k))) = MadeOrdinary
+
+abbrev pub deeds_numbered : List ℕ → ℕ → Deed
+deeds_numbered ds k = deed_of (get_or ds k 0)
 
 -- each slot can be written
 abbrev pub CodableBy : (ℕ → Deed) → View → Type 0

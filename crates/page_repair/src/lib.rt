@@ -4,3 +4,4 @@
 pub mod keep;
 pub mod marks;
 pub mod mend;
+pub mod plan;

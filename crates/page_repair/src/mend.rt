@@ -5,9 +5,9 @@ ghost use Rattle.store.specs.Page.{view};
 ghost use Rattle.store.specs.Repair.{changes, slot_done, mended_by, same_head, put_slots, put_mended};
 ghost use Rattle.store.specs.Laws.Slots.{Codable};
 ghost use Rattle.page_repair.specs.Kept.{CountedPage};
-ghost use Rattle.page_repair.specs.Mended.{deeds_of, CodableBy, Gathered, gathered, head_after};
+ghost use Rattle.page_repair.specs.Mended.{CodableBy, Gathered, gathered, head_after};
 
-use crate::keep::Deeds;
+use crate::plan::Plan;
 use layout::header::{Header, get_data_start};
 use layout::slots::get_slot;
 use store::{BACK, Deed, ENTRY, HEADER, PAGE_SIZE, Page, ROOM, Slot};
@@ -82,9 +82,9 @@ fn low_with(low: usize, s: Slot) -> usize
 
 // The slots as they become, gathered. A page and its count, n, stay two parameters: `mend` is lent its page to be written, and no fact can be
 // kept in a type beside that.
-pub fn gather(page: &Page, n: usize, deeds: &Deeds) -> Numbers
-    requires { CountedPage page.now n × CodableBy (deeds_of deeds.now) (view page.now) }
-    ensures { Gathered (deeds_of deeds.now) (view page.now) n result × (result.total ≤ n * 2 ^ 32) × (result.changes ≤ n) }
+pub fn gather<D: Plan>(page: &Page, n: usize, deeds: &D) -> Numbers
+    requires { CountedPage page.now n × CodableBy (D.deeds deeds.now) (view page.now) }
+    ensures { Gathered (D.deeds deeds.now) (view page.now) n result × (result.total ≤ n * 2 ^ 32) × (result.changes ≤ n) }
 {
     let mut r = Numbers {
         changes: 0,
@@ -93,7 +93,7 @@ pub fn gather(page: &Page, n: usize, deeds: &Deeds) -> Numbers
         total: 0,
     };
     for k in 0..n {
-        let d = deeds[k];
+        let d = deeds.deed(k);
         let s = slot_done(d, get_slot(page, k));
         r = r.with(k, d, s);
     }
@@ -122,12 +122,12 @@ pub fn header_after(page: &Page, n: usize, r: Numbers) -> Header
 }
 
 // The slots that change, of the first n, written.
-fn write_slots(page: &mut Page, n: usize, deeds: &Deeds)
-    requires { CountedPage page.old n × CodableBy (deeds_of deeds.now) (view page.old) }
-    ensures { page.new ≡ put_slots (deeds_of deeds.now) (view page.old) n page.old }
+fn write_slots<D: Plan>(page: &mut Page, n: usize, deeds: &D)
+    requires { CountedPage page.old n × CodableBy (D.deeds deeds.now) (view page.old) }
+    ensures { page.new ≡ put_slots (D.deeds deeds.now) (view page.old) n page.old }
 {
     for k in 0..n {
-        let d = deeds[k];
+        let d = deeds.deed(k);
         if d != Deed::Stays {
             let s = slot_done(d, get_slot(page, k));
             layout::slots::write_slot(page, k, s);
@@ -136,10 +136,10 @@ fn write_slots(page: &mut Page, n: usize, deeds: &Deeds)
 }
 
 // The page of n slots mended, and whether its header was written.
-pub fn mend(page: &mut Page, n: usize, deeds: &Deeds) -> bool
-    requires { CountedPage page.old n × CodableBy (deeds_of deeds.now) (view page.old) }
-    ensures { (page.new ≡ put_mended (deeds_of deeds.now) (view page.old) page.old)
-        × (result ≡ not (same_head (view page.old) (mended_by (deeds_of deeds.now) (view page.old)))) }
+pub fn mend<D: Plan>(page: &mut Page, n: usize, deeds: &D) -> bool
+    requires { CountedPage page.old n × CodableBy (D.deeds deeds.now) (view page.old) }
+    ensures { (page.new ≡ put_mended (D.deeds deeds.now) (view page.old) page.old)
+        × (result ≡ not (same_head (view page.old) (mended_by (D.deeds deeds.now) (view page.old)))) }
 {
     let r = gather(page, n, deeds);
     let h = header_after(page, n, r);
