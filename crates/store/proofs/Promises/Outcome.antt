@@ -7,7 +7,7 @@ use Rattle.store.specs.Segment.{Result, Located}
 use Rattle.store.specs.Scan.{Scanned}
 use Rattle.store.specs.ManyRows.{Rows}
 use Rattle.store.specs.Refusals.{number_of}
-use Rattle.store.specs.Answers.{outcome, told, ByRow, located, step_of, scanned_of, repaired, numbers, reported, Placed, given_place, NamedPage, named_page}
+use Rattle.store.specs.Answers.{outcome, told, ByRow, located, step_of, scanned_of, repaired, numbers, reported, summed, Placed, given_place, NamedPage, named_page}
 use Rattle.store.specs.Repair.{Repaired}
 use Rattle.store.specs.Report.{Report}
 use Rattle.store.specs.ReportTold.{pages_in, fresh_in, slots_in, records_in, record_bytes_in, forwarded_in, free_in}
@@ -170,28 +170,42 @@ module _ (r r' : ResultOf ℕ RepairRefusal) (s s' v v' l l' : List ℕ) where
 
 -- ---- a fill report
 
+abbrev tally_of : List ℕ → Tally
+tally_of n =
+    record {
+      pages = pages_in n;
+      fresh_pages = fresh_in n;
+      slots = slots_in n;
+      records = records_in n;
+      record_bytes = record_bytes_in n;
+      forwarded = forwarded_in n;
+      free_bytes = free_in n;
+      classes = drop 7 n;
+    }
+
 module _ (r r' : ResultOf (Unit {0}) ReportRefusal) (t t' : Tally) where
   pub reported_single : reported r t ≡ reported r' t' → (r ≡ r') × (t ≡ t')
-  reported_single e = (sym (back r t) ∙ ap answer e ∙ back r' t', undone numbers tally (λ x. refl) t t' (ap (λ (o : Report). o.tally) e))
+  reported_single e = (sym (back r t) ∙ ap answer e ∙ back r' t', undone numbers tally_of (λ x. refl) t t' (ap (λ (o : Report). o.tally) e))
     where
       answer : Report → ResultOf (Unit {0}) ReportRefusal
       answer o = get_or (Ok tt ∷ Err fill.Size ∷ Err fill.Size ∷ Err fill.Size ∷ Err fill.Damaged ∷ []) o.answer (Err fill.Tally)
 
-      tally : List ℕ → Tally
-      tally n =
-          record {
-            pages = pages_in n;
-            fresh_pages = fresh_in n;
-            slots = slots_in n;
-            records = records_in n;
-            record_bytes = record_bytes_in n;
-            forwarded = forwarded_in n;
-            free_bytes = free_in n;
-            classes = drop 7 n;
-          }
-
       back : (a : ResultOf (Unit {0}) ReportRefusal) (x : Tally) → answer (reported a x) ≡ a
       back (Ok u) x = refl
+      back (Err fill.Size) x = refl
+      back (Err fill.Damaged) x = refl
+      back (Err fill.Tally) x = refl
+
+-- the same by value: what an `Ok` holds is fixed too, whatever tallies the calls were given
+module _ (r r' : ResultOf Tally ReportRefusal) (t t' : Tally) where
+  pub summed_single : summed r t ≡ summed r' t' → r ≡ r'
+  summed_single e = sym (back r t) ∙ ap answer e ∙ back r' t'
+    where
+      answer : Report → ResultOf Tally ReportRefusal
+      answer o = get_or (Ok (tally_of o.tally) ∷ Err fill.Size ∷ Err fill.Size ∷ Err fill.Size ∷ Err fill.Damaged ∷ []) o.answer (Err fill.Tally)
+
+      back : (a : ResultOf Tally ReportRefusal) (x : Tally) → answer (summed a x) ≡ a
+      back (Ok y) x = refl
       back (Err fill.Size) x = refl
       back (Err fill.Damaged) x = refl
       back (Err fill.Tally) x = refl
