@@ -18,7 +18,7 @@ ghost use Rattle.exchange.specs.Exchange.{import_step, export_step};
 ghost use Rattle.polishing.specs.Polishing.{cleared_step, whole_step};
 ghost use Rattle.hekatosuy.specs.Handed.{with_id, without_id, stepped, Positioned};
 
-use answers::{answer_no, count};
+use answers::{Numbered, answer_no, count};
 use segment_scan::OVER_PAGE;
 use store::{IDS_A_PAGE, Record, Refusal, Step, Tally};
 
@@ -225,12 +225,36 @@ pub fn hk_repair(
     answer_no(&r)
 }
 
+// What a report hands to C.
+#[derive(Clone, Copy)]
+pub struct Tallied {
+    pub answer: u64,
+    pub tally: Tally,
+}
+
+// The report by value, with the number for its answer; the tally as it was where it is refused.
+fn report_numbers(segment: &[u8], tally: Tally) -> Tallied
+    ensures { record { answer = result.answer; tally = numbers result.tally } ≡ report_step segment.now (numbers tally) }
+{
+    match fill_report::report_by_value(segment, tally) {
+        Ok(sum) => Tallied {
+            answer: 0,
+            tally: sum,
+        },
+        Err(refusal) => Tallied {
+            answer: refusal.number(),
+            tally,
+        },
+    }
+}
+
 // The figures of a segment, added to `tally` where it stands; one that is refused adds nothing.
 pub fn hk_fill_report(segment: &[u8], tally: &mut Tally) -> u64
     ensures { record { answer = result; tally = numbers tally.new } ≡ report_step segment.now (numbers tally.old) }
 {
-    let r = fill_report::fill_report(segment, tally);
-    answer_no(&r)
+    let told = report_numbers(segment, *tally);
+    *tally = told.tally;
+    told.answer
 }
 
 // The records of an exchange file, as new records; `inserted` is how many went in.
