@@ -7,7 +7,8 @@ use Rattle.store.specs.Segment.{Result, Located}
 use Rattle.store.specs.Scan.{Scanned}
 use Rattle.store.specs.ManyRows.{Rows}
 use Rattle.store.specs.Refusals.{number_of}
-use Rattle.store.specs.Answers.{outcome, told, ByRow, located, step_of, scanned_of, repaired, numbers, reported, summed, Placed, given_place, NamedPage, named_page}
+use Rattle.store.specs.Answers.{outcome, told, ByRow, located, step_of, scanned_of, repaired, numbers, reported, summed}
+use Rattle.store.specs.Answers.{Placed, given_place, NamedPage, named_page}
 use Rattle.store.specs.Repair.{Repaired}
 use Rattle.store.specs.Report.{Report}
 use Rattle.store.specs.ReportTold.{pages_in, fresh_in, slots_in, records_in, record_bytes_in, forwarded_in, free_in}
