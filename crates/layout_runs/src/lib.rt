@@ -38,6 +38,7 @@ fn copy_block(page: &mut [u8], at: usize, src: &[u8])
 
 // All of src from `at` on: its first block, those that follow, and its last one, of which some bytes may stand there already. The first
 // stands before the loop, which most records then pass by: with all blocks in one, by as_chunks, 40 bytes took 22 instructions more.
+// The loop counts its blocks: by step_by it tested twice for each and was not unrolled, and export of rows of 1,000 took half as much again.
 pub fn copy_in(page: &mut [u8], at: usize, src: &[u8])
     requires { at + length src.now ≤ length page.old }
     ensures { page.new ≡ put page.old at src.now }
@@ -49,8 +50,10 @@ pub fn copy_in(page: &mut [u8], at: usize, src: &[u8])
     }
     let last = n - BLOCK;
     copy_block(page, at, &src[..BLOCK]);
-    for k in (BLOCK..last).step_by(BLOCK) {
+    let mut k = BLOCK;
+    for _ in 1..(n - 1) / BLOCK {
         copy_block(page, at + k, &src[k..k + BLOCK]);
+        k += BLOCK;
     }
     copy_block(page, at + last, &src[last..]);
 }
