@@ -1,11 +1,10 @@
 -- The figures of the first pages of a segment, page by page.
-use Prim.Native.Nat.{ℕ, zero, suc, ◌+◌, ◌*◌, ◌/◌, ◌<◌}
+use Prim.Native.Nat.{ℕ, zero, suc, ◌+◌, ◌*◌, ◌/◌, ◌^◌, ◌<◌}
 use mathlib.Core.Path.{◌≡◌, refl, sym, ap, subst, ◌∙◌}
 use mathlib.Core.Bool.{true, false}
 use mathlib.Core.List.{List, [], ◌∷◌, map}
 use native.Mathlib.Numerals.{add-one}
 use native.Mathlib.Omega.{arith}
-use Rattle.std.specs.Prelude.{Option, IsSome}
 use lib.ListN.{length}
 use Rattle.store.specs.Numbers.{all, zeros}
 use Rattle.store.specs.Page.{View, view, sound}
@@ -17,8 +16,8 @@ use Rattle.store.proofs.Laws.Cases.{never, false_by}
 use Rattle.store.proofs.Laws.SoundPage.{and_in, all_at}
 use Rattle.store.proofs.Laws.Report.{seen_same}
 use Rattle.store.specs.declared.Tally.{Tally}
-use Rattle.fill_report.specs.Words.{Fills, AtMost, Summed}
-use Rattle.fill_report.proofs.SumLaws.{most_fit, most_added, summed_some}
+use Rattle.fill_report.specs.Words.{Fills, AtMost}
+use Rattle.fill_report.proofs.SumLaws.{most_more, most_added}
 
 -- ---- one page more
 
@@ -26,9 +25,9 @@ over_more : (u : SegView) (p : ℕ) (gs : List (View → ℕ)) → added (map (o
 over_more u p [] = refl
 over_more u p (g ∷ gs) = rw (over_more u p gs) (ap (λ (x : ℕ). x ∷ map (over u (suc p)) gs) (omega arith))
 
-figures_more : (u : SegView) (p : ℕ) {t : Tally} → Fills (u.page p) t → added (figures_to u p) (numbers t) ≡ figures_to u (p + 1)
+figures_more : (u : SegView) (p : ℕ) → added (figures_to u p) (map (λ g. g (u.page p)) meanings) ≡ figures_to u (p + 1)
 unfolding figures_to
-figures_more u p h = ap (added (map (over u p) meanings)) h.figures ∙ over_more u p meanings ∙ ap (λ (n : ℕ). figures_to u n) (sym (add-one p))
+figures_more u p = over_more u p meanings ∙ ap (λ (n : ℕ). figures_to u n) (sym (add-one p))
 
 -- ---- the first p pages: they are sound, and t has their figures
 
@@ -46,20 +45,19 @@ module _ (s : List ℕ) where
   unfolding figures_to
   filled_none t e = record { sounds = refl; tally = e; most = subst (AtMost 0) (sym e) (zeros_most 23) }
 
-  module _ (p : ℕ) (t : Tally) (h : FilledTo s p t) (f : Tally) (g : Fills (opened (view (page_of s p))) f) where
-    both_most : AtMost ((p + 1) * 65536) (added (numbers t) (numbers f))
-    both_most = most_added (p * 65536) 65536 ((p + 1) * 65536) (numbers t) (numbers f) (omega arith) h.most g.small
-
+  module _ (p : ℕ) (t : Tally) (h : FilledTo s p t) where
     -- there is room for a page more
-    pub filled_room : p < 32527 → (r : Option Tally) → Summed numbers (added (numbers t) (numbers f)) r → IsSome r
-    filled_room l r h = summed_some (added (numbers t) (numbers f)) r h (most_fit ((p + 1) * 65536) (added (numbers t) (numbers f)) (omega arith) both_most)
+    pub filled_room : p < 32527 → AtMost (2 ^ 63) (numbers t)
+    filled_room l = most_more (p * 65536) (2 ^ 63) (numbers t) (omega arith) h.most
 
-    pub filled_more : sound (view (page_of s p)) ≡ true → (r : Tally) → numbers r ≡ added (numbers t) (numbers f) → FilledTo s (p + 1) r
+    pub filled_more : sound (view (page_of s p)) ≡ true → (r : Tally) → Fills (opened (view (page_of s p))) t r → FilledTo s (p + 1) r
     unfolding seg_view
-    filled_more ok r e = record {
+    filled_more ok r g = record {
       sounds = rw add-one (and_in (sound ((seg_view s).page p)) (all p (λ q. sound ((seg_view s).page q))) (seen_same s p ∙ ok) h.sounds);
-      tally = e ∙ ap (λ (l : List ℕ). added l (numbers f)) h.tally ∙ figures_more (seg_view s) p g;
-      most = subst (AtMost ((p + 1) * 65536)) (sym e) both_most;
+      tally = g.figures ∙ ap (λ (l : List ℕ). added l (map (λ f. f ((seg_view s).page p)) meanings)) h.tally ∙ figures_more (seg_view s) p;
+      most =
+          subst (AtMost ((p + 1) * 65536)) (sym g.figures)
+          (most_added (p * 65536) 65536 ((p + 1) * 65536) (numbers t) (map (λ f. f ((seg_view s).page p)) meanings) (omega arith) h.most g.small);
     }
 
   pub filled_stops : (p : ℕ) → p < length s / 16384 → sound (view (page_of s p)) ≡ false → all_sound (seg_view s) ≡ false

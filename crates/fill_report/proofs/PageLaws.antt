@@ -1,21 +1,23 @@
 -- The slots of a page counted: parts of sums are small, and one slot more.
 use Prim.Native.Nat.{ℕ, zero, suc, ◌+◌, ◌-◌, ◌≤◌, ◌<◌}
-use mathlib.Core.Path.{◌≡◌, refl, sym, ap, ◌∙◌}
+use mathlib.Core.Path.{◌≡◌, refl, sym, ap, subst, ◌∙◌}
 use mathlib.Core.List.{[], ◌∷◌, map}
 use mathlib.Core.Bool.{Bool, true, false, cond}
-use lib.ListN.{get_or}
+use lib.ListN.{length, get_or, set}
 use lib.Seq.{ext_get_or}
 use lib.Dec.{eqb}
 use native.Mathlib.Numerals.{add-one}
+use Rattle.std.proofs.Common.{add-zero}
 use native.Mathlib.Omega.{arith}
 use borrow.Author.Rules.{rules}
 use Rattle.store.specs.Numbers.{sum, zeros, one}
 use Rattle.store.specs.Slots.{len, is_record, is_target}
 use Rattle.store.specs.Page.{View, fresh}
-use Rattle.store.specs.PageSteps.{opened}
+use Rattle.store.specs.PageSteps.{opened, initialised}
 use Rattle.store.specs.Inventory.{class_of}
 use Rattle.store.specs.SoundSegment.{nibble_of}
-use Rattle.store.specs.Report.{bytes_in, fresh_of, slots_of, records_of, bytes_of, forwarded_of, free_of, classes_from}
+use Rattle.store.specs.Report.{bytes_in, fresh_of, slots_of, records_of, bytes_of, forwarded_of, free_of, classes_from, meanings, added}
+use Rattle.store.specs.Answers.{numbers}
 use Rattle.store.specs.Laws.Views.{Sound}
 use Rattle.store.proofs.Laws.Views.{sum_few, sum_within}
 use Rattle.store.specs.declared.Slot.{Slot}
@@ -23,6 +25,7 @@ use Rattle.store.specs.declared.Tally.{Tally}
 use Rattle.std.specs.Array.{AllOfLen}
 use Rattle.fill_report.specs.Words.{Room, WithSlot, SlotsTo, AtMost, class_is, Fills}
 use Rattle.fill_report.specs.declared.page.Counts.{Counts}
+use Rattle.fill_report.proofs.SumLaws.{class_more}
 
 -- ---- nothing counted yet
 
@@ -86,37 +89,62 @@ class_figures : (v : View) (m c k : ℕ) → k ≡ nibble_of v → class_is m c 
 class_figures v zero c k e = refl
 class_figures v (suc m) c k e = rw e (ap (λ l. one (eqb (nibble_of v) c) ∷ l) (rw (sym e) (class_figures v m (c + 1) k e)))
 
--- the page's figures one by one, each small
+-- the page's figures one by one, each small, added to those of t
 module _ (v : View) {a b c d e f k : ℕ} (fresh : a ≡ fresh_of v) (slots : b ≡ slots_of v) (records : c ≡ records_of v) (bytes : d ≡ bytes_of v)
     (forwarded : e ≡ forwarded_of v) (free : f ≡ free_of v) (class : k ≡ nibble_of v) (small : AtMost 65536 (a ∷ b ∷ c ∷ d ∷ e ∷ f ∷ [])) where
-  fills : Fills v
-      (record { pages = 1; fresh_pages = a; slots = b; records = c; record_bytes = d; forwarded = e; free_bytes = f; classes = class_is 16 0 k })
-  fills =
+  one_by_one : 1 ∷ a ∷ b ∷ c ∷ d ∷ e ∷ f ∷ class_is 16 0 k ≡ map (λ g. g v) meanings
+  one_by_one =
+      rw (fresh, slots, records, bytes, forwarded, free)
+      (ap (λ l. 1 ∷ fresh_of v ∷ slots_of v ∷ records_of v ∷ bytes_of v ∷ forwarded_of v ∷ free_of v ∷ l) (class_figures v 16 0 k class))
+
+  fills : (t : Tally) → length t.classes ≡ 16
+      → Fills v t
+      (record {
+        pages = t.pages + 1;
+        fresh_pages = t.fresh_pages + a;
+        slots = t.slots + b;
+        records = t.records + c;
+        record_bytes = t.record_bytes + d;
+        forwarded = t.forwarded + e;
+        free_bytes = t.free_bytes + f;
+        classes = set t.classes k (get_or t.classes k 0 + 1);
+      })
+  fills t n =
       record {
-        figures = rw (fresh, slots, records, bytes, forwarded, free)
-            (ap (λ l. 1 ∷ fresh_of v ∷ slots_of v ∷ records_of v ∷ bytes_of v ∷ forwarded_of v ∷ free_of v ∷ l) (class_figures v 16 0 k class));
-        small = let s = small in (omega arith, (s.0, (s.1.0, (s.1.1.0, (s.1.1.1.0, (s.1.1.1.1.0, (s.1.1.1.1.1.0, class_most 16 0 k)))))));
+        figures = rw (class_more t.classes k n) (ap (added (numbers t)) one_by_one);
+        small = let s = small in
+            subst (AtMost 65536) one_by_one (omega arith, (s.0, (s.1.0, (s.1.1.0, (s.1.1.1.0, (s.1.1.1.1.0, (s.1.1.1.1.1.0, class_most 16 0 k)))))));
       }
 
-pub fills_fresh : (v : View) → fresh v ≡ true
-    → Fills (opened v)
-    (record { pages = 1; fresh_pages = 1; slots = 0; records = 0; record_bytes = 0; forwarded = 0; free_bytes = 0; classes = class_is 16 0 0 })
-fills_fresh v f = rw f (fills _ refl refl refl refl refl refl refl (search rules))
+pub fills_fresh : (v : View) → fresh v ≡ true → (t : Tally) → length t.classes ≡ 16
+    → Fills (opened v) t
+    (record t { pages = t.pages + 1; fresh_pages = t.fresh_pages + 1; classes = set t.classes 0 (get_or t.classes 0 0 + 1) })
+fills_fresh v f t n =
+    rw f
+    (simp add-zero at (fills initialised {a = 1} {b = 0} {c = 0} {d = 0} {e = 0} {f = 0} {k = 0} refl refl refl refl refl refl refl (search rules) t n))
+
+-- what its slots count for is small
+pub slots_small : (v : View) (sound : Sound v) {n : ℕ} {c : Counts} → n ≡ v.slot_count → SlotsTo v n c
+    → (c.records ≤ 65536) × (c.bytes ≤ 65536) × (c.forwarded ≤ 65536)
+slots_small v sound count slots = let small = few v v.slot_count (rw count at slots) in (omega arith, omega arith, omega arith)
 
 module _ (v : View) (f : fresh v ≡ false) (sound : Sound v) {n free class : ℕ} {c : Counts} (count : n ≡ v.slot_count) (slots : SlotsTo v n c)
     (space : free ≡ v.free_space) (of : class ≡ class_of (16372 - free)) where
-  pub fills_used : Fills (opened v)
+  pub fills_used : (t : Tally) → length t.classes ≡ 16
+      → Fills (opened v) t
       (record {
-        pages = 1;
-        fresh_pages = 0;
-        slots = n;
-        records = c.records;
-        record_bytes = c.bytes;
-        forwarded = c.forwarded;
-        free_bytes = free;
-        classes = class_is 16 0 class;
+        pages = t.pages + 1;
+        fresh_pages = t.fresh_pages;
+        slots = t.slots + n;
+        records = t.records + c.records;
+        record_bytes = t.record_bytes + c.bytes;
+        forwarded = t.forwarded + c.forwarded;
+        free_bytes = t.free_bytes + free;
+        classes = set t.classes class (get_or t.classes class 0 + 1);
       })
-  fills_used =
+  fills_used t m =
       let all = rw count at slots in
       let small = few v v.slot_count all in
-      rw f (fills v (rw f refl) count all.records all.bytes all.forwarded (rw f space) (rw (f, ← space) of) (search rules))
+      let class_is : class ≡ nibble_of v = rw (f, ← space) of in
+      rw f
+      (simp add-zero at (fills v {a = 0} {f = free} (rw f refl) count all.records all.bytes all.forwarded (rw f space) class_is (search rules) t m))

@@ -4,7 +4,7 @@ use Rattle.store.specs.Numbers.{sum, one}
 use Rattle.store.specs.Slots.{len, is_record, is_target}
 use Rattle.store.specs.Page.{View}
 use Rattle.store.specs.Segment.{SegView}
-use Rattle.store.specs.Report.{plain_len, bytes_in, meanings, figures, all_sound, all_fit}
+use Rattle.store.specs.Report.{plain_len, bytes_in, meanings, figures, added, all_sound, all_fit}
 use Rattle.store.specs.Answers.{numbers}
 use Rattle.store.specs.declared.Slot.{Slot}
 use Rattle.store.specs.declared.Tally.{Tally}
@@ -50,10 +50,10 @@ abbrev pub class_is : ℕ → ℕ → ℕ → List ℕ
 class_is zero c k = []
 class_is (suc m) c k = one (eqb k c) ∷ class_is m (c + 1) k
 
--- what the page seen counts for, as a tally of its own
-pub record Fills (v : View) (t : Tally) : Type 0 where
-  pub figures : numbers t ≡ map (λ g. g v) meanings
-  pub small : AtMost 65536 (numbers t)
+-- what the page seen counts for is added to the tally before, and is small
+pub record Fills (v : View) (before after : Tally) : Type 0 where
+  pub figures : numbers after ≡ added (numbers before) (map (λ g. g v) meanings)
+  pub small : AtMost 65536 (map (λ g. g v) meanings)
 
 -- the figures of the segment seen, if its pages are sound
 abbrev pub Filled : SegView → Option Tally → Type 0

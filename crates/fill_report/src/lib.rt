@@ -25,7 +25,7 @@ fn segment_fill(segment: &[u8]) -> Option<Tally>
         if !page_check::is_sound(page) {
             return None;
         }
-        tally = sums::checked_sum(tally, page::page_fill(page)).unwrap();
+        page::add_to(&mut tally, page);
     }
     Some(tally)
 }

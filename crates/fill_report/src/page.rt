@@ -1,9 +1,10 @@
 // What one page counts for.
-ghost use Rattle.std.specs.Prelude.{◌≡◌, ◌<◌, true};
+ghost use Rattle.std.specs.Prelude.{◌≡◌, ◌^◌, true};
 ghost use Rattle.store.specs.Page.{view, sound};
 ghost use Rattle.store.specs.PageSteps.{opened};
 ghost use Rattle.store.specs.Laws.Lent.{UsedPage};
-ghost use Rattle.fill_report.specs.Words.{class_is, Room, WithSlot, SlotsTo, Fills};
+ghost use Rattle.store.specs.Answers.{numbers};
+ghost use Rattle.fill_report.specs.Words.{AtMost, Room, WithSlot, SlotsTo, Fills};
 
 use store::{BACK, Page, ROOM, Slot, Tally};
 
@@ -47,40 +48,27 @@ fn count_slots(page: &Page, n: usize) -> Counts
     c
 }
 
-// One page of this class.
-fn one_of(class: usize) -> [u64; 16]
-    requires { class < 16 }
-    ensures { result ≡ class_is 16 0 class }
+// Adds what the page counts for. "Slots and free bytes count pages in use only": a fresh page, whatever its other bytes are, is of class 0
+// and counts for nothing more.
+#[tactic(auto, using(store::proofs::Laws::Classes::class_top))]
+pub fn add_to(tally: &mut Tally, page: &Page)
+    requires room { AtMost (2 ^ 63) (numbers tally.old) }
+    requires whole { sound (view page.now) ≡ true }
+    ensures { Fills (opened (view page.now)) tally.old tally.new }
 {
-    let mut classes = [0u64; 16];
-    classes[class] = 1;
-    classes
-}
-
-// "Slots and free bytes count pages in use only": a fresh page, whatever its other bytes are, is of class 0 and counts for nothing more.
-pub fn page_fill(page: &Page) -> Tally
-    requires { sound (view page.now) ≡ true }
-    ensures { Fills (opened (view page.now)) result }
-{
+    tally.pages += 1;
     if layout::header::is_fresh(page) {
-        return Tally {
-            pages: 1,
-            fresh_pages: 1,
-            classes: one_of(0),
-            ..Tally::default()
-        };
+        tally.fresh_pages += 1;
+        tally.classes[0] += 1;
+        return;
     }
     let n = layout::header::get_slot_count(page);
     let c = count_slots(page, n);
     let free = layout::header::get_free_space(page);
-    Tally {
-        pages: 1,
-        fresh_pages: 0,
-        slots: n as u64,
-        records: c.records,
-        record_bytes: c.bytes,
-        forwarded: c.forwarded,
-        free_bytes: free as u64,
-        classes: one_of(free_space_inventory::class_of(ROOM - free)),
-    }
+    tally.slots += n as u64;
+    tally.records += c.records;
+    tally.record_bytes += c.bytes;
+    tally.forwarded += c.forwarded;
+    tally.free_bytes += free as u64;
+    tally.classes[free_space_inventory::class_of(ROOM - free)] += 1;
 }
